@@ -49,7 +49,7 @@ readers-all names P groups readers i past have =
 -- ---- views of groups
 
 -- each view is of one of the readers
-pub views-within : {R : Type 0} (names : R → Vocabulary) (asked : List Vocabulary)
+views-within : {R : Type 0} (names : R → Vocabulary) (asked : List Vocabulary)
     (groups : List Vocabulary) (views : List View) (readers : List R)
     → map names readers ≡ groups → AllZip (IsViewOf groups) asked views
     → All (λ view. group_of view < length readers) views
@@ -64,7 +64,7 @@ views-within names (own ∷ asked) groups (view ∷ views) readers same are =
     (views-within names asked groups views readers same are.1)
 
 -- where someone asks, there is a reader
-pub readers-some : {R : Type 0} (names : R → Vocabulary) (asked : List Vocabulary)
+readers-some : {R : Type 0} (names : R → Vocabulary) (asked : List Vocabulary)
     (groups : List Vocabulary) (views : List View) (readers : List R)
     → map names readers ≡ groups → AllZip (IsViewOf groups) asked views → 0 < length asked
     → 0 < length readers
@@ -75,3 +75,22 @@ readers-some names (own ∷ asked) groups (view ∷ views) readers same are some
     let long : length readers ≡ length groups =
     sym (length-map readers names) ∙ ap length same in
     omega (arith, within, long)
+
+-- Readers at the places of groups, and views of these, for those who ask.
+pub record AreRead {R : Type 0} (names : R → Vocabulary) (asked : List Vocabulary)
+    (readers : List R) (views : List View) : Type 0 where
+  pub each : AllZip (IsViewOf (map names readers)) asked views
+  pub some : 0 < length asked → 0 < length readers
+  pub within : All (λ view. group_of view < length readers) views
+
+-- the groups and views of those who share
+pub AreRead-shared : {R : Type 0} (names : R → Vocabulary) (asked : List Vocabulary)
+    (groups : List Vocabulary) (views same_views : List View) (readers : List R)
+    → map names readers ≡ groups → same_views ≡ views → AllZip (IsViewOf groups) asked views
+    → AreRead names asked readers same_views
+AreRead-shared names asked groups views same_views readers same is are =
+    subst (AreRead names asked readers) (sym is) (record {
+      each = subst (λ (all : List Vocabulary). AllZip (IsViewOf all) asked views) (sym same) are;
+      some = readers-some names asked groups views readers same are;
+      within = views-within names asked groups views readers same are;
+    })

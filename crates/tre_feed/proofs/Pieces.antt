@@ -3,8 +3,8 @@ use Rattle.std.proofs.Common.{◌≡◌, ◌∙◌, ◌+◌, ◌-◌, ◌≤◌,
 use Rattle.std.specs.Io.KnownBytes.{Consumes, Keeps, IsAtEnd}
 use Rattle.std.proofs.KnownBytes.{Consumes-trans}
 use Rattle.tre_trace.specs.Reading.{Recording, Stretch}
-use Rattle.tre_feed.specs.Input.{HasReadCause}
-use Rattle.tre_feed.specs.Stops.{IsOfReaders, StopsPiece, TakesIn}
+use Rattle.tre_feed.specs.Input.{HasReadCause, IsPiece, KeepsSource}
+use Rattle.tre_feed.specs.Stops.{IsOfReaders, IsPieceFed, StopsPiece, TakesIn}
 use Rattle.tre_feed.specs.Turn.{IsFed, HasRead, GoesOn, IsEnded, Keeps as KeepsAll, StopsTurn, TakesOn, TakesRead}
 use Rattle.tre_feed.specs.declared.TheConstants.{PIECE}
 use Rattle.tre_feed.specs.declared.fault.Fault.{Fault}
@@ -406,20 +406,102 @@ StopsPiece-refused recording allowed room bytes piece fed before now old new Mem
       kept = takes;
     }
 
--- a reader reads no input, so its faults are none of that
-pub cause_of : (before now : ℕ) (fault : Fault) → IsOfReaders (Err fault) → now ≡ before
-    → HasReadCause {T = ℕ} before now (Err fault)
-cause_of before now (Trace fault) told same = same
-cause_of before now TooLong told same = same
-cause_of before now (TooManyZones zones) told same = same
-cause_of before now Write told same = same
-cause_of before now Read told same = absurd told
-cause_of before now Memory told same = same
+-- a read that failed
+pub StopsPiece-unread : (recording : Bool → List ℕ → Recording) (allowed room : ℕ)
+    (bytes : List ℕ) (before now : Option (List ℕ)) (old : List Stretch → Type 0) (fault : Fault)
+    → fault ≡ Read → Keeps before now
+    → StopsPiece recording allowed room bytes before now old old fault
+StopsPiece-unread recording allowed room bytes before now old fault is kept =
+    rw is (record { left = kept; kept = Keeps-own old })
 
-pub never_read : (fault : Fault) → IsOfReaders (Err fault) → fault ≢ Read
+-- a reader reads no input, so its faults are none of that
+cause_of : (T : Type 0) (before now : ℕ) (fault : Fault) → IsOfReaders (Err fault)
+    → now ≡ before → HasReadCause {T = T} before now (Err fault)
+cause_of T before now (Trace fault) told same = same
+cause_of T before now TooLong told same = same
+cause_of T before now (TooManyZones zones) told same = same
+cause_of T before now Write told same = same
+cause_of T before now Read told same = absurd told
+cause_of T before now Memory told same = same
+
+never_read : (fault : Fault) → IsOfReaders (Err fault) → fault ≢ Read
 never_read (Trace fault) told is = cc
 never_read TooLong told is = cc
 never_read (TooManyZones zones) told is = cc
 never_read Write told is = cc
 never_read Read told is = told
 never_read Memory told is = cc
+
+-- the same fault, of a call that would tell something else
+same_cause : (T U : Type 0) (before now : ℕ) (fault : Fault)
+    → HasReadCause {T = T} before now (Err fault) → HasReadCause {T = U} before now (Err fault)
+same_cause T U before now (Trace fault) cause = cause
+same_cause T U before now TooLong cause = cause
+same_cause T U before now (TooManyZones zones) cause = cause
+same_cause T U before now Write cause = cause
+same_cause T U before now Read cause = cause
+same_cause T U before now Memory cause = cause
+
+module _ {S : Type 0} {opened sound : S → Bool} {faults : S → ℕ} {before now : S} {T U : Type 0}
+  where
+    -- whatever was told of a source that was read
+    pub KeepsSource-ok : {value : T} {other : U}
+        → KeepsSource opened sound faults before now (Ok value)
+        → KeepsSource opened sound faults before now (Ok other)
+    KeepsSource-ok keeps = record {
+      cause = keeps.cause;
+      no_failure = λ good is. cc;
+      same_opened = keeps.same_opened;
+      same_sound = keeps.same_sound;
+    }
+
+    -- a fault that the readers had
+    pub KeepsSource-readers : {value : T} (fault : Fault) → IsOfReaders (Err fault)
+        → KeepsSource opened sound faults before now (Ok value)
+        → KeepsSource {T = U} opened sound faults before now (Err fault)
+    KeepsSource-readers fault told keeps = record {
+      cause = cause_of U (faults before) (faults now) fault told keeps.cause;
+      no_failure = λ good is. let same : fault ≡ Read = cc in never_read fault told same;
+      same_opened = keeps.same_opened;
+      same_sound = keeps.same_sound;
+    }
+
+    -- a fault that the read had
+    pub KeepsSource-err : (fault : Fault)
+        → KeepsSource {T = T} opened sound faults before now (Err fault)
+        → KeepsSource {T = U} opened sound faults before now (Err fault)
+    KeepsSource-err fault keeps = record {
+      cause = same_cause T U (faults before) (faults now) fault keeps.cause;
+      no_failure = λ good is. let same : fault ≡ Read = cc in keeps.no_failure good (ap Err same);
+      same_opened = keeps.same_opened;
+      same_sound = keeps.same_sound;
+    }
+
+-- A turn whose read took no byte, and what the readers then took in at the end.
+pub record FindsEnd (were_fed : List ℕ → Type 0) (recording : Bool → List ℕ → Recording)
+    (limit : ℕ) (file left found : Option (List ℕ)) (bytes : List ℕ)
+    (old mid new : List Stretch → Type 0) (result : Result (Unit {0}) Fault) : Type 0 where
+  pub at_end : IsAtEndOf were_fed limit file left found bytes
+  pub kept : KeepsAll old mid
+  pub takes : TakesIn mid new (recording false bytes) (recording true bytes) result
+
+pub FindsEnd-read : {were_fed were_fed' : List ℕ → Type 0}
+    (recording said : Bool → List ℕ → Recording) → said ≡ recording
+    → {limit : ℕ} {file left found : Option (List ℕ)} (left' found' : Option (List ℕ))
+    {taken : ℕ} {bytes : List ℕ} (buffer : List ℕ) (count : ℕ)
+    {old mid new : List Stretch → Type 0} (result : Result (Unit {0}) Fault)
+    → IsFed were_fed limit file left found taken bytes → taken ≤ limit → count ≡ 0
+    → IsPiece left left' buffer count → Keeps found' left
+    → IsPieceFed were_fed' recording bytes (take (limit - taken) (take count buffer)) old mid
+    → (were_fed' bytes → TakesIn mid new (said false bytes) (said true bytes) result)
+    → FindsEnd were_fed' recording limit file left' found' bytes old mid new result
+FindsEnd-read recording said same {limit} {file} {left} {found} left' found' {taken} {bytes} buffer
+    count {mid = mid} {new = new} result so_far inside none read finds piece takes =
+    let at_end = IsAtEndOf-read limit file left found left' found' taken count bytes buffer so_far
+    inside read.taken finds (read.end none) none piece.fed in
+    record {
+      at_end = at_end;
+      kept = Keeps-end recording (limit - taken) count bytes buffer none piece.all;
+      takes = subst (λ (r : Bool → List ℕ → Recording). TakesIn mid new (r false bytes)
+          (r true bytes) result) same (takes at_end.fed);
+    }

@@ -1,5 +1,5 @@
 -- Readers of one input, each with the row that it has read for its names.
-use Rattle.std.specs.Prelude.{◌≡◌, ℕ, Bool, true, false, List, [], ◌∷◌, length, map, take, Option, None, IfSome}
+use Rattle.std.specs.Prelude.{◌≡◌, ℕ, ◌<◌, ◌≤◌, Bool, true, false, List, [], ◌∷◌, length, map, take, Option, None, IfSome}
 use Rattle.std.specs.List.{AllByRecursion}
 use Rattle.tre_trace.specs.Reading.{Recording, Stretch, Vocabulary, Adds, AddsSome, events_for, segments_for}
 use Rattle.tre_trace.specs.declared.fault.TraceFault.{TraceFault}
@@ -42,6 +42,11 @@ pub record AllWereFed {R Terms : Type 0} (terms : R → Terms) (represents : R �
     (each : List (Fed R)) (bytes : List ℕ) : Type 0 where
   pub all : Terms
   pub stand : AllStand terms represents all bytes each
+
+-- There are readers, and none was fed more than so many bytes.
+pub record WereGiven {R : Type 0} (fed_of : R → ℕ) (count : ℕ) (each : List (Fed R)) : Type 0 where
+  pub some : 0 < length each
+  pub few : AllByRecursion (λ fed. fed_of fed.reader ≤ count) each
 
 -- The row of each is these stretches, as they are for its names.
 abbrev pub RowsAre : {R : Type 0} → (R → Vocabulary) → List (Fed R) → List Stretch → Type 0

@@ -1,5 +1,5 @@
 -- What was read of an input.
-use Rattle.std.specs.Prelude.{◌≡◌, ℕ, ◌≤◌, Bool, false, List, [], ◌++◌, length, Option, IfSome, IsTrue, Result, Ok, Err}
+use Rattle.std.specs.Prelude.{◌≡◌, ℕ, ◌+◌, ◌<◌, ◌≤◌, Bool, false, List, [], ◌++◌, length, take, Option, IfSome, IsTrue, IsErrOf, Result, Ok, Err}
 use Rattle.std.specs.Io.KnownBytes.{Consumes, IsAtEnd}
 use Rattle.tre_io.specs.Faults.{counted}
 use Rattle.tre_feed.specs.declared.TheConstants.{PIECE}
@@ -75,3 +75,28 @@ abbrev pub HasReadCause : {T : Type 0} → ℕ → ℕ → Result T Fault → Ty
 HasReadCause before now (Ok value) = now ≡ before
 HasReadCause before now (Err Read) = now ≡ counted before
 HasReadCause before now (Err _) = now ≡ before
+
+-- A source that may have been read is as open and as sound as it was. A failed read was counted,
+-- and of a sound source none fails.
+pub record KeepsSource {S T : Type 0} (opened sound : S → Bool) (faults : S → ℕ) (before now : S)
+    (result : Result T Fault) : Type 0 where
+  pub cause : HasReadCause (faults before) (faults now) result
+  pub no_failure : IsTrue (sound before) → IsErrOf result Read → ⊥
+  pub same_opened : opened now ≡ opened before
+  pub same_sound : sound now ≡ sound before
+
+-- What a read took into the front of a buffer: so many bytes, and none only at the end.
+pub record IsPiece (before now : Option (List ℕ)) (buffer : List ℕ) (count : ℕ) : Type 0 where
+  pub taken : Consumes before now (take count buffer)
+  pub within : count ≤ length buffer
+  pub end : count ≡ 0 → IsAtEnd now
+
+-- A buffer that one read may fill: it has room, and for a piece at the most.
+pub record HasPieceRoom (buffer : List ℕ) : Type 0 where
+  pub some : 0 < length buffer
+  pub short : length buffer ≤ PIECE
+
+-- More of an input was taken, and at most a byte past its limit.
+pub record HasTakenMore (limit before now : ℕ) : Type 0 where
+  pub more : before < now
+  pub few : now ≤ limit + 1

@@ -71,3 +71,19 @@ StopsPiece recording allowed room bytes before now waits then_waits Read =
 StopsPiece recording allowed room bytes before now waits then_waits Memory =
     IsLost room before now waits then_waits
 StopsPiece recording allowed room bytes before now waits then_waits fault = ⊥
+
+-- A piece was fed behind these bytes as far as it may be: the stretches are those that it
+-- completes.
+pub record IsPieceFed (were_fed : List ℕ → Type 0) (recording : Bool → List ℕ → Recording)
+    (bytes piece : List ℕ) (waits then_waits : List Stretch → Type 0) : Type 0 where
+  pub fed : were_fed (bytes ++ piece)
+  pub all : TakesOn waits then_waits (recording false bytes) (recording false (bytes ++ piece))
+
+-- How it ended to read a piece behind these bytes and to feed it.
+abbrev pub EndsPiece : (List ℕ → Type 0) → (Bool → List ℕ → Recording) → ℕ → ℕ → List ℕ →
+    List ℕ → Option (List ℕ) → Option (List ℕ) → (List Stretch → Type 0) →
+    (List Stretch → Type 0) → Result ℕ Fault → Type 0
+EndsPiece were_fed recording allowed room buffer bytes before now waits then_waits (Ok count) =
+    IsPieceFed were_fed recording bytes (take allowed (take count buffer)) waits then_waits
+EndsPiece were_fed recording allowed room buffer bytes before now waits then_waits (Err fault) =
+    StopsPiece recording allowed room bytes before now waits then_waits fault

@@ -1,8 +1,8 @@
 // The front of an input, read whole.
-ghost use Rattle.std.specs.Prelude.{◌≡◌, ◌≢◌, ◌<◌, ◌≤◌, false, length, IsTrue, IsErrOf, IfOk, IfErr, IfSome};
+ghost use Rattle.std.specs.Prelude.{◌≡◌, ◌≢◌, ◌<◌, ◌≤◌, false, length, IsTrue, IfOk, IfErr, IfSome};
 ghost use Rattle.std.specs.Io.KnownBytes.{IsAtEnd};
 ghost use Rattle.tre_feed.specs.Front.{IsFront, IsReadOn, StopsFront};
-ghost use Rattle.tre_feed.specs.Input.{HasReadCause, TakesAtMost, input_told};
+ghost use Rattle.tre_feed.specs.Input.{KeepsSource, TakesAtMost, input_told};
 
 use crate::PIECE;
 use crate::fault::Fault;
@@ -58,12 +58,9 @@ fn read_more<S: Source>(
     ensures rises { IfOk result (λ more. IsTrue more →
         length bytes.old.items < length bytes.new.items) }
     ensures length { length buffer.new ≡ length buffer.old }
-    ensures cause { HasReadCause (S.faults input.old) (S.faults input.new) result }
-    ensures sound { IsTrue (S.sound input.old) → IsErrOf result Fault.Read → ⊥ }
     ensures named { IfErr result (λ fault. fault ≢ Fault.Read → fault ≢ Fault.Memory →
         ⊥) }
-    ensures same_opened { S.opened input.new ≡ S.opened input.old }
-    ensures same_sound { S.sound input.new ≡ S.sound input.old }
+    ensures source { KeepsSource S.opened S.sound S.faults input.old input.new result }
 {
     let room = buffer.len().min(most - bytes.len());
     if room == 0 {

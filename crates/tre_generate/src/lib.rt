@@ -18,6 +18,5 @@ pub use pattern::fixed_pattern;
 mod made;
 mod made_run;
 mod pattern;
-mod refusal;
 mod tally;
 mod told;

@@ -5,8 +5,8 @@ ghost use Rattle.tre_generate.specs.Made.{made_segment, made_trace};
 ghost use Rattle.tre_generate.specs.declared.made_run.TheConstants.{SEGMENTS_MAX};
 
 use crate::made_run::SEGMENTS_MAX;
-use crate::refusal::want_of_memory;
 use std::alloc::{AllocError, Global};
+use tre_online::want_of_memory;
 use tre_trace::{Trace, generated};
 
 /// The first segments of the made trace.

@@ -5,9 +5,8 @@ ghost use Rattle.tre_syntax.specs.Pattern.{pattern_tree};
 ghost use Rattle.tre_trace.specs.declared.segment.Segment.{Segment};
 ghost use Rattle.tre_generate.specs.Told.{AreTold, CanRead, GoesOn};
 
-use crate::refusal::want_of_memory;
 use std::alloc::{AllocError, Global};
-use tre_online::Session;
+use tre_online::{Session, want_of_memory};
 use tre_syntax::Pattern;
 use tre_trace::{Segment, Trace};
 use tre_zoneset::ZoneSet;

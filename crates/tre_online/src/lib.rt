@@ -14,9 +14,11 @@
 //! ```
 #![tactic(auto)]
 
+pub use refusal::want_of_memory;
 pub use session::Session;
 pub use watch::{Told, Watch};
 
+mod refusal;
 mod session;
 mod told;
 mod watch;

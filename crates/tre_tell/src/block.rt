@@ -10,19 +10,8 @@ use crate::output::write_text;
 use crate::text::write_sets;
 use tre_feed::Fault;
 use tre_io::Sink;
-use tre_online::{Told, Watch};
-use tre_trace::{PushFault, Segment};
-
-// The end of a telling at the refusal of segments that fit.
-fn want_of_memory(fault: PushFault) -> Fault
-    requires { fault ≡ PushFault.Memory }
-    ensures { result ≡ Fault.Memory }
-{
-    match fault {
-        PushFault::Memory => Fault::Memory,
-        PushFault::Zero | PushFault::TooLate { .. } => unreachable!(),
-    }
-}
+use tre_online::{Told, Watch, want_of_memory};
+use tre_trace::Segment;
 
 // What the watch tells of the next column, which only want of memory can refuse.
 fn told_of(column: &[Segment], watch: Watch) -> Result<(Watch, Told), Fault>
@@ -38,7 +27,7 @@ fn told_of(column: &[Segment], watch: Watch) -> Result<(Watch, Told), Fault>
 {
     match watch.segment(column) {
         Ok(both) => Ok(both),
-        Err(fault) => Err(want_of_memory(fault)),
+        Err(fault) => Err(Fault::from(want_of_memory(fault))),
     }
 }
 

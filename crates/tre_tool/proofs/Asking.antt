@@ -2,7 +2,10 @@
 use Rattle.std.proofs.Common.{◌≡◌, ◌≢◌, ℕ, List, true, Option, None, Some, IfSome, refl, sym, subst}
 use Rattle.std.specs.Prelude.{is_some}
 use Rattle.tre_answer.specs.Ends.{ReadsInput}
+use Rattle.tre_feed.specs.Input.{AllReadsGood, InputTold}
 use Rattle.tre_tell.specs.Sought.{Sought}
+use Rattle.tre_tool.specs.Checks.{ChecksWereRead}
+use Rattle.tre_tool.specs.Parts.{StopsAsking, StopsChecks}
 use Rattle.tre_tool.specs.Request.{Spell, texts_with, ArePatterns, IsRefusalOf, IsRefusalIn}
 use Rattle.tre_tool.specs.declared.status.Status.{Status}
 use Rattle.tre_tool.specs.declared.status.Status.TheVariants.{ReadFault, Memory}
@@ -22,7 +25,7 @@ nothing_taken job is unread =
     none_of job.minus (λ some. unread (subst ReadsInput (sym (is.together.minus some)) tt))
 
 -- a refusal isn't that a file couldn't be read
-pub never_unread : (job : Job) (status : Status) → (status ≢ Memory → IsRefusalOf job status)
+never_unread : (job : Job) (status : Status) → (status ≢ Memory → IsRefusalOf job status)
     → status ≢ ReadFault
 never_unread job status refuses is =
     subst (λ (s : Status). IsRefusalOf job s) is (refuses (λ memory. cc))
@@ -46,7 +49,7 @@ patterns_of_texts Show Says job patterns made watched so = so
 patterns_of_texts (Generate count) Says job patterns made watched so = absurd (made count refl)
 patterns_of_texts (Watch file) Says job patterns made watched so = absurd (watched file refl)
 
-pub refusal_of_texts : (mode : Mode) (Says : ℕ → Outcome → Type 0) (job : Job) (refusal : Status)
+refusal_of_texts : (mode : Mode) (Says : ℕ → Outcome → Type 0) (job : Job) (refusal : Status)
     → ((count : ℕ) → mode ≡ Generate count → ⊥) → ((file : List ℕ) → mode ≡ Watch file → ⊥)
     → IsRefusalOf job refusal → IsRefusalIn mode Says job refusal
 refusal_of_texts Offline Says job refusal made watched is = is
@@ -54,3 +57,34 @@ refusal_of_texts Online Says job refusal made watched is = is
 refusal_of_texts Show Says job refusal made watched is = is
 refusal_of_texts (Generate count) Says job refusal made watched is = absurd (made count refl)
 refusal_of_texts (Watch file) Says job refusal made watched is = absurd (watched file refl)
+
+-- memory was wanting, and no read failed
+pub StopsAsking-memory : (job : Job) (checks : InputTold) (status : Status) → status ≡ Memory
+    → AllReadsGood checks → StopsAsking job checks status
+StopsAsking-memory job checks status is good = rw is (record {
+  wanting = λ other. good;
+  refuses = λ never unread. absurd (never refl);
+  unread = λ unread. absurd cc;
+})
+
+-- a watch, whose file of checks was refused or not read
+pub StopsAsking-watch : (job : Job) (checks : InputTold) (status : Status) (file : List ℕ)
+    → job.mode ≡ Watch file → StopsChecks file job.scale checks status
+    → StopsAsking job checks status
+StopsAsking-watch job checks status file is stops = record {
+  wanting = stops.wanting;
+  refuses = λ never unread. rw is (stops.refuses never unread);
+  unread = λ unread. (file, is, stops.unread unread);
+}
+
+-- neither a made run nor a watch: one of its texts was refused, or memory was wanting
+pub StopsAsking-texts : (job : Job) (checks : InputTold) (status : Status)
+    → ((count : ℕ) → job.mode ≡ Generate count → ⊥) → ((file : List ℕ) → job.mode ≡ Watch file → ⊥)
+    → (status ≢ Memory → IsRefusalOf job status) → AllReadsGood checks
+    → StopsAsking job checks status
+StopsAsking-texts job checks status made watched refuses good = record {
+  wanting = λ other. good;
+  refuses = λ never unread. refusal_of_texts job.mode (ChecksWereRead checks) job status made watched
+      (refuses never);
+  unread = λ unread. absurd (never_unread job status refuses unread);
+}

@@ -7,7 +7,7 @@ use Rattle.std.proofs.lemmas.Option.{get_or_from_slice_get, slice_get_within}
 use Rattle.std.specs.Io.KnownBytes.{Consumes, IsAtEnd}
 use Rattle.std.specs.Char.{is_newline}
 use Rattle.std.specs.List.{slice_split}
-use Rattle.tre_feed.specs.Front.{IsFront, IsUnreadable, StopsFront}
+use Rattle.tre_feed.specs.Front.{IsFront, StopsFront}
 use Rattle.tre_feed.specs.Input.{InputTold, AllReadsGood}
 use Rattle.tre_feed.specs.declared.fault.Fault.{Fault}
 use Rattle.tre_feed.specs.declared.fault.Fault.TheVariants.{Trace as FaultTrace, TooLong as FaultTooLong, TooManyZones as FaultTooMany, Read as FaultRead, Write as FaultWrite, Memory as FaultMemory}
@@ -24,6 +24,7 @@ use Rattle.tre_watch.specs.declared.fault.WatchFault.TheVariants.{TooLarge, BadL
 use Rattle.tre_watch.specs.declared.reader.TheConstants.{FILE_MAX}
 use Rattle.tre_tool.specs.Checks.{ChecksWereRead, labelled}
 use Rattle.tre_tool.specs.Status.{fault_status}
+use Rattle.tre_tool.specs.Parts.{StopsChecks}
 use Rattle.tre_tool.specs.Request.{IsRefusalOfFile}
 use Rattle.tre_tool.specs.Status.{watch_status}
 use Rattle.tre_tool.specs.declared.status.Status.TheVariants.{Watch, ReadFault, Memory}
@@ -209,31 +210,25 @@ read_though (Twice line) is = cc
 read_though (PatternFault line fault) is = cc
 read_though Empty is = cc
 
-module _ (file : List ℕ) (checks : InputTold) where
-  pub is_unreadable : (fault : Fault) → StopsFront file checks fault
-      → fault_status fault ≡ ReadFault → IsUnreadable file checks
-  is_unreadable FaultRead stops is = stops
-  is_unreadable FaultMemory stops is = absurd (cc)
-  is_unreadable (FaultTrace fault) stops is = absurd stops
-  is_unreadable FaultTooLong stops is = absurd stops
-  is_unreadable (FaultTooMany zones) stops is = absurd stops
-  is_unreadable FaultWrite stops is = absurd stops
+module _ (file : List ℕ) (checks : InputTold) (scale : ℕ) where
+  -- where memory was wanting no read failed
+  pub StopsChecks-memory : AllReadsGood checks → StopsChecks file scale checks Memory
+  StopsChecks-memory good = record {
+    wanting = λ other. good;
+    refuses = λ never unread. absurd (never refl);
+    unread = λ is. absurd cc;
+  }
 
-  pub good_unless_unread : (fault : Fault) → StopsFront file checks fault
-      → fault_status fault ≢ ReadFault → AllReadsGood checks
-  good_unless_unread FaultRead stops other = absurd (other refl)
-  good_unless_unread FaultMemory stops other = stops
-  good_unless_unread (FaultTrace fault) stops other = absurd stops
-  good_unless_unread FaultTooLong stops other = absurd stops
-  good_unless_unread (FaultTooMany zones) stops other = absurd stops
-  good_unless_unread FaultWrite stops other = absurd stops
-
-  pub IsRefusalOfFile-unread : (scale : ℕ) (fault : Fault) → StopsFront file checks fault
-      → fault_status fault ≢ Memory → fault_status fault ≢ ReadFault
-      → IsRefusalOfFile (ChecksWereRead checks) scale (fault_status fault)
-  IsRefusalOfFile-unread scale FaultRead stops memory unread = absurd (unread refl)
-  IsRefusalOfFile-unread scale FaultMemory stops memory unread = absurd (memory refl)
-  IsRefusalOfFile-unread scale (FaultTrace fault) stops memory unread = absurd stops
-  IsRefusalOfFile-unread scale FaultTooLong stops memory unread = absurd stops
-  IsRefusalOfFile-unread scale (FaultTooMany zones) stops memory unread = absurd stops
-  IsRefusalOfFile-unread scale FaultWrite stops memory unread = absurd stops
+  -- why the file wasn't read
+  pub StopsChecks-unread : (fault : Fault) → StopsFront file checks fault
+      → StopsChecks file scale checks (fault_status fault)
+  StopsChecks-unread FaultRead stops = record {
+    wanting = λ other. absurd (other refl);
+    refuses = λ never unread. absurd (unread refl);
+    unread = λ is. stops;
+  }
+  StopsChecks-unread FaultMemory stops = StopsChecks-memory stops
+  StopsChecks-unread (FaultTrace fault) stops = absurd stops
+  StopsChecks-unread FaultTooLong stops = absurd stops
+  StopsChecks-unread (FaultTooMany zones) stops = absurd stops
+  StopsChecks-unread FaultWrite stops = absurd stops

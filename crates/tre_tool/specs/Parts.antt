@@ -1,12 +1,22 @@
 -- What the parts of a run promise each other.
-use Rattle.std.specs.Prelude.{ℕ, List, [], ◌∷◌, codes, Option, None, Some, Result, Ok, Err}
+use Rattle.std.specs.Prelude.{◌≡◌, ◌≢◌, ℕ, List, [], ◌∷◌, codes, length, Option, None, Some, Result, Ok, Err}
+use Rattle.tre_answer.specs.Ends.{ReadsInput}
+use Rattle.tre_answer.specs.Request.{FitsJob, sought_in}
+use Rattle.tre_answer.specs.declared.asked.Asked.{Asked}
+use Rattle.tre_feed.specs.Front.{IsUnreadable}
+use Rattle.tre_feed.specs.Input.{AllReadsGood, InputTold}
+use Rattle.tre_num.specs.Defined.{Defined}
 use Rattle.tre_parse.specs.declared.fault.ParseFault.{ParseFault}
 use Rattle.tre_parse.specs.declared.fault.ParseFault.TheVariants.{TooLong, BadByte, Number, TooDeep, Syntax, EmptyInterval, TooManyNames, TooLarge, Memory as ParseMemory}
 use Rattle.tre_syntax.specs.Pattern.{pattern_tree, names_of}
 use Rattle.tre_syntax.specs.declared.pattern.Pattern.{Pattern}
 use Rattle.tre_tell.specs.Sought.{Sought}
+use Rattle.tre_words.specs.declared.job.Job.{Job}
+use Rattle.tre_words.specs.declared.job.Mode.TheVariants.{Watch}
+use Rattle.tre_tool.specs.Checks.{ChecksWereRead}
+use Rattle.tre_tool.specs.Request.{AreDefinitions, ArePatterns, IsRefusalIn, IsRefusalOfFile}
 use Rattle.tre_tool.specs.declared.status.Status.{Status}
-use Rattle.tre_tool.specs.declared.status.Status.TheVariants.{Done}
+use Rattle.tre_tool.specs.declared.status.Status.TheVariants.{Done, ReadFault, Memory}
 
 -- how a run ended that went on as `?` does
 abbrev pub status_of : {T : Type 0} → Result T Status → Status
@@ -22,6 +32,33 @@ plain_sought pattern =
 abbrev pub patterns_with : Pattern → Option Pattern → List Sought
 patterns_with pattern None = plain_sought pattern ∷ []
 patterns_with pattern (Some taken) = plain_sought pattern ∷ plain_sought taken ∷ []
+
+-- A job asks for these patterns, with these definitions of names, as its texts or its file of
+-- checks say, and no read of that failed.
+pub record IsAskedBy (job : Job) (checks : InputTold) (asked : Asked) (lets : List Defined)
+    : Type 0 where
+  pub patterns : ArePatterns job.mode (ChecksWereRead checks) job (sought_in asked)
+  pub fits : FitsJob job asked
+  pub alone : (ReadsInput job.mode → ⊥) → length asked.patterns.items ≡ 1
+  pub defines : AreDefinitions job.mode job lets
+  pub good : AllReadsGood checks
+
+-- Why it isn't known what a job asks for: a text or the file of checks is refused, the file
+-- couldn't be read, or memory was wanting.
+pub record StopsAsking (job : Job) (checks : InputTold) (status : Status) : Type 0 where
+  pub wanting : status ≢ ReadFault → AllReadsGood checks
+  pub refuses : status ≢ Memory → status ≢ ReadFault →
+      IsRefusalIn job.mode (ChecksWereRead checks) job status
+  pub unread : status ≡ ReadFault →
+      (file : List ℕ) × (job.mode ≡ Watch file) × IsUnreadable file checks
+
+-- Why a file of checks of this name says no patterns at the scale.
+pub record StopsChecks (file : List ℕ) (scale : ℕ) (checks : InputTold) (status : Status) : Type 0
+  where
+    pub wanting : status ≢ ReadFault → AllReadsGood checks
+    pub refuses : status ≢ Memory → status ≢ ReadFault →
+        IsRefusalOfFile (ChecksWereRead checks) scale status
+    pub unread : status ≡ ReadFault → IsUnreadable file checks
 
 -- the words on a refused pattern, before its number
 abbrev pub fault_words : ParseFault → List ℕ

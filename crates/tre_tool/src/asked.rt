@@ -1,16 +1,13 @@
 // What a job asks for, as its texts or its file of checks say it.
-ghost use Rattle.std.specs.Prelude.{◌≡◌, ◌≢◌, ◌≤◌, ◌+◌, ◌∷◌, [], List, None, IfOk, IfErr, IfSome, IsTrue, OnOk, false, length, ℕ};
-ghost use Rattle.tre_answer.specs.Ends.{ReadsInput};
+ghost use Rattle.std.specs.Prelude.{◌≡◌, ◌≢◌, ◌≤◌, ◌+◌, ◌∷◌, [], List, None, IfOk, IfErr, IfSome, IsTrue, false, length, ℕ};
 ghost use Rattle.tre_answer.specs.Request.{FitsJob, sought_in};
 ghost use Rattle.tre_decimal.specs.declared.TheConstants.{SCALE_MAX};
-ghost use Rattle.tre_feed.specs.Front.{IsUnreadable};
-ghost use Rattle.tre_feed.specs.Input.{AllReadsGood, TakesAtMost, input_told};
+ghost use Rattle.tre_feed.specs.Input.{TakesAtMost, input_told};
 ghost use Rattle.tre_generate.specs.FixedPattern.{fixed_tree, fixed_vocabulary};
 ghost use Rattle.tre_syntax.specs.declared.pattern.Pattern.{Pattern};
 ghost use Rattle.tre_tell.specs.Sought.{Sought};
-ghost use Rattle.tre_tool.specs.Checks.{ChecksWereRead};
-ghost use Rattle.tre_tool.specs.Parts.{plain_sought, patterns_with};
-ghost use Rattle.tre_tool.specs.Request.{Spell, alone, texts_with, ArePatterns, AreDefinitions, IsRefusalOf, IsRefusalIn};
+ghost use Rattle.tre_tool.specs.Parts.{IsAskedBy, StopsAsking, plain_sought, patterns_with};
+ghost use Rattle.tre_tool.specs.Request.{Spell, alone, texts_with, AreDefinitions, IsRefusalOf};
 ghost use Rattle.tre_tool.specs.Run.{ReadsChecks};
 ghost use Rattle.tre_tool.specs.Status.{minus_status};
 ghost use Rattle.tre_watch.specs.declared.reader.TheConstants.{FILE_MAX};
@@ -121,7 +118,6 @@ fn asked_by_texts(alloc: Global, job: &Job) -> Result<Question, Status>
         AreDefinitions job.now.mode job.now question.definitions.items) }
     ensures refuses { IfErr result (λ status. status ≢ Status.Memory →
         IsRefusalOf job.now status) }
-    ensures never_unread { IfErr result (λ status. status ≢ Status.ReadFault) }
 {
     let pattern = parse(alloc, job.expr.text(), job.scale)?;
     let taken = taken_by(alloc, job)?;
@@ -152,26 +148,10 @@ fn asked_of_made_run(alloc: Global) -> Result<Question, Status>
 pub fn asked_by<P: Source>(alloc: Global, job: &Job, checks: &mut P) -> Result<Question, Status>
     requires closed { P.opened checks.old ≡ false }
     requires job { IsJob job.now }
-    ensures patterns { IfOk result (λ question. ArePatterns job.now.mode (ChecksWereRead
+    ensures asks { IfOk result (λ question. IsAskedBy job.now
         (input_told P.file_name P.file P.sound P.opened P.left P.found P.faults checks.old
-        checks.new)) job.now (sought_in question.asked)) }
-    ensures fits { IfOk result (λ question. FitsJob job.now question.asked) }
-    ensures alone { IfOk result (λ question. (ReadsInput job.now.mode → ⊥) →
-        length question.asked.patterns.items ≡ 1) }
-    ensures defines { IfOk result (λ question.
-        AreDefinitions job.now.mode job.now question.definitions.items) }
-    ensures good { OnOk result (AllReadsGood
-        (input_told P.file_name P.file P.sound P.opened P.left P.found P.faults checks.old
-        checks.new)) }
-    ensures wanting { IfErr result (λ status. status ≢ Status.ReadFault → AllReadsGood
-        (input_told P.file_name P.file P.sound P.opened P.left P.found P.faults checks.old
-        checks.new)) }
-    ensures refuses { IfErr result (λ status. status ≢ Status.Memory →
-        status ≢ Status.ReadFault → IsRefusalIn job.now.mode (ChecksWereRead
-        (input_told P.file_name P.file P.sound P.opened P.left P.found P.faults checks.old
-        checks.new)) job.now status) }
-    ensures unread { IfErr result (λ status. status ≡ Status.ReadFault →
-        (file : List ℕ) × (job.now.mode ≡ Watch file) × IsUnreadable file
+        checks.new) question.asked question.definitions.items) }
+    ensures stops { IfErr result (StopsAsking job.now
         (input_told P.file_name P.file P.sound P.opened P.left P.found P.faults checks.old
         checks.new)) }
     ensures untouched { (ReadsChecks job.now.mode → ⊥) → checks.new ≡ checks.old }

@@ -1,11 +1,10 @@
 // What a file of checks asks for.
-ghost use Rattle.std.specs.Prelude.{◌≡◌, ◌≢◌, ◌≤◌, ◌<◌, ◌+◌, ◌++◌, IfOk, IfErr, IfSome, IsTrue, OnOk, codes, false, length, map, string_bytes};
+ghost use Rattle.std.specs.Prelude.{◌≡◌, ◌≤◌, ◌<◌, ◌+◌, ◌++◌, IfOk, IfErr, IfSome, IsTrue, OnOk, codes, false, length, map, string_bytes};
 ghost use Rattle.tre_answer.specs.Request.{sought_in};
 ghost use Rattle.tre_decimal.specs.declared.TheConstants.{SCALE_MAX};
-ghost use Rattle.tre_feed.specs.Front.{IsUnreadable};
 ghost use Rattle.tre_feed.specs.Input.{AllReadsGood, TakesAtMost, input_told};
 ghost use Rattle.tre_tool.specs.Checks.{ChecksWereRead, SayPatterns, labelled};
-ghost use Rattle.tre_tool.specs.Request.{IsRefusalOfFile};
+ghost use Rattle.tre_tool.specs.Parts.{StopsChecks};
 ghost use Rattle.tre_watch.specs.Steps.{spelt_in};
 ghost use Rattle.tre_watch.specs.declared.reader.TheConstants.{FILE_MAX};
 
@@ -75,14 +74,7 @@ pub fn asked_of_checks<P: Source>(
     ensures good { OnOk result (AllReadsGood
         (input_told P.file_name P.file P.sound P.opened P.left P.found P.faults checks.old
         checks.new)) }
-    ensures wanting { IfErr result (λ status. status ≢ Status.ReadFault → AllReadsGood
-        (input_told P.file_name P.file P.sound P.opened P.left P.found P.faults checks.old
-        checks.new)) }
-    ensures refuses { IfErr result (λ status. status ≢ Status.Memory →
-        status ≢ Status.ReadFault → IsRefusalOfFile (ChecksWereRead
-        (input_told P.file_name P.file P.sound P.opened P.left P.found P.faults checks.old
-        checks.new)) scale status) }
-    ensures unread { IfErr result (λ status. status ≡ Status.ReadFault → IsUnreadable file.now
+    ensures stops { IfErr result (StopsChecks file.now scale
         (input_told P.file_name P.file P.sound P.opened P.left P.found P.faults checks.old
         checks.new)) }
     ensures bounded { IsTrue (P.opened checks.new) →

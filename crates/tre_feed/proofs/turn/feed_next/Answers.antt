@@ -1,19 +1,17 @@
-use Rattle.std.proofs.Common.{◌+◌, ◌-◌, ◌≤◌, ℕ, Bool, List, false, true, Result, Err, length, take, arith, subst, length-take}
+use Rattle.std.proofs.Common.{◌+◌, ◌-◌, ◌≤◌, ℕ, Bool, List, false, true, Ok, Err, length, take, arith, subst, length-take}
 use Rattle.std.proofs.lemmas.Result.{err_from_is_err_and}
 use Rattle.tre_trace.specs.Reading.{Recording}
 use Rattle.tre_trace.specs.declared.reader.TheConstants.{FED_MAX}
 use Rattle.tre_feed.specs.Each.{AllEnded, AllWait, AllWereFed, recording_by}
-use Rattle.tre_feed.specs.Stops.{TakesIn}
-use Rattle.tre_feed.specs.declared.fault.Fault.{Fault}
 use Rattle.tre_feed.specs.declared.TheConstants.{PIECE}
 use Rattle.tre_feed.proofs.Outcomes.{TellsAll-exceeds}
 use Rattle.tre_feed.proofs.Standing.{faultless_by, grows_by, recording_same, room_each}
-use Rattle.tre_feed.proofs.Pieces.{Keeps-end, Keeps-own, TakesOn-nothing, GoesOn-fed, HasRead-end, HasRead-fed, HasRead-nothing, HasRead-refused, HasRead-stops, IsAtEndOf-read, IsEnded-end, IsFed-all, StopsTurn-end, StopsTurn-piece}
+use Rattle.tre_feed.proofs.Pieces.{FindsEnd-read, KeepsSource-err, KeepsSource-ok, KeepsSource-readers, Keeps-own, TakesOn-nothing, GoesOn-fed, HasRead-end, HasRead-fed, HasRead-nothing, HasRead-refused, HasRead-stops, IsEnded-end, IsFed-all, StopsTurn-end, StopsTurn-piece}
 use Rattle.tre_feed.proofs.turn.feed_next.Goals as goal
 
 pub feed_piece-requires-clause-fits : goal.feed_piece-requires-clause-fits
 feed_piece-requires-clause-fits g c = room_each g.R.TraceReader.fed_of c.args.each.now
-    c.args.taken.now c.args.limit FED_MAX c.requires.fed c.if-taken-limit.false c.requires.fits
+    c.args.taken.now c.args.limit FED_MAX c.requires.readers.few c.if-taken-limit.false c.requires.fits
 
 pub returns-then-taken-limit-clause-read : goal.returns-then-taken-limit-clause-read
 returns-then-taken-limit-clause-read g c =
@@ -44,13 +42,13 @@ returns-in_err-count-clause-read g c =
     let some : length piece_room ≤ c.args.limit - c.args.taken.now + 1
     = omega (arith, length-take {A = ℕ} c.min-room.result c.args.buffer.now, c.min-room.ensures) in
     let fits : length piece_room ≤ PIECE
-    = omega (arith, length-take {A = ℕ} c.min-room.result c.args.buffer.now, c.requires.short) in
+    = omega (arith, length-take {A = ℕ} c.min-room.result c.args.buffer.now, c.requires.buffer.short) in
     let p = err_from_is_err_and c.from_residual.result c.from_residual.ensures.1 in
     λ file bytes so_far. rw (p.1, p.2) (HasRead-stops so_far recording
     (g.S.Source.left c.feed_piece.new.source) (g.S.Source.found c.feed_piece.new.source)
     c.feed_piece.ensures.finds inside (length piece_room) some fits old
     (AllWait reader.names c.feed_piece.new.each) c.in_err-count.field-0.0
-    (c.in_err-count.ensures.stops bytes (IsFed-all so_far inside)))
+    (c.in_err-count.ensures.feeds bytes (IsFed-all so_far inside)))
 
 pub returns-in_err-count-clause-ends : goal.returns-in_err-count-clause-ends
 returns-in_err-count-clause-ends g c =
@@ -62,137 +60,96 @@ returns-in_err-count-clause-ends g c =
     let some : length piece_room ≤ c.args.limit - c.args.taken.now + 1
     = omega (arith, length-take {A = ℕ} c.min-room.result c.args.buffer.now, c.min-room.ensures) in
     let fits : length piece_room ≤ PIECE
-    = omega (arith, length-take {A = ℕ} c.min-room.result c.args.buffer.now, c.requires.short) in
+    = omega (arith, length-take {A = ℕ} c.min-room.result c.args.buffer.now, c.requires.buffer.short) in
     let p = err_from_is_err_and c.from_residual.result c.from_residual.ensures.1 in
     λ file bytes so_far. rw (p.1, p.2) (StopsTurn-piece so_far recording
     (g.S.Source.left c.feed_piece.new.source) (g.S.Source.found c.feed_piece.new.source)
     c.feed_piece.ensures.finds inside (length piece_room) some fits old
     (AllWait reader.names c.feed_piece.new.each) c.in_err-count.field-0.0
     (grows_by reader.terms reader.recording g.met.R.TraceReader.grows c.args.each.now)
-    (c.in_err-count.ensures.stops bytes (IsFed-all so_far inside)))
+    (c.in_err-count.ensures.feeds bytes (IsFed-all so_far inside)))
 
 pub returns-in_err-finish_all-clause-read : goal.returns-in_err-finish_all-clause-read
 returns-in_err-finish_all-clause-read g c =
     let reader = g.R.TraceReader in
     let recording = recording_by reader.recording reader.terms c.args.each.now in
-    let old = AllWait reader.names c.args.each.now in
+    let fed_now = c.feed_piece.new.each in
+    let said = recording_same reader.names reader.terms reader.recording fed_now c.args.each.now
+    c.feed_piece.ensures.same in
     let inside = c.if-taken-limit.false in
-    let count = c.in_ok-count.count in
-    let buffer = c.feed_piece.new.buffer in
     let p = err_from_is_err_and c.from_residual-in_err-finish_all.result
     c.from_residual-in_err-finish_all.ensures.1 in
-    let none = c.if-count-eq0.true in
     λ file bytes so_far.
-    let fed = IsFed-all so_far inside in
-    let at_end = IsAtEndOf-read {were_fed' = AllWereFed reader.terms reader.represents
-    c.feed_piece.new.each}
-    c.args.limit file (g.S.Source.left c.args.source.now) (g.S.Source.found c.args.source.now)
+    let end = FindsEnd-read recording (recording_by reader.recording reader.terms fed_now) said
     (g.S.Source.left c.feed_piece.new.source) (g.S.Source.found c.feed_piece.new.source)
-    c.args.taken.now count bytes buffer so_far inside c.in_ok-count.ensures.taken
-    c.feed_piece.ensures.finds (c.in_ok-count.ensures.end none) none
-    (c.in_ok-count.ensures.goes_on bytes fed) in
-    let same = Keeps-end recording (c.args.limit - c.args.taken.now) count bytes buffer none
-    (c.in_ok-count.ensures.adds bytes fed) in
-    let fault : Result (Unit {0}) Fault = Err c.in_err-finish_all.field-0.0 in
-    let takes = subst (λ (said : Bool → List ℕ → Recording). TakesIn
-    (AllWait reader.names c.feed_piece.new.each) (AllWait reader.names c.finish_all.new.each)
-    (said false bytes) (said true bytes) fault)
-    (recording_same reader.names reader.terms reader.recording c.feed_piece.new.each
-    c.args.each.now c.in_ok-count.ensures.same)
-    (c.in_err-finish_all.ensures.takes bytes at_end.fed) in
-    rw (p.1, p.2) (HasRead-refused recording at_end old
-    (AllWait reader.names c.feed_piece.new.each) (AllWait reader.names c.finish_all.new.each) same
-    c.in_err-finish_all.field-0.0
-    takes)
+    c.feed_piece.new.buffer c.in_ok-count.count (Err c.in_err-finish_all.field-0.0) so_far inside c.if-count-eq0.true
+    c.in_ok-count.ensures.read c.feed_piece.ensures.finds
+    (c.in_ok-count.ensures.feeds bytes (IsFed-all so_far inside))
+    (c.in_err-finish_all.ensures.takes bytes) in
+    rw (p.1, p.2) (HasRead-refused recording end.at_end (AllWait reader.names c.args.each.now)
+    (AllWait reader.names fed_now) (AllWait reader.names c.finish_all.new.each) end.kept
+    c.in_err-finish_all.field-0.0 end.takes)
 
 pub returns-in_err-finish_all-clause-ends : goal.returns-in_err-finish_all-clause-ends
 returns-in_err-finish_all-clause-ends g c =
     let reader = g.R.TraceReader in
     let recording = recording_by reader.recording reader.terms c.args.each.now in
-    let old = AllWait reader.names c.args.each.now in
+    let fed_now = c.feed_piece.new.each in
+    let said = recording_same reader.names reader.terms reader.recording fed_now c.args.each.now
+    c.feed_piece.ensures.same in
     let inside = c.if-taken-limit.false in
-    let count = c.in_ok-count.count in
-    let buffer = c.feed_piece.new.buffer in
     let p = err_from_is_err_and c.from_residual-in_err-finish_all.result
     c.from_residual-in_err-finish_all.ensures.1 in
-    let none = c.if-count-eq0.true in
     λ file bytes so_far.
-    let fed = IsFed-all so_far inside in
-    let at_end = IsAtEndOf-read {were_fed' = AllWereFed reader.terms reader.represents
-    c.feed_piece.new.each}
-    c.args.limit file (g.S.Source.left c.args.source.now) (g.S.Source.found c.args.source.now)
+    let end = FindsEnd-read recording (recording_by reader.recording reader.terms fed_now) said
     (g.S.Source.left c.feed_piece.new.source) (g.S.Source.found c.feed_piece.new.source)
-    c.args.taken.now count bytes buffer so_far inside c.in_ok-count.ensures.taken
-    c.feed_piece.ensures.finds (c.in_ok-count.ensures.end none) none
-    (c.in_ok-count.ensures.goes_on bytes fed) in
-    let same = Keeps-end recording (c.args.limit - c.args.taken.now) count bytes buffer none
-    (c.in_ok-count.ensures.adds bytes fed) in
-    let fault : Result (Unit {0}) Fault = Err c.in_err-finish_all.field-0.0 in
-    let takes = subst (λ (said : Bool → List ℕ → Recording). TakesIn
-    (AllWait reader.names c.feed_piece.new.each) (AllWait reader.names c.finish_all.new.each)
-    (said false bytes) (said true bytes) fault)
-    (recording_same reader.names reader.terms reader.recording c.feed_piece.new.each
-    c.args.each.now c.in_ok-count.ensures.same)
-    (c.in_err-finish_all.ensures.takes bytes at_end.fed) in
-    rw (p.1, p.2) (StopsTurn-end recording at_end old
-    (AllWait reader.names c.feed_piece.new.each) (AllWait reader.names c.finish_all.new.each) same
-    c.in_err-finish_all.field-0.0
-    takes)
+    c.feed_piece.new.buffer c.in_ok-count.count (Err c.in_err-finish_all.field-0.0) so_far inside c.if-count-eq0.true
+    c.in_ok-count.ensures.read c.feed_piece.ensures.finds
+    (c.in_ok-count.ensures.feeds bytes (IsFed-all so_far inside))
+    (c.in_err-finish_all.ensures.takes bytes) in
+    rw (p.1, p.2) (StopsTurn-end recording end.at_end (AllWait reader.names c.args.each.now)
+    (AllWait reader.names fed_now) (AllWait reader.names c.finish_all.new.each) end.kept
+    c.in_err-finish_all.field-0.0 end.takes)
 
 pub returns-then-count-eq0-clause-read : goal.returns-then-count-eq0-clause-read
 returns-then-count-eq0-clause-read g c =
     let reader = g.R.TraceReader in
     let recording = recording_by reader.recording reader.terms c.args.each.now in
-    let old = AllWait reader.names c.args.each.now in
+    let fed_now = c.feed_piece.new.each in
+    let said = recording_same reader.names reader.terms reader.recording fed_now c.args.each.now
+    c.feed_piece.ensures.same in
     let inside = c.if-taken-limit.false in
-    let count = c.in_ok-count.count in
-    let buffer = c.feed_piece.new.buffer in
-    let none = c.if-count-eq0.true in
     λ file bytes so_far.
-    let fed = IsFed-all so_far inside in
-    let at_end = IsAtEndOf-read {were_fed' = AllWereFed reader.terms reader.represents
-    c.feed_piece.new.each}
-    c.args.limit file (g.S.Source.left c.args.source.now) (g.S.Source.found c.args.source.now)
+    let end = FindsEnd-read recording (recording_by reader.recording reader.terms fed_now) said
     (g.S.Source.left c.feed_piece.new.source) (g.S.Source.found c.feed_piece.new.source)
-    c.args.taken.now count bytes buffer so_far inside c.in_ok-count.ensures.taken
-    c.feed_piece.ensures.finds (c.in_ok-count.ensures.end none) none
-    (c.in_ok-count.ensures.goes_on bytes fed) in
-    let same = Keeps-end recording (c.args.limit - c.args.taken.now) count bytes buffer none
-    (c.in_ok-count.ensures.adds bytes fed) in
-    let said = recording_same reader.names reader.terms reader.recording c.feed_piece.new.each
-    c.args.each.now c.in_ok-count.ensures.same in
-    let takes = rw said at (c.in_ok-finish_all.ensures.takes bytes at_end.fed) in
-    HasRead-end recording at_end old (AllWait reader.names c.feed_piece.new.each)
-    (AllWait reader.names c.finish_all.new.each) same false takes.0
+    c.feed_piece.new.buffer c.in_ok-count.count (Ok tt) so_far inside c.if-count-eq0.true
+    c.in_ok-count.ensures.read c.feed_piece.ensures.finds
+    (c.in_ok-count.ensures.feeds bytes (IsFed-all so_far inside))
+    (c.in_ok-finish_all.ensures.takes bytes) in
+    HasRead-end recording end.at_end (AllWait reader.names c.args.each.now)
+    (AllWait reader.names fed_now) (AllWait reader.names c.finish_all.new.each) end.kept
+    false end.takes.0
 
 pub returns-then-count-eq0-clause-ends : goal.returns-then-count-eq0-clause-ends
 returns-then-count-eq0-clause-ends g c =
     let reader = g.R.TraceReader in
     let recording = recording_by reader.recording reader.terms c.args.each.now in
-    let old = AllWait reader.names c.args.each.now in
+    let fed_now = c.feed_piece.new.each in
+    let said = recording_same reader.names reader.terms reader.recording fed_now c.args.each.now
+    c.feed_piece.ensures.same in
     let inside = c.if-taken-limit.false in
-    let count = c.in_ok-count.count in
-    let buffer = c.feed_piece.new.buffer in
-    let none = c.if-count-eq0.true in
     λ file bytes so_far.
-    let fed = IsFed-all so_far inside in
-    let at_end = IsAtEndOf-read {were_fed' = AllWereFed reader.terms reader.represents
-    c.feed_piece.new.each}
-    c.args.limit file (g.S.Source.left c.args.source.now) (g.S.Source.found c.args.source.now)
+    let end = FindsEnd-read recording (recording_by reader.recording reader.terms fed_now) said
     (g.S.Source.left c.feed_piece.new.source) (g.S.Source.found c.feed_piece.new.source)
-    c.args.taken.now count bytes buffer so_far inside c.in_ok-count.ensures.taken
-    c.feed_piece.ensures.finds (c.in_ok-count.ensures.end none) none
-    (c.in_ok-count.ensures.goes_on bytes fed) in
-    let same = Keeps-end recording (c.args.limit - c.args.taken.now) count bytes buffer none
-    (c.in_ok-count.ensures.adds bytes fed) in
-    let said = recording_same reader.names reader.terms reader.recording c.feed_piece.new.each
-    c.args.each.now c.in_ok-count.ensures.same in
-    let takes = rw said at (c.in_ok-finish_all.ensures.takes bytes at_end.fed) in
-    IsEnded-end recording at_end old (AllWait reader.names c.feed_piece.new.each)
-    (AllWait reader.names c.finish_all.new.each) same
-    (AllEnded reader.names c.finish_all.new.each) takes.0 takes.1
+    c.feed_piece.new.buffer c.in_ok-count.count (Ok tt) so_far inside c.if-count-eq0.true
+    c.in_ok-count.ensures.read c.feed_piece.ensures.finds
+    (c.in_ok-count.ensures.feeds bytes (IsFed-all so_far inside))
+    (c.in_ok-finish_all.ensures.takes bytes) in
+    IsEnded-end recording end.at_end (AllWait reader.names c.args.each.now)
+    (AllWait reader.names fed_now) (AllWait reader.names c.finish_all.new.each) end.kept
+    (AllEnded reader.names c.finish_all.new.each) end.takes.0 end.takes.1
     (subst (λ (said : Bool → List ℕ → Recording). AllEnded reader.names c.finish_all.new.each
-    (said true bytes).last) said (c.in_ok-finish_all.ensures.ended bytes at_end.fed))
+    (said true bytes).last) said (c.in_ok-finish_all.ensures.ended bytes end.at_end.fed))
 
 pub returns-clause-read : goal.returns-clause-read
 returns-clause-read g c =
@@ -204,16 +161,16 @@ returns-clause-read g c =
     let some : length piece_room ≤ c.args.limit - c.args.taken.now + 1
     = omega (arith, length-take {A = ℕ} c.min-room.result c.args.buffer.now, c.min-room.ensures) in
     let fits : length piece_room ≤ PIECE
-    = omega (arith, length-take {A = ℕ} c.min-room.result c.args.buffer.now, c.requires.short) in
+    = omega (arith, length-take {A = ℕ} c.min-room.result c.args.buffer.now, c.requires.buffer.short) in
     let count = c.in_ok-count.count in
     let buffer = c.feed_piece.new.buffer in
     λ file bytes so_far. HasRead-fed so_far recording
     (g.S.Source.left c.feed_piece.new.source) (g.S.Source.found c.feed_piece.new.source)
     c.feed_piece.ensures.finds inside (length piece_room) some fits old
     (AllWait reader.names c.feed_piece.new.each) (take count buffer) true
-    c.in_ok-count.ensures.taken
-    (omega (arith, length-take {A = ℕ} count buffer, c.in_ok-count.ensures.length))
-    (c.in_ok-count.ensures.adds bytes (IsFed-all so_far inside))
+    c.in_ok-count.ensures.read.taken
+    (omega (arith, length-take {A = ℕ} count buffer, c.feed_piece.ensures.length))
+    (c.in_ok-count.ensures.feeds bytes (IsFed-all so_far inside)).all
 
 pub returns-clause-ends : goal.returns-clause-ends
 returns-clause-ends g c =
@@ -225,7 +182,7 @@ returns-clause-ends g c =
     let some : length piece_room ≤ c.args.limit - c.args.taken.now + 1
     = omega (arith, length-take {A = ℕ} c.min-room.result c.args.buffer.now, c.min-room.ensures) in
     let fits : length piece_room ≤ PIECE
-    = omega (arith, length-take {A = ℕ} c.min-room.result c.args.buffer.now, c.requires.short) in
+    = omega (arith, length-take {A = ℕ} c.min-room.result c.args.buffer.now, c.requires.buffer.short) in
     let count = c.in_ok-count.count in
     let buffer = c.feed_piece.new.buffer in
     λ file bytes so_far. GoesOn-fed so_far recording
@@ -233,8 +190,26 @@ returns-clause-ends g c =
     c.feed_piece.ensures.finds inside (length piece_room) some fits old
     (AllWait reader.names c.feed_piece.new.each)
     {were_fed' = AllWereFed reader.terms reader.represents
-    c.feed_piece.new.each} (take count buffer) count c.in_ok-count.ensures.taken
-    (omega (arith, length-take {A = ℕ} count buffer, c.in_ok-count.ensures.within))
-    (omega (arith, c.in_ok-count.ensures.within, c.in_ok-count.ensures.length))
-    (c.in_ok-count.ensures.goes_on bytes (IsFed-all so_far inside))
-    (c.in_ok-count.ensures.adds bytes (IsFed-all so_far inside))
+    c.feed_piece.new.each} (take count buffer) count c.in_ok-count.ensures.read.taken
+    (omega (arith, length-take {A = ℕ} count buffer, c.in_ok-count.ensures.read.within))
+    (omega (arith, c.in_ok-count.ensures.read.within, c.feed_piece.ensures.length))
+    (c.in_ok-count.ensures.feeds bytes (IsFed-all so_far inside)).fed
+    (c.in_ok-count.ensures.feeds bytes (IsFed-all so_far inside)).all
+
+pub returns-in_err-count-clause-source : goal.returns-in_err-count-clause-source
+returns-in_err-count-clause-source g c =
+    let p = err_from_is_err_and c.from_residual.result c.from_residual.ensures.1 in
+    rw (p.1, p.2) (KeepsSource-err c.in_err-count.field-0.0 c.in_err-count.ensures.source)
+
+pub returns-in_err-finish_all-clause-source : goal.returns-in_err-finish_all-clause-source
+returns-in_err-finish_all-clause-source g c =
+    let p = err_from_is_err_and c.from_residual-in_err-finish_all.result
+    c.from_residual-in_err-finish_all.ensures.1 in
+    rw (p.1, p.2) (KeepsSource-readers c.in_err-finish_all.field-0.0
+    c.in_err-finish_all.ensures.of_readers c.in_ok-count.ensures.source)
+
+pub returns-then-count-eq0-clause-source : goal.returns-then-count-eq0-clause-source
+returns-then-count-eq0-clause-source g c = KeepsSource-ok c.in_ok-count.ensures.source
+
+pub returns-clause-source : goal.returns-clause-source
+returns-clause-source g c = KeepsSource-ok c.in_ok-count.ensures.source

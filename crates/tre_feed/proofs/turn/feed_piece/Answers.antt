@@ -1,21 +1,60 @@
-use Rattle.std.proofs.Common.{◌≡◌, ◌∙◌, ℕ, ◌≤◌, length, take, arith, length-take, ap}
+use Rattle.std.proofs.Common.{◌≡◌, ◌∙◌, ℕ, ◌≤◌, ◌++◌, List, Result, Err, false, length, take, arith, length-take, ap, subst}
 use Rattle.std.proofs.lemmas.Result.{err_from_is_err_and}
-use Rattle.tre_feed.specs.Each.{recording_by}
+use Rattle.tre_feed.specs.Each.{AllWait, AllWereFed, recording_by}
+use Rattle.tre_feed.specs.Turn.{TakesOn}
 use Rattle.tre_feed.proofs.Cuts.{take_both}
-use Rattle.tre_feed.proofs.Pieces.{StopsPiece-refused}
+use Rattle.tre_feed.proofs.Pieces.{KeepsSource-ok, KeepsSource-readers, StopsPiece-refused, StopsPiece-unread}
 use Rattle.tre_feed.proofs.turn.feed_piece.Goals as goal
 
-pub returns-in_err-feed_all-clause-stops : goal.returns-in_err-feed_all-clause-stops
-returns-in_err-feed_all-clause-stops g c =
+pub returns-in_err-count-clause-feeds : goal.returns-in_err-count-clause-feeds
+returns-in_err-count-clause-feeds g c =
+    let p = err_from_is_err_and c.from_residual.result c.from_residual.ensures.1 in
+    λ bytes so_far. rw (p.1, p.2) (StopsPiece-unread _ _ _ bytes _ _ _ c.in_err-count.field-0.0
+    c.in_err-count.ensures.failed c.in_err-count.ensures.kept)
+
+pub returns-in_err-count-clause-source : goal.returns-in_err-count-clause-source
+returns-in_err-count-clause-source g c =
+    let p = err_from_is_err_and c.from_residual.result c.from_residual.ensures.1 in
+    rw (p.1, p.2) c.in_err-count.ensures.source
+
+pub returns-in_err-feed_all-clause-feeds : goal.returns-in_err-feed_all-clause-feeds
+returns-in_err-feed_all-clause-feeds g c =
     let p = err_from_is_err_and c.from_residual-in_err-feed_all.result
     c.from_residual-in_err-feed_all.ensures.1 in
     let count = c.in_ok-count.count in
     let buffer = c.read_piece.new.buffer in
     let short : length (take count buffer) ≤ length c.args.buffer.now = omega
-    (arith, length-take {A = ℕ} count buffer, c.in_ok-count.ensures.length) in
+    (arith, length-take {A = ℕ} count buffer, c.read_piece.ensures.length) in
     let fed : take c.min.result buffer ≡ take c.args.allowed (take count buffer) =
     ap (λ n. take n buffer) c.min.ensures ∙ take_both count c.args.allowed buffer in
     λ bytes so_far. rw (p.1, p.2) (StopsPiece-refused
     (recording_by g.R.TraceReader.recording g.R.TraceReader.terms c.args.each.now) _ _
-    bytes (take count buffer) (take c.min.result buffer) _ _ _ _ _ c.in_ok-count.ensures.taken short
+    bytes (take count buffer) (take c.min.result buffer) _ _ _ _ _
+    c.in_ok-count.ensures.read.taken short
     fed (c.in_err-feed_all.ensures.takes bytes so_far))
+
+pub returns-in_err-feed_all-clause-source : goal.returns-in_err-feed_all-clause-source
+returns-in_err-feed_all-clause-source g c =
+    let p = err_from_is_err_and c.from_residual-in_err-feed_all.result
+    c.from_residual-in_err-feed_all.ensures.1 in
+    rw (p.1, p.2) (KeepsSource-readers c.in_err-feed_all.field-0.0
+    c.in_err-feed_all.ensures.of_readers c.in_ok-count.ensures.source)
+
+pub returns-clause-feeds : goal.returns-clause-feeds
+returns-clause-feeds g c =
+    let reader = g.R.TraceReader in
+    let recording = recording_by reader.recording reader.terms c.args.each.now in
+    let count = c.in_ok-count.count in
+    let buffer = c.read_piece.new.buffer in
+    let fed : take c.min.result buffer ≡ take c.args.allowed (take count buffer) =
+    ap (λ n. take n buffer) c.min.ensures ∙ take_both count c.args.allowed buffer in
+    λ bytes so_far. record {
+      fed = subst (λ (more : List ℕ). AllWereFed reader.terms reader.represents
+          c.feed_all.new.each (bytes ++ more)) fed (c.in_ok-feed_all.ensures.goes_on bytes so_far);
+      all = subst (λ (more : List ℕ). TakesOn (AllWait reader.names c.args.each.now)
+          (AllWait reader.names c.feed_all.new.each) (recording false bytes)
+          (recording false (bytes ++ more))) fed (c.in_ok-feed_all.ensures.takes bytes so_far).0;
+    }
+
+pub returns-clause-source : goal.returns-clause-source
+returns-clause-source g c = KeepsSource-ok c.in_ok-count.ensures.source

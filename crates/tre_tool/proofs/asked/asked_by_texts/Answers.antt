@@ -1,7 +1,6 @@
 use Rattle.std.proofs.Common.{[], ◌∷◌}
 use Rattle.std.proofs.lemmas.Result.{err_from_is_err_and}
 use Rattle.tre_tool.specs.Parts.{plain_sought, patterns_with}
-use Rattle.tre_tool.proofs.Asking.{never_unread}
 use Rattle.tre_tool.proofs.Texts.{IsRefusalOf-first, Spell-read}
 use Rattle.tre_tool.proofs.asked.asked_by_texts.Goals as goal
 
@@ -37,25 +36,3 @@ returns-clause-spells c =
     rw c.in_ok-asked.ensures.sought (c.in_ok-taken.ensures.spells pattern
     (Spell-read c.args.job.now pattern c.text.result.now c.text.ensures
     c.in_ok-pattern.ensures.outcome))
-
-pub returns-in_err-taken-clause-never_unread : goal.returns-in_err-taken-clause-never_unread
-returns-in_err-taken-clause-never_unread c =
-    let p = err_from_is_err_and c.from_residual-in_err-taken.result
-    c.from_residual-in_err-taken.ensures.1 in
-    let pattern = c.in_ok-pattern.pattern in
-    rw (p.1, p.2) (never_unread c.args.job.now _ (λ never.
-    c.in_err-taken.ensures.refuses never (plain_sought pattern ∷ [])
-    (Spell-read c.args.job.now pattern c.text.result.now c.text.ensures
-    c.in_ok-pattern.ensures.outcome)))
-
-pub returns-in_err-definitions-clause-never_unread :
-    goal.returns-in_err-definitions-clause-never_unread
-returns-in_err-definitions-clause-never_unread c =
-    let p = err_from_is_err_and c.from_residual-in_err-definitions.result
-    c.from_residual-in_err-definitions.ensures.1 in
-    let pattern = c.in_ok-pattern.pattern in
-    rw (p.1, p.2) (never_unread c.args.job.now _ (λ never.
-    c.in_err-definitions.ensures.refuses never (patterns_with pattern c.in_ok-taken.taken)
-    (c.in_ok-taken.ensures.spells pattern
-    (Spell-read c.args.job.now pattern c.text.result.now c.text.ensures
-    c.in_ok-pattern.ensures.outcome))))

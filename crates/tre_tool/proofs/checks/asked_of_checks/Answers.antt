@@ -1,58 +1,39 @@
 use Rattle.std.proofs.Common.{arith}
 use Rattle.std.proofs.lemmas.Result.{err_from_is_err_and}
 use Rattle.tre_watch.specs.Steps.{spelt_in}
-use Rattle.tre_tool.proofs.Plans.{ChecksWereRead-of, IsRefusalOfFile-read, IsRefusalOfFile-unread, is_unreadable, good_unless_unread, read_though, some_planned}
+use Rattle.tre_tool.proofs.Plans.{ChecksWereRead-of, IsRefusalOfFile-read, StopsChecks-memory, StopsChecks-unread, read_though, some_planned}
 use Rattle.tre_tool.proofs.checks.asked_of_checks.Goals as goal
 
 -- ---- the file couldn't be read
 
-pub returns-in_err-bytes-clause-wanting : goal.returns-in_err-bytes-clause-wanting
-returns-in_err-bytes-clause-wanting g c =
+pub returns-in_err-bytes-clause-stops : goal.returns-in_err-bytes-clause-stops
+returns-in_err-bytes-clause-stops g c =
     let p = err_from_is_err_and c.from_residual.result c.from_residual.ensures.1 in
-    rw (p.1, p.2) (good_unless_unread c.args.file.now _ c.in_err-bytes.field-0.0
-    c.in_err-bytes.ensures.stops)
-
-pub returns-in_err-bytes-clause-refuses : goal.returns-in_err-bytes-clause-refuses
-returns-in_err-bytes-clause-refuses g c =
-    let p = err_from_is_err_and c.from_residual.result c.from_residual.ensures.1 in
-    rw (p.1, p.2) (IsRefusalOfFile-unread c.args.file.now _ c.args.scale
+    rw (p.1, p.2) (StopsChecks-unread c.args.file.now _ c.args.scale
     c.in_err-bytes.field-0.0 c.in_err-bytes.ensures.stops)
-
-pub returns-in_err-bytes-clause-unread : goal.returns-in_err-bytes-clause-unread
-returns-in_err-bytes-clause-unread g c =
-    let p = err_from_is_err_and c.from_residual.result c.from_residual.ensures.1 in
-    rw (p.1, p.2) (is_unreadable c.args.file.now _ c.in_err-bytes.field-0.0
-    c.in_err-bytes.ensures.stops)
 
 -- ---- it is refused
 
-pub returns-in_err-plan-clause-wanting : goal.returns-in_err-plan-clause-wanting
-returns-in_err-plan-clause-wanting g c =
+pub returns-in_err-plan-clause-stops : goal.returns-in_err-plan-clause-stops
+returns-in_err-plan-clause-stops g c =
     let p = err_from_is_err_and c.from_residual-in_err-plan.result
     c.from_residual-in_err-plan.ensures.1 in
-    rw (p.1, p.2) (λ other. c.in_ok-bytes.ensures.read.reads)
-
-pub returns-in_err-plan-clause-refuses : goal.returns-in_err-plan-clause-refuses
-returns-in_err-plan-clause-refuses g c =
-    let p = err_from_is_err_and c.from_residual-in_err-plan.result
-    c.from_residual-in_err-plan.ensures.1 in
-    rw (p.1, p.2) (λ never unread. IsRefusalOfFile-read _ c.args.scale _
-    c.in_err-plan.field-0.0 c.in_ok-bytes.ensures.read
-    (rw c.deref.ensures.value at c.in_err-plan.ensures.outcome) never)
-
-pub returns-in_err-plan-clause-unread : goal.returns-in_err-plan-clause-unread
-returns-in_err-plan-clause-unread g c =
-    let p = err_from_is_err_and c.from_residual-in_err-plan.result
-    c.from_residual-in_err-plan.ensures.1 in
-    rw (p.1, p.2) (λ unread. absurd (read_though c.in_err-plan.field-0.0 unread))
+    rw (p.1, p.2) (record {
+      wanting = λ other. c.in_ok-bytes.ensures.read.reads;
+      refuses = λ never unread. IsRefusalOfFile-read _ c.args.scale _
+          c.in_err-plan.field-0.0 c.in_ok-bytes.ensures.read
+          (rw c.deref.ensures.value at c.in_err-plan.ensures.outcome) never;
+      unread = λ unread. absurd (read_though c.in_err-plan.field-0.0 unread);
+    })
 
 -- ---- memory was wanting for it
 
-pub returns-in_err-asked-clause-wanting : goal.returns-in_err-asked-clause-wanting
-returns-in_err-asked-clause-wanting g c =
+pub returns-in_err-asked-clause-stops : goal.returns-in_err-asked-clause-stops
+returns-in_err-asked-clause-stops g c =
     let p = err_from_is_err_and c.from_residual-in_err-asked.result
     c.from_residual-in_err-asked.ensures.1 in
-    rw (p.1, p.2) (λ other. c.in_ok-bytes.ensures.read.reads)
+    rw (p.1, p.2) (StopsChecks-memory c.args.file.now _ c.args.scale
+    c.in_ok-bytes.ensures.read.reads)
 
 -- ---- it says patterns
 

@@ -26,7 +26,7 @@ pub returns-in_err-question-clause-ends : goal.returns-in_err-question-clause-en
 returns-in_err-question-clause-ends g c =
     let p = err_from_is_err_and c.from_residual-in_err-question.result
     c.from_residual-in_err-question.ensures.1 in
-    let stopped = c.in_err-question.ensures in
+    let stopped = c.in_err-question.ensures.stops in
     rw (p.1, p.2) (EndsAs-stopped _ _ _ _ c.in_ok-job.job c.in_ok-job.ensures.ok
     (record {
       unopened = c.requires.input;
@@ -55,7 +55,7 @@ returns-in_err-answer-clause-ends g c =
     let p = err_from_is_err_and c.from_residual-in_err-answer.result
     c.from_residual-in_err-answer.ensures.1 in
     let question = c.in_ok-question.question in
-    let found = c.in_ok-question.ensures in
+    let found = c.in_ok-question.ensures.asks in
     let asks = AsksFor-of _ _ c.in_ok-job.job question.definitions.items question.asked
     c.in_ok-job.ensures.ok found.patterns found.defines in
     rw (p.1, p.2) (EndsAs-answered _ _ _ _ _ c.in_err-answer.field-0.0 asks found.good
@@ -64,7 +64,7 @@ returns-in_err-answer-clause-ends g c =
 pub returns-in_err-answer-clause-untouched : goal.returns-in_err-answer-clause-untouched
 returns-in_err-answer-clause-untouched g c =
     let question = c.in_ok-question.question in
-    let found = c.in_ok-question.ensures in
+    let found = c.in_ok-question.ensures.asks in
     let asks = AsksFor-of _ _ c.in_ok-job.job question.definitions.items question.asked
     c.in_ok-job.ensures.ok found.patterns found.defines in
     λ nothing. absurd (nothing_asked _ (job_unique (map string_bytes c.args.words.now)) _ _
@@ -107,7 +107,7 @@ returns-in_err-answer-clause-checks_by_name g c = λ job file gives watches open
 pub returns-clause-ends : goal.returns-clause-ends
 returns-clause-ends g c =
     let question = c.in_ok-question.question in
-    let found = c.in_ok-question.ensures in
+    let found = c.in_ok-question.ensures.asks in
     let asks = AsksFor-of _ _ c.in_ok-job.job question.definitions.items question.asked
     c.in_ok-job.ensures.ok found.patterns found.defines in
     EndsAs-done _ _ _ _ _ asks c.in_ok-answer.ensures.ends
@@ -115,7 +115,7 @@ returns-clause-ends g c =
 pub returns-clause-untouched : goal.returns-clause-untouched
 returns-clause-untouched g c =
     let question = c.in_ok-question.question in
-    let found = c.in_ok-question.ensures in
+    let found = c.in_ok-question.ensures.asks in
     let asks = AsksFor-of _ _ c.in_ok-job.job question.definitions.items question.asked
     c.in_ok-job.ensures.ok found.patterns found.defines in
     λ nothing. absurd (nothing_asked _ (job_unique (map string_bytes c.args.words.now)) _ _
