@@ -31,6 +31,9 @@ STEADY = [
     "({p || q})+",
     "p & p",
     "true & true",
+    # Several durations, whose sums an upper end around all of them leaves out.
+    "(p % [7,7]|p % [9,9])* % [0,20]",
+    "(true % [7,7]|true % [11,11])* % [0,20]",
 ]
 STEADY_SIZES = [10**3, 10**4, 10**5]
 BYTES = 10**8  # a run that writes more is stopped

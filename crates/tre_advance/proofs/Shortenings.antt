@@ -1,12 +1,14 @@
 -- Marks without the pairs that last too long.
-use Rattle.std.proofs.Common.{◌≡◌, ℕ, ◌+◌, ◌-◌, ◌*◌, ◌<◌, ◌≤◌, List, [], length, get_or, take, Option, None, Some, MatchOption, Bool, true, false, MatchBool, inl, inr, ⊎_elim, subst, sym, arith}
+use Rattle.std.proofs.Common.{◌≡◌, ℕ, ◌+◌, ◌-◌, ◌*◌, ◌<◌, ◌≤◌, List, [], length, get_or, take, ◌∷◌, Option, None, Some, MatchOption, Bool, true, false, MatchBool, inl, inr, ⊎_elim, refl, subst, sym, arith}
 use Rattle.std.proofs.Math.Nat.{mul-pos}
 use Rattle.std.proofs.lemmas.List.{take_all}
 use Rattle.tre_pairs.specs.Cuts.{JoinedAt}
-use Rattle.tre_pairs.specs.Pairs.{Pairs, Lasting}
+use Rattle.tre_pairs.specs.Pairs.{Pairs, Composed, Both, Lasting}
 use Rattle.tre_pairs.proofs.Laws.{IsOrdered}
 use Rattle.tre_pairs.proofs.Shortening.{finer_duration}
-use Rattle.tre_zone.specs.Held.{Held, EndAt}
+use Rattle.tre_zone.specs.Held.{Held, EndAt, IsLatest}
+use Rattle.tre_zone.proofs.HeldSets.{Held-empty}
+use Rattle.tre_zone.proofs.ZoneListLemmas.{SetHolds-append}
 use Rattle.tre_zone.specs.Interval.{IntervalEnds, LastsWithin}
 use Rattle.tre_zone.specs.Longest.{AllLastUpTo, LastsUpTo}
 use Rattle.tre_zone.specs.ZoneList.{SetHolds, HoldExactly}
@@ -16,21 +18,22 @@ use Rattle.tre_syntax.specs.Meaning.{MatchesRest}
 use Rattle.tre_syntax.specs.PatternTree.{Atom, PatternTree, empty, literal, rise, fall, event, atom, sequence, alternation, intersection, repetition, restriction}
 use Rattle.tre_syntax.specs.Rest.{Rest}
 use Rattle.tre_syntax.proofs.CutMeaning.{IsOrdered-rest}
-use Rattle.tre_mark.specs.MarkTree.{MarkTree, atom_mark, sequence_mark, alternation_mark, repetition_mark}
-use Rattle.tre_mark.specs.Marked.{GoesOn, Since, CanTakeIn, Marked, IsBegun, IsWellAt}
-use Rattle.tre_mark.proofs.Meanings.{IsOrdered-GoesOn, around_present}
+use Rattle.tre_mark.specs.MarkTree.{MarkTree, atom_mark, sequence_mark, alternation_mark, repetition_mark, intersection_none, intersection_one, restriction_none, restriction_one, intersection_of, restriction_of}
+use Rattle.tre_mark.specs.Marked.{GoesOn, Since, IsOpen, AnyDuration, CanTakeIn, Marked, IsBegun, IsEntered, IsLong, LastUpTo, IsWellAt}
+use Rattle.tre_mark.proofs.Meanings.{IsOrdered-GoesOn, IsOrdered-Marked, around_present}
 use Rattle.tre_zoneset.proofs.Members.{SetHolds-more}
 use Rattle.tre_advance.specs.Instances.{LeavesRestriction}
+use Rattle.tre_advance.proofs.Recent.{kept_ends}
 use Rattle.tre_advance.proofs.SetsOf.{no_pair}
-use Rattle.tre_advance.specs.Shortening.{Shortens, AreRecent, AreShort}
+use Rattle.tre_advance.specs.Shortening.{Shortens, AreRecent, AreShort, DropsLong}
 
-pub shortens_same : (longest : Option ℕ) (mark : MarkTree) → Shortens longest mark mark
-shortens_same longest mark = record {
-  less = λ tree rest a b n some h. h;
-  all = λ tree rest a b n some last h. h;
-  well = λ tree time well. well;
-  takes = λ tree read can. can;
-}
+-- A list with a zone in it is not empty.
+abbrev is_filled : List ZoneBounds → Type 0
+is_filled [] = ⊥
+is_filled (zone ∷ zones) = Unit {0}
+
+filled : (zone : ZoneBounds) (zones : List ZoneBounds) → zone ∷ zones ≡ [] → ⊥
+filled zone zones is = subst is_filled is tt
 
 module _ (longest : Option ℕ) where
   abbrev D : ℕ → ℕ → Type 0
@@ -77,6 +80,12 @@ module _ (longest : Option ℕ) where
   short_begun time zones short is (fall state) begun = is.none begun
   short_begun time zones short is (event number) begun = is.none begun
 
+  short_last : (zones short : List ZoneBounds) → AreShort longest zones short
+      → LastUpTo longest short
+  short_last zones short is = record {
+    each = λ a b n some h. ((is.set.pairs a b n some).0 h).admitted;
+  }
+
   -- ---- atoms
 
   module _ (here here' begun begun' : List ZoneBounds) (first : AreShort longest here here')
@@ -119,6 +128,7 @@ module _ (longest : Option ℕ) where
       all = atom_all;
       well = atom_well;
       takes = λ tree read can. tt;
+      no_longer = (short_last here here' first, short_last begun begun' second);
     }
 
   -- ---- two parts
@@ -225,6 +235,7 @@ module _ (longest : Option ℕ) where
       all = sequence_all;
       well = sequence_well;
       takes = sequence_takes;
+      no_longer = (first.no_longer, second.no_longer);
     }
 
     pub shortens_alternation : Shortens longest (alternation_mark one other)
@@ -234,6 +245,7 @@ module _ (longest : Option ℕ) where
       all = alternation_all;
       well = alternation_well;
       takes = alternation_takes;
+      no_longer = (first.no_longer, second.no_longer);
     }
 
   -- ---- a repetition
@@ -306,7 +318,264 @@ module _ (longest : Option ℕ) where
       all = repetition_all;
       well = repetition_well;
       takes = repetition_takes;
+      no_longer = (short_last here here' first, inner.no_longer);
     }
+
+  -- ---- an intersection and a restriction
+
+  module _ (to to' : ℕ) (outer outer' : List ZoneBounds)
+      (drops : DropsLong longest to outer to' outer') where
+    around_less : (X : Pairs) (a b n : ℕ) → 0 < n → Composed (Held outer') X a b n
+        → Composed (Held outer) X a b n
+    around_less X a b n some h = record {
+      factor = h.factor;
+      positive = h.positive;
+      midpoint = h.midpoint;
+      left = drops.kept.less (h.factor * a) h.midpoint (h.factor * n) (mul-pos h.positive some)
+          h.left;
+      right = h.right;
+    }
+
+    around_all : (X : Pairs) → IsOrdered X → (a b n : ℕ) → 0 < n → D (b - a) n
+        → Composed (Held outer) X a b n → Composed (Held outer') X a b n
+    around_all X ordered a b n some last h =
+        let k = h.factor in
+        let m = h.midpoint in
+        record {
+          factor = k;
+          positive = h.positive;
+          midpoint = m;
+          left = drops.kept.more (k * a) m (k * n) (mul-pos h.positive some) h.left
+              (first_short (k * a) m (k * b) (k * n) (ordered.le m (k * b) (k * n) h.right)
+              (finer k a b n h.positive last));
+          right = h.right;
+        }
+
+    entered_still : (time : ℕ) → (outer' ≡ [] → ⊥) → IsEntered time to outer
+        → IsEntered time to' outer'
+    entered_still time filled is =
+        let latest = drops.latest is.latest in
+        let past = latest.first to (kept_ends (λ a m n. LastsUpTo longest (m - a) n)
+        (λ zone. IsLong longest zone → ⊥) to outer outer' drops.kept is.latest.ends) in
+        let before = is.past in
+        record { some = filled; past = omega (arith, past, before); latest = latest }
+
+    open_still : (read : Since) (admitted : ℕ → ℕ → Type 0) (mark : MarkTree) (tree : PatternTree)
+        → IsOpen read admitted outer mark tree → IsOpen read admitted outer' mark tree
+    open_still read admitted mark tree is = record {
+      sound = is.sound;
+      complete = λ next a m b n long some held from last h.
+          is.complete next a m b n long some (drops.kept.less a m n some held) from last h;
+    }
+
+    module _ (body : MarkTree) where
+      lasting_less : (tree : PatternTree) (rest : Rest) (a b n : ℕ) → 0 < n
+          → Marked rest (restriction_one to' outer' body) tree a b n
+          → Marked rest (restriction_one to outer body) tree a b n
+      lasting_less (restriction tree ends) rest a b n some h =
+          around_less (Lasting (LastsWithin ends) (Marked rest body tree)) a b n some h
+      lasting_less tree rest a b n some h = absurd h
+
+      lasting_all : (tree : PatternTree) (rest : Rest) (a b n : ℕ) → 0 < n → D (b - a) n
+          → Marked rest (restriction_one to outer body) tree a b n
+          → Marked rest (restriction_one to' outer' body) tree a b n
+      lasting_all (restriction tree ends) rest a b n some last h =
+          around_all (Lasting (LastsWithin ends) (Marked rest body tree))
+          (record { le = λ a b n h. (IsOrdered-Marked rest body tree).le a b n h.related })
+          a b n some last h
+      lasting_all tree rest a b n some last h = absurd h
+
+      lasting_well : (outer' ≡ [] → ⊥) → (tree : PatternTree) (time : ℕ)
+          → IsWellAt time (restriction_one to outer body) tree
+          → IsWellAt time (restriction_one to' outer' body) tree
+      lasting_well filled (restriction tree ends) time is = record {
+        well = (
+          entered_still time filled is.well.0,
+          drops.kept.recent time ends is.well.1,
+          is.well.2,
+          is.well.3,
+          is.well.4,
+        );
+      }
+      lasting_well filled (atom x) time is = absurd is.well
+      lasting_well filled (sequence left right) time is = absurd is.well
+      lasting_well filled (alternation left right) time is = absurd is.well
+      lasting_well filled (intersection left right) time is = absurd is.well
+      lasting_well filled (repetition tree) time is = absurd is.well
+
+      lasting_takes : (tree : PatternTree) (read : Since)
+          → CanTakeIn read (restriction_one to outer body) tree
+          → CanTakeIn read (restriction_one to' outer' body) tree
+      lasting_takes (restriction tree ends) read can =
+          (open_still read (LastsWithin ends) body tree can.0, can.1)
+      lasting_takes tree read can = tt
+
+      lasting_one : (outer' ≡ [] → ⊥)
+          → Shortens longest (restriction_one to outer body) (restriction_one to' outer' body)
+      lasting_one filled = record {
+        less = lasting_less;
+        all = lasting_all;
+        well = lasting_well filled;
+        takes = lasting_takes;
+        no_longer = drops.kept.each;
+      }
+
+      lasting_well_none : (tree : PatternTree) (time : ℕ)
+          → IsWellAt time (restriction_one to outer body) tree
+          → IsWellAt time restriction_none tree
+      lasting_well_none (restriction tree ends) time is = record { well = tt }
+      lasting_well_none (atom x) time is = absurd is.well
+      lasting_well_none (sequence left right) time is = absurd is.well
+      lasting_well_none (alternation left right) time is = absurd is.well
+      lasting_well_none (intersection left right) time is = absurd is.well
+      lasting_well_none (repetition tree) time is = absurd is.well
+
+      lasting_all_none : outer' ≡ [] → (tree : PatternTree) (rest : Rest) (a b n : ℕ) → 0 < n
+          → D (b - a) n → Marked rest (restriction_one to outer body) tree a b n
+          → Marked rest restriction_none tree a b n
+      lasting_all_none none (restriction tree ends) rest a b n some last h =
+          let x = lasting_all (restriction tree ends) rest a b n some last h in
+          absurd (no_pair outer' none (x.factor * a) x.midpoint (x.factor * n) x.left)
+      lasting_all_none none tree rest a b n some last h = absurd h
+
+      lasting_none : outer' ≡ []
+          → Shortens longest (restriction_one to outer body) restriction_none
+      lasting_none none = record {
+        less = λ tree rest a b n some h. absurd h;
+        all = lasting_all_none none;
+        well = lasting_well_none;
+        takes = λ tree read can. tt;
+        no_longer = tt;
+      }
+
+    module _ (one other : MarkTree) where
+      both_less : (tree : PatternTree) (rest : Rest) (a b n : ℕ) → 0 < n
+          → Marked rest (intersection_one to' outer' one other) tree a b n
+          → Marked rest (intersection_one to outer one other) tree a b n
+      both_less (intersection left right) rest a b n some h =
+          around_less (Both (Marked rest one left) (Marked rest other right)) a b n some h
+      both_less tree rest a b n some h = absurd h
+
+      both_all : (tree : PatternTree) (rest : Rest) (a b n : ℕ) → 0 < n → D (b - a) n
+          → Marked rest (intersection_one to outer one other) tree a b n
+          → Marked rest (intersection_one to' outer' one other) tree a b n
+      both_all (intersection left right) rest a b n some last h =
+          around_all (Both (Marked rest one left) (Marked rest other right))
+          (record { le = λ a b n h. (IsOrdered-Marked rest one left).le a b n h.left })
+          a b n some last h
+      both_all tree rest a b n some last h = absurd h
+
+      both_well : (outer' ≡ [] → ⊥) → (tree : PatternTree) (time : ℕ)
+          → IsWellAt time (intersection_one to outer one other) tree
+          → IsWellAt time (intersection_one to' outer' one other) tree
+      both_well filled (intersection left right) time is = record {
+        well = (
+          entered_still time filled is.well.0,
+          is.well.1,
+          is.well.2,
+          is.well.3,
+          is.well.4,
+        );
+      }
+      both_well filled (atom x) time is = absurd is.well
+      both_well filled (sequence left right) time is = absurd is.well
+      both_well filled (alternation left right) time is = absurd is.well
+      both_well filled (repetition tree) time is = absurd is.well
+      both_well filled (restriction tree ends) time is = absurd is.well
+
+      both_takes : (tree : PatternTree) (read : Since)
+          → CanTakeIn read (intersection_one to outer one other) tree
+          → CanTakeIn read (intersection_one to' outer' one other) tree
+      both_takes (intersection left right) read can = (
+        open_still read AnyDuration one left can.0,
+        open_still read AnyDuration other right can.1,
+        can.2,
+        can.3,
+      )
+      both_takes tree read can = tt
+
+      both_one : (outer' ≡ [] → ⊥) → Shortens longest (intersection_one to outer one other)
+          (intersection_one to' outer' one other)
+      both_one filled = record {
+        less = both_less;
+        all = both_all;
+        well = both_well filled;
+        takes = both_takes;
+        no_longer = drops.kept.each;
+      }
+
+      both_well_none : (tree : PatternTree) (time : ℕ)
+          → IsWellAt time (intersection_one to outer one other) tree
+          → IsWellAt time intersection_none tree
+      both_well_none (intersection left right) time is = record { well = tt }
+      both_well_none (atom x) time is = absurd is.well
+      both_well_none (sequence left right) time is = absurd is.well
+      both_well_none (alternation left right) time is = absurd is.well
+      both_well_none (repetition tree) time is = absurd is.well
+      both_well_none (restriction tree ends) time is = absurd is.well
+
+      both_all_none : outer' ≡ [] → (tree : PatternTree) (rest : Rest) (a b n : ℕ) → 0 < n
+          → D (b - a) n → Marked rest (intersection_one to outer one other) tree a b n
+          → Marked rest intersection_none tree a b n
+      both_all_none none (intersection left right) rest a b n some last h =
+          let x = both_all (intersection left right) rest a b n some last h in
+          absurd (no_pair outer' none (x.factor * a) x.midpoint (x.factor * n) x.left)
+      both_all_none none tree rest a b n some last h = absurd h
+
+      both_none : outer' ≡ []
+          → Shortens longest (intersection_one to outer one other) intersection_none
+      both_none none = record {
+        less = λ tree rest a b n some h. absurd h;
+        all = both_all_none none;
+        well = both_well_none;
+        takes = λ tree read can. tt;
+        no_longer = tt;
+      }
+
+  -- Behind nothing no zone is left.
+  none_left : (to to' : ℕ) (zone : ZoneBounds) (zones : List ZoneBounds)
+      → DropsLong longest to [] to' (zone ∷ zones) → ⊥
+  none_left to to' zone zones drops =
+      drops.kept.each 0 zone (omega arith)
+      (λ a b n some h last. Held-empty a b n (drops.kept.less a b n some (record {
+        rising = h.rising;
+        held = (SetHolds-append (zone ∷ []) zones a b n).1 (inl h.held);
+      })))
+
+  pub shortens_restriction : (to to' : ℕ) (outer outer' : List ZoneBounds) (body : MarkTree)
+      → DropsLong longest to outer to' outer'
+      → Shortens longest (restriction_of to outer body) (restriction_of to' outer' body)
+  shortens_restriction to to' [] [] body drops = record {
+    less = λ tree rest a b n some h. h;
+    all = λ tree rest a b n some last h. h;
+    well = λ tree time well. well;
+    takes = λ tree read can. can;
+    no_longer = tt;
+  }
+  shortens_restriction to to' [] (zone ∷ zones) body drops =
+      absurd (none_left to to' zone zones drops)
+  shortens_restriction to to' (zone ∷ zones) [] body drops =
+      lasting_none to to' (zone ∷ zones) [] drops body refl
+  shortens_restriction to to' (zone ∷ zones) (left ∷ others) body drops =
+      lasting_one to to' (zone ∷ zones) (left ∷ others) drops body (filled left others)
+
+  pub shortens_intersection : (to to' : ℕ) (outer outer' : List ZoneBounds) (one other : MarkTree)
+      → DropsLong longest to outer to' outer'
+      → Shortens longest (intersection_of to outer one other)
+      (intersection_of to' outer' one other)
+  shortens_intersection to to' [] [] one other drops = record {
+    less = λ tree rest a b n some h. h;
+    all = λ tree rest a b n some last h. h;
+    well = λ tree time well. well;
+    takes = λ tree read can. can;
+    no_longer = tt;
+  }
+  shortens_intersection to to' [] (zone ∷ zones) one other drops =
+      absurd (none_left to to' zone zones drops)
+  shortens_intersection to to' (zone ∷ zones) [] one other drops =
+      both_none to to' (zone ∷ zones) [] drops one other refl
+  shortens_intersection to to' (zone ∷ zones) (left ∷ others) one other drops =
+      both_one to to' (zone ∷ zones) (left ∷ others) drops one other (filled left others)
 
 -- ---- a restriction
 
@@ -317,6 +586,19 @@ still : (high : Option ℕ) (weak : Bool) (time m b n : ℕ) → time * n ≤ b
 still None weak time m b n late below = tt
 still (Some high) true time m b n late below = omega (arith, late, below)
 still (Some high) false time m b n late below = omega (arith, late, below)
+
+-- What is in the interval lasts up to its upper end.
+below_high : (high : Option ℕ) (weak : Bool) (d n : ℕ)
+    → MatchOption high (Unit {0}) (λ high. MatchBool weak (d ≤ high * n) (d < high * n))
+    → MatchOption high (Unit {0}) (λ high. d ≤ high * n)
+below_high None weak d n below = tt
+below_high (Some high) true d n below = below
+below_high (Some high) false d n below = omega (arith, below)
+
+pub lasts_high : (interval : IntervalEnds) (d n : ℕ) → LastsWithin interval d n
+    → LastsUpTo interval.high d n
+lasts_high interval d n last =
+    record { within = below_high interval.high interval.high_weak d n last.1 }
 
 module _ (time : ℕ) (interval : IntervalEnds) (longest : Option ℕ)
     (outer recent : List ZoneBounds) (body short mark : MarkTree)

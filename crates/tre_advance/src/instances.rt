@@ -1,21 +1,21 @@
 // What an intersection or a restriction tells that has begun, and what is left of it.
-ghost use Rattle.std.specs.Prelude.{◌≡◌, ◌≤◌, ◌↔◌, List, [], IsTrue, OnOk};
+ghost use Rattle.std.specs.Prelude.{◌≡◌, ◌≤◌, ◌↔◌, All, List, [], IsTrue, OnOk};
 ghost use Rattle.tre_pairs.specs.Pairs.{Composed, Either, Both, Lasting};
 ghost use Rattle.tre_syntax.specs.Expr.{tree_of};
 ghost use Rattle.tre_syntax.specs.PatternTree.{PatternTree, intersection, restriction};
-ghost use Rattle.tre_zone.specs.Interval.{LastsWithin};
+ghost use Rattle.tre_zone.specs.Interval.{IntervalEnds, LastsWithin};
 ghost use Rattle.tre_zone.specs.Held.{Held, EndBy, IsLatest, IsSetOf};
 ghost use Rattle.tre_zone.specs.ZoneList.{SetHolds, HoldExactly};
 ghost use Rattle.tre_zone.specs.declared.zone_bounds.ZoneBounds.{ZoneBounds};
 ghost use Rattle.tre_edges.specs.Piece.{end_of_piece};
 ghost use Rattle.tre_mark.specs.MarkTree.{MarkTree, mark_of, intersection_of, restriction_of};
-ghost use Rattle.tre_mark.specs.Marked.{EndBetween, IsWellAt, IsUnbegun};
+ghost use Rattle.tre_mark.specs.Marked.{EndBetween, IsRecent, IsShort, IsWellAt, IsUnbegun};
 ghost use Rattle.tre_advance.specs.Adds.{Adds};
 ghost use Rattle.tre_advance.specs.Advance.{Advances};
 ghost use Rattle.tre_advance.specs.Instances.{IsRestriction, IsIntersection, LeavesRestriction, LeavesIntersection};
 ghost use Rattle.tre_advance.specs.Moves.{AreMomentsFor, AreInstants};
 
-use crate::shortening::{is_past, keep_recent, shorten};
+use crate::shortening::{keep_recent, shorten};
 use crate::vectors::{gather_each, gather_meets, is_none, known, unite};
 use std::alloc::{AllocError, Global};
 use tre_edges::Piece;
@@ -175,17 +175,19 @@ fn leave_lasting(
     ensures { OnOk result (LeavesRestriction time interval.now outer.old.items (mark_of inner.old)
         (restriction_of to.new outer.new.items (mark_of inner.new))) }
 {
-    let longest = interval.up_to(None);
+    let longest = interval.high();
     keep_recent(outer, &mut room.aux, interval, time)?;
     shorten(inner, longest)?;
-    keep_lasting(to, outer, inner, interval, time);
+    keep_lasting(to, outer, inner, time);
     Ok(())
 }
 
 // What is kept of it.
-fn keep_lasting(to: &mut u64, outer: &mut Vec<Zone>, body: &Mark, interval: &Interval, time: u64)
+fn keep_lasting(to: &mut u64, outer: &mut Vec<Zone>, body: &Mark, time: u64)
     requires { EndBy time outer.old.items }
-    ensures { LeavesRestriction time interval.now outer.old.items (mark_of body.now)
+    ensures { (interval : IntervalEnds) → All (IsRecent time interval) outer.old.items
+        → IsShort interval.high (mark_of body.now)
+        → LeavesRestriction time interval outer.old.items (mark_of body.now)
         (restriction_of to.new outer.new.items (mark_of body.now)) }
 {
     if is_none(outer) {
@@ -195,12 +197,7 @@ fn keep_lasting(to: &mut u64, outer: &mut Vec<Zone>, body: &Mark, interval: &Int
         outer.clear();
         return;
     }
-    let last = ended_by(outer, time);
-    if is_past(last, interval, time) {
-        outer.clear();
-        return;
-    }
-    *to = last;
+    *to = ended_by(outer, time);
 }
 
 // The first tick by which each pair of the zones has ended.

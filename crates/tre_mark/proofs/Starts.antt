@@ -1,6 +1,8 @@
 -- Marks of which nothing has begun, and marks that start.
-use Rattle.std.proofs.Common.{◌≡◌, ◌∙◌, ℕ, ◌*◌, ◌≤◌, ◌<◌, List, [], ◌∷◌, Option, None, Some, MatchOption, ◌+◌, ap, subst, refl, sym, inl, ⊎_elim, arith}
-use Rattle.std.proofs.Math.Nat.{mul-pos}
+use Rattle.std.proofs.Common.{◌≡◌, ◌∙◌, ℕ, ◌*◌, ◌≤◌, ◌<◌, List, [], ◌∷◌, Option, None, Some, MatchOption, ◌+◌, ◌-◌, ap, subst, refl, sym, inl, inr, ⊎_elim, arith}
+use Rattle.std.proofs.Math.Nat.{mul-pos, le_of_mul-le-mul_right}
+use Rattle.std.specs.List.{AllByRecursion}
+use Rattle.std.proofs.lemmas.List.Elements.{All-from_recursion}
 use Rattle.tre_pairs.specs.Cuts.{JoinedAt}
 use Rattle.tre_pairs.specs.Pairs.{Pairs, Composed, Both, Lasting}
 use Rattle.tre_pairs.proofs.Laws.{Scales, Agree}
@@ -15,13 +17,14 @@ use Rattle.tre_syntax.proofs.CutMeaning.{Scales-rest}
 use Rattle.tre_syntax.proofs.MeaningLaws.{DurationScales-LastsWithin}
 use Rattle.tre_trace.specs.Trace.{Timeline}
 use Rattle.tre_zone.specs.Interval.{IntervalEnds, LastsWithin}
-use Rattle.tre_zone.specs.Zone.{IsInstantBetween}
+use Rattle.tre_zone.specs.Longest.{LastsUpTo}
+use Rattle.tre_zone.specs.Zone.{IsInstantBetween, HoldsSome}
 use Rattle.tre_zone.specs.ZoneList.{SetHolds, AreTight, HoldExactly}
 use Rattle.tre_zone.proofs.LatestEnds.{latest_at}
 use Rattle.tre_zone.proofs.ZoneListLemmas.{SetHolds-empty}
 use Rattle.tre_zone.specs.declared.zone_bounds.ZoneBounds.{ZoneBounds}
 use Rattle.tre_mark.specs.MarkTree.{MarkTree, atom_mark, sequence_mark, alternation_mark, repetition_mark, intersection_none, intersection_one, restriction_none, restriction_one, intersection_of, restriction_of}
-use Rattle.tre_mark.specs.Marked.{Since, since, cut_since, IsOpen, AnyDuration, CanTakeIn, Marked, IsBare, IsBegun, IsNothing, IsUnbegun, IsEntered, IsEnteredAt, IsInReach, IsStart}
+use Rattle.tre_mark.specs.Marked.{Since, since, cut_since, IsOpen, AnyDuration, CanTakeIn, Marked, IsBare, IsBegun, IsNothing, IsUnbegun, IsEntered, IsEnteredAt, IsLong, LastUpTo, IsRecent, IsShort, IsStart}
 use Rattle.tre_mark.proofs.Agreeing.{agree_refl, agree_sym, agree_then, agree_composed, agree_assoc, joined_composed}
 
 pub end_at_none : (time : ℕ) → EndAt time []
@@ -158,6 +161,27 @@ bare_entered time (intersection_one to outer one other) bare = absurd bare
 bare_entered time restriction_none bare = tt
 bare_entered time (restriction_one to outer body) bare = absurd bare
 
+-- Nothing of it lasts too long.
+none_last : (longest : Option ℕ) (zones : List ZoneBounds) → zones ≡ [] → LastUpTo longest zones
+none_last longest zones none = record {
+  each = λ a b n some h.
+      absurd (Held-empty a b n (subst (λ (list : List ZoneBounds). Held list a b n) none h));
+}
+
+pub bare_short : (longest : Option ℕ) (mark : MarkTree) → IsBare mark → IsShort longest mark
+bare_short longest (atom_mark here begun) bare =
+    (none_last longest here bare.0, none_last longest begun bare.1)
+bare_short longest (sequence_mark one other) bare =
+    (bare_short longest one bare.0, bare_short longest other bare.1)
+bare_short longest (alternation_mark one other) bare =
+    (bare_short longest one bare.0, bare_short longest other bare.1)
+bare_short longest (repetition_mark here body) bare =
+    (none_last longest here bare.0, bare_short longest body bare.1)
+bare_short longest intersection_none bare = tt
+bare_short longest (intersection_one to outer one other) bare = absurd bare
+bare_short longest restriction_none bare = tt
+bare_short longest (restriction_one to outer body) bare = absurd bare
+
 -- It can take in whatever begins later.
 pub bare_open : (read : Since) (mark : MarkTree) (tree : PatternTree) → IsBare mark
     → CanTakeIn read mark tree
@@ -193,6 +217,7 @@ module _ (time : ℕ) (zones : List ZoneBounds) (ends : EndAt time zones) where
     entered = tt;
     some = λ filled bare. filled bare.0;
     takes = λ before. tt;
+    short = λ longest last. (last, none_last longest [] refl);
   }
 
   pub start_sequence : (one other : MarkTree) (left right : PatternTree)
@@ -222,6 +247,7 @@ module _ (time : ℕ) (zones : List ZoneBounds) (ends : EndAt time zones) where
     some = λ filled bare. first.some filled bare.0;
     takes = λ before.
         (first.takes before, bare_open (since time before []) other right second.bare);
+    short = λ longest last. (first.short longest last, bare_short longest other second.bare);
   }
 
   pub start_repetition : (body : MarkTree) (tree : PatternTree) → IsUnbegun body tree
@@ -238,6 +264,7 @@ module _ (time : ℕ) (zones : List ZoneBounds) (ends : EndAt time zones) where
     entered = bare_entered time body inner.bare;
     some = λ filled bare. filled bare.0;
     takes = λ before. bare_open (since time before []) body tree inner.bare;
+    short = λ longest last. (last, bare_short longest body inner.bare);
   }
 
   entered_now : AreTight zones → (zones ≡ [] → ⊥) → IsEntered time time zones
@@ -290,15 +317,80 @@ start_nothing time zones mark tree none unbegun = record {
   entered = bare_entered time mark unbegun.bare;
   some = λ filled bare. filled none;
   takes = λ before. bare_open (since time before []) mark tree unbegun.bare;
+  short = λ longest last. bare_short longest mark unbegun.bare;
 }
 
-in_reach_of : (time : ℕ) (high : Option ℕ)
-    → MatchOption high (Unit {0}) (λ high. time ≤ time + high)
-in_reach_of time None = tt
-in_reach_of time (Some high) = omega arith
+in_reach_of : (time bound : ℕ) (high : Option ℕ) → time ≤ bound
+    → MatchOption high (Unit {0}) (λ high. time ≤ bound + high)
+in_reach_of time bound None le = tt
+in_reach_of time bound (Some high) le = omega (arith, le)
 
-in_reach : (time : ℕ) (interval : IntervalEnds) → IsInReach time time interval
-in_reach time interval = in_reach_of time interval.high
+-- A zone with a pair that ends at the time is recent.
+recent_at : (time : ℕ) (interval : IntervalEnds) (zone : ZoneBounds) → HoldsSome zone
+    → EndAt time (zone ∷ []) → IsRecent time interval zone
+unfolding SetHolds
+recent_at time interval zone some ends bound by =
+    let held : Held (zone ∷ []) some.a some.b some.n =
+    record { rising = some.rising; held = inl some.held } in
+    let at = ends.ends some.a some.b some.n some.some held in
+    let before = by.ends some.a some.b some.n some.some held in
+    in_reach_of time bound interval.high
+    (le_of_mul-le-mul_right (omega (arith, at, before)) some.some)
+
+all_recent : (time : ℕ) (interval : IntervalEnds) (zones : List ZoneBounds) → AreTight zones
+    → EndAt time zones → AllByRecursion (IsRecent time interval) zones
+unfolding AreTight SetHolds
+all_recent time interval [] tight ends = tt
+all_recent time interval (zone ∷ zones) tight ends = (
+  recent_at time interval zone tight.0.0 (record {
+    ends = λ a b n some h. ends.ends a b n some (record {
+      rising = h.rising;
+      held = ⊎_elim (λ x. inl x) (λ x. absurd x) h.held;
+    });
+  }),
+  all_recent time interval zones tight.1 (record {
+    ends = λ a b n some h. ends.ends a b n some (record { rising = h.rising; held = inr h.held });
+  }),
+)
+
+-- A zone with a pair that isn't too long is kept.
+some_short : (longest : Option ℕ) (zone : ZoneBounds) → HoldsSome zone
+    → LastUpTo longest (zone ∷ []) → IsLong longest zone → ⊥
+unfolding SetHolds
+some_short longest zone some last long =
+    let held : Held (zone ∷ []) some.a some.b some.n =
+    record { rising = some.rising; held = inl some.held } in
+    long some.a some.b some.n some.some held (last.each some.a some.b some.n some.some held)
+
+all_short : (longest : Option ℕ) (zones : List ZoneBounds) → AreTight zones
+    → LastUpTo longest zones → AllByRecursion (λ zone. IsLong longest zone → ⊥) zones
+unfolding AreTight SetHolds
+all_short longest [] tight last = tt
+all_short longest (zone ∷ zones) tight last = (
+  some_short longest zone tight.0.0 (record {
+    each = λ a b n some h. last.each a b n some (record {
+      rising = h.rising;
+      held = ⊎_elim (λ x. inl x) (λ x. absurd x) h.held;
+    });
+  }),
+  all_short longest zones tight.1 (record {
+    each = λ a b n some h. last.each a b n some (record { rising = h.rising; held = inr h.held });
+  }),
+)
+
+-- A moment lasts no time.
+lasts_none : (longest : Option ℕ) (d n : ℕ) → d ≡ 0
+    → MatchOption longest (Unit {0}) (λ high. d ≤ high * n)
+lasts_none None d n is = tt
+lasts_none (Some high) d n is = omega (arith, is)
+
+moment_short : (longest : Option ℕ) (time : ℕ) (moment : List ZoneBounds)
+    → HoldExactly moment (IsInstantBetween time time) → LastUpTo longest moment
+moment_short longest time moment held = record {
+  each = λ a b n some h.
+      let same = ((held.exact a b n some h.rising).0 h.held).same in
+      record { within = lasts_none longest (b - a) n (omega (arith, same)) };
+}
 
 -- A mark that starts at a moment stands there for the matches of what comes.
 module _ (time : ℕ) (moment : List ZoneBounds) (held : HoldExactly moment
@@ -377,9 +469,11 @@ module _ (time : ℕ) (zones : List ZoneBounds) (tight : AreTight zones)
     well = record {
       well = (
         entered_now time zones ends tight filled,
-        in_reach time interval,
+        All-from_recursion (IsRecent time interval) zones
+            (all_recent time interval zones tight ends),
         start.well.well,
         start.some (moment_some time moment held),
+        start.short interval.high (moment_short interval.high time moment held),
       );
     };
     entered = (refl, ends, start.entered);
@@ -388,6 +482,8 @@ module _ (time : ℕ) (zones : List ZoneBounds) (tight : AreTight zones)
       start_open time moment held body tree start before (LastsWithin interval) zones,
       start.takes before,
     );
+    short = λ longest last. All-from_recursion (λ zone. IsLong longest zone → ⊥) zones
+        (all_short longest zones tight last);
   }
 
   pub start_intersection : (one other : MarkTree) (left right : PatternTree)
@@ -428,6 +524,8 @@ module _ (time : ℕ) (zones : List ZoneBounds) (tight : AreTight zones)
       first.takes before,
       second.takes before,
     );
+    short = λ longest last. All-from_recursion (λ zone. IsLong longest zone → ⊥) zones
+        (all_short longest zones tight last);
   }
 
 -- ---- the same under other names

@@ -1,8 +1,8 @@
 -- What a mark means over a rest of a trace, and when it is well.
-use Rattle.std.specs.Prelude.{◌≡◌, ℕ, ◌+◌, ◌-◌, ◌*◌, ◌<◌, ◌≤◌, ◌↔◌, List, [], MatchOption, Option}
+use Rattle.std.specs.Prelude.{◌≡◌, ℕ, ◌+◌, ◌-◌, ◌*◌, ◌<◌, ◌≤◌, ◌↔◌, All, List, [], ◌∷◌, MatchOption, Option}
 use Rattle.tre_pairs.specs.Cuts.{IsMoment, JoinedAt}
 use Rattle.tre_pairs.specs.Pairs.{Pairs, Composed, Either, Both, Lasting}
-use Rattle.tre_zone.specs.Held.{Held, EndAt, IsLatest}
+use Rattle.tre_zone.specs.Held.{Held, EndAt, EndBy, IsLatest}
 use Rattle.tre_syntax.specs.Cut.{CutRest, uncut, back_of, MatchesAcross}
 use Rattle.tre_syntax.specs.Meaning.{MatchesRest}
 use Rattle.tre_syntax.specs.PatternTree.{Atom, PatternTree, empty, literal, rise, fall, event, atom, sequence, alternation, intersection, repetition, restriction}
@@ -10,6 +10,7 @@ use Rattle.tre_syntax.specs.Rest.{Rest, rest_of}
 use Rattle.tre_trace.specs.Trace.{Timeline, AreLong}
 use Rattle.tre_trace.specs.declared.segment.Segment.{Segment}
 use Rattle.tre_zone.specs.Interval.{IntervalEnds, LastsWithin}
+use Rattle.tre_zone.specs.Longest.{LastsUpTo}
 use Rattle.tre_zone.specs.declared.zone_bounds.ZoneBounds.{ZoneBounds}
 use Rattle.tre_mark.specs.MarkTree.{MarkTree, atom_mark, sequence_mark, alternation_mark, repetition_mark, intersection_none, intersection_one, restriction_none, restriction_one}
 
@@ -107,6 +108,11 @@ pub record IsEntered (time to : ℕ) (outer : List ZoneBounds) : Type 0 where
 abbrev pub IsInReach : ℕ → ℕ → IntervalEnds → Type 0
 IsInReach time to ends = MatchOption ends.high (Unit {0}) (λ high. time ≤ to + high)
 
+-- What begins behind the last pairs of the zone may still be in the interval where it ends at the
+-- time or later.
+abbrev pub IsRecent : ℕ → IntervalEnds → ZoneBounds → Type 0
+IsRecent time ends zone = (bound : ℕ) → EndBy bound (zone ∷ []) → IsInReach time bound ends
+
 -- Which pairs an atom keeps as begun: those of a literal end at the time, and others have none.
 abbrev pub IsBegun : ℕ → List ZoneBounds → Atom → Type 0
 IsBegun time begun empty = begun ≡ []
@@ -127,9 +133,30 @@ IsBare (intersection_one to outer one other) = ⊥
 IsBare restriction_none = Unit {0}
 IsBare (restriction_one to outer body) = ⊥
 
+-- Each pair of the zones lasts up to the longest duration.
+pub record LastUpTo (longest : Option ℕ) (zones : List ZoneBounds) : Type 0 where
+  pub each : (a b n : ℕ) → 0 < n → Held zones a b n → LastsUpTo longest (b - a) n
+
+-- Each pair of the zone lasts longer.
+abbrev pub IsLong : Option ℕ → ZoneBounds → Type 0
+IsLong longest zone = (a b n : ℕ) → 0 < n → Held (zone ∷ []) a b n → LastsUpTo longest (b - a) n → ⊥
+
+-- No pair that is here or has begun lasts longer than that, and an intersection or a restriction
+-- inside, whose own interval says what it keeps, began behind no zone that does.
+abbrev pub IsShort : Option ℕ → MarkTree → Type 0
+IsShort longest (atom_mark here begun) = LastUpTo longest here × LastUpTo longest begun
+IsShort longest (sequence_mark one other) = IsShort longest one × IsShort longest other
+IsShort longest (alternation_mark one other) = IsShort longest one × IsShort longest other
+IsShort longest (repetition_mark here body) = LastUpTo longest here × IsShort longest body
+IsShort longest intersection_none = Unit {0}
+IsShort longest (intersection_one to outer one other) = All (λ zone. IsLong longest zone → ⊥) outer
+IsShort longest restriction_none = Unit {0}
+IsShort longest (restriction_one to outer body) = All (λ zone. IsLong longest zone → ⊥) outer
+
 -- The mark has the shape of the expression, and each pair that is here or has begun ends at the
 -- time. Each intersection and each restriction that has begun was entered up to then, and has
--- something left of each of its marks; a restriction is not too old.
+-- something left of each of its marks. Behind no zone of a restriction everything is too old, and
+-- nothing in it lasts longer than its upper end.
 abbrev pub IsWell : ℕ → MarkTree → PatternTree → Type 0
 IsWell time (atom_mark here begun) (atom x) = EndAt time here × IsBegun time begun x
 IsWell time (sequence_mark one other) (sequence left right) =
@@ -143,7 +170,8 @@ IsWell time (intersection_one to outer one other) (intersection left right) =
     × (IsBare one → ⊥) × (IsBare other → ⊥)
 IsWell time restriction_none (restriction tree ends) = Unit {0}
 IsWell time (restriction_one to outer body) (restriction tree ends) =
-    IsEntered time to outer × IsInReach time to ends × IsWell time body tree × (IsBare body → ⊥)
+    IsEntered time to outer × All (IsRecent time ends) outer × IsWell time body tree
+    × (IsBare body → ⊥) × IsShort ends.high body
 IsWell time mark tree = ⊥
 
 -- The mark is one of the expression at the time.
@@ -175,7 +203,7 @@ IsEnteredAt time (restriction_one to outer body) =
 
 -- The mark stands for a pair of the set up to the time, and then a match of what comes, and is well
 -- there, entered at that time. Where there are pairs, something is left of it. It can take in what
--- begins later, whatever held before.
+-- begins later, whatever held before, and lasts no longer than the pairs of the set do.
 pub record IsStart (time : ℕ) (zones : List ZoneBounds) (mark : MarkTree) (tree : PatternTree)
     : Type 0 where
   pub pairs : (before : Option ℕ) (next : Timeline) (a b n : ℕ) → 0 < n
@@ -185,3 +213,4 @@ pub record IsStart (time : ℕ) (zones : List ZoneBounds) (mark : MarkTree) (tre
   pub entered : IsEnteredAt time mark
   pub some : (zones ≡ [] → ⊥) → IsBare mark → ⊥
   pub takes : (before : Option ℕ) → CanTakeIn (since time before []) mark tree
+  pub short : (longest : Option ℕ) → LastUpTo longest zones → IsShort longest mark

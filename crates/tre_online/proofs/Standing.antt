@@ -19,7 +19,7 @@ use Rattle.tre_syntax.proofs.CutMeaning.{IsCut-Matches, IsBounded-rest, IsOrdere
 use Rattle.tre_trace.specs.Trace.{Timeline, quiet, AreLong, end_of, Fits}
 use Rattle.tre_trace.specs.declared.segment.Segment.{Segment}
 use Rattle.tre_trace.proofs.Segments.{end_of-append, IsTrace-push}
-use Rattle.tre_zone.specs.Zone.{IsInstantBetween}
+use Rattle.tre_zone.specs.Zone.{ZoneHolds, IsInstantBetween}
 use Rattle.tre_zone.specs.ZoneList.{SetHolds, HoldExactly}
 use Rattle.tre_zone.specs.declared.zone_bounds.ZoneBounds.{ZoneBounds}
 use Rattle.tre_zone.proofs.ZoneListLemmas.{SetHolds-empty, AreCanonical-tight}
@@ -336,6 +336,19 @@ AreMoments-of from to zones exact = record {
     end = λ a b n some h. ((exact.exact a b n some h.rising).0 h.held).ends;
   };
 }
+
+-- One zone of them.
+pub moments_one : (from to : ℕ) (zone : ZoneBounds)
+    → ((a b n : ℕ) → 0 < n → ZoneHolds zone a b n ↔ IsInstantBetween from to a b n)
+    → AreMoments from to (zone ∷ [])
+unfolding SetHolds
+moments_one from to zone held = AreMoments-of from to (zone ∷ []) (record {
+  exact = λ a b n some le.
+      let same = held a b n some in (
+        (λ x. same.0 (⊎_elim (λ y. y) (λ y. absurd y) x)),
+        (λ x. inl (same.1 x)),
+      );
+})
 
 -- The same, said of what is equal.
 takes_same : (time time' : ℕ) (before before' : Option ℕ) (mark mark' : MarkTree)

@@ -1,17 +1,19 @@
 -- That a mark is well can be so in one way only: so a session may keep it.
-use Rattle.std.specs.Prelude.{◌≡◌, ℕ, ◌+◌, ◌*◌, ◌<◌, ◌≤◌, Option, Some, None, MatchOption, List, [], Box}
+use Rattle.std.specs.Prelude.{◌≡◌, All, ℕ, ◌+◌, ◌-◌, ◌*◌, ◌<◌, ◌≤◌, Option, Some, None, MatchOption, List, [], Box}
 use Rattle.std.specs.Global.{Global}
 use Rattle.std.specs.Coded.{Coded-set, ×_prop, Π_prop, →_prop, Unit-prop, le_prop, coded_list}
 use native.Mathlib.Nat.{ℕ_set}
 use mathlib.Core.Path.{ap}
 use Rattle.tre_zone.specs.Held.{Held, EndAt, EndBy, IsLatest}
+use Rattle.tre_zone.specs.Interval.{IntervalEnds}
+use Rattle.tre_zone.specs.Longest.{LastsUpTo}
 use Rattle.tre_syntax.specs.Pattern.{pattern_tree}
 use Rattle.tre_syntax.specs.PatternTree.{Atom, PatternTree, empty, literal, rise, fall, event, atom, sequence, alternation, intersection, repetition, restriction}
 use Rattle.tre_syntax.specs.declared.pattern.Pattern.{Pattern}
 use Rattle.tre_zone.specs.contracts.zone_bounds.ZoneBounds as zone_bounds
 use Rattle.tre_zone.specs.declared.zone_bounds.ZoneBounds.{ZoneBounds}
 use Rattle.tre_mark.specs.MarkTree.{MarkTree, atom_mark, sequence_mark, alternation_mark, repetition_mark, intersection_none, intersection_one, restriction_none, restriction_one, mark_of}
-use Rattle.tre_mark.specs.Marked.{IsBare, IsEntered, IsBegun, IsWell, IsWellAt}
+use Rattle.tre_mark.specs.Marked.{IsBare, IsEntered, IsLong, LastUpTo, IsRecent, IsShort, IsBegun, IsWell, IsWellAt}
 use Rattle.tre_online.specs.declared.session.Progress.{Progress}
 
 zones_set : IsSet (List ZoneBounds)
@@ -50,6 +52,43 @@ IsProp-reach : (time to : ℕ) (high : Option ℕ)
 IsProp-reach time to None = Unit-prop
 IsProp-reach time to (Some high) = le_prop
 
+IsProp-recent : (time : ℕ) (ends : IntervalEnds) (outer : List ZoneBounds)
+    → IsProp (All (IsRecent time ends) outer)
+IsProp-recent time ends outer = Π_prop (λ k. Π_prop (λ d. →_prop (Π_prop (λ bound.
+    →_prop (IsProp-reach time bound ends.high)))))
+
+IsProp-last : (longest : Option ℕ) (d n : ℕ) → IsProp (LastsUpTo longest d n)
+IsProp-last None d n x y =
+    ap (λ (u : Unit {0}). record { within = u }) (Unit-prop x.within y.within)
+IsProp-last (Some high) d n x y =
+    ap (λ (le : d ≤ high * n). record { within = le }) (le_prop x.within y.within)
+
+IsProp-LastUpTo : (longest : Option ℕ) (zones : List ZoneBounds)
+    → IsProp (LastUpTo longest zones)
+IsProp-LastUpTo longest zones x y =
+    ap (λ (f : (a b n : ℕ) → 0 < n → Held zones a b n → LastsUpTo longest (b - a) n).
+    record { each = f })
+    (Π_prop (λ a. Π_prop (λ b. Π_prop (λ n.
+    →_prop (→_prop (IsProp-last longest (b - a) n))))) x.each y.each)
+
+IsProp-none_long : (longest : Option ℕ) (zones : List ZoneBounds)
+    → IsProp (All (λ zone. IsLong longest zone → ⊥) zones)
+IsProp-none_long longest zones = Π_prop (λ k. Π_prop (λ d. →_prop (→_prop (λ x. absurd x))))
+
+IsProp-IsShort : (longest : Option ℕ) (mark : MarkTree) → IsProp (IsShort longest mark)
+IsProp-IsShort longest (atom_mark here begun) =
+    ×_prop (IsProp-LastUpTo longest here) (IsProp-LastUpTo longest begun)
+IsProp-IsShort longest (sequence_mark one other) =
+    ×_prop (IsProp-IsShort longest one) (IsProp-IsShort longest other)
+IsProp-IsShort longest (alternation_mark one other) =
+    ×_prop (IsProp-IsShort longest one) (IsProp-IsShort longest other)
+IsProp-IsShort longest (repetition_mark here body) =
+    ×_prop (IsProp-LastUpTo longest here) (IsProp-IsShort longest body)
+IsProp-IsShort longest intersection_none = Unit-prop
+IsProp-IsShort longest (intersection_one to outer one other) = IsProp-none_long longest outer
+IsProp-IsShort longest restriction_none = Unit-prop
+IsProp-IsShort longest (restriction_one to outer body) = IsProp-none_long longest outer
+
 IsProp-IsBegun : (time : ℕ) (begun : List ZoneBounds) (x : Atom) → IsProp (IsBegun time begun x)
 IsProp-IsBegun time begun empty = zones_set begun []
 IsProp-IsBegun time begun (literal state) = IsProp-EndAt time begun
@@ -79,10 +118,11 @@ IsProp-form time restriction_none (restriction tree ends) = Unit-prop
 IsProp-form time (restriction_one to outer body) (restriction tree ends) =
     λ u v.
     let entered = IsProp-IsEntered time to outer u.0 v.0 in
-    let reach = IsProp-reach time to ends.high u.1 v.1 in
+    let reach = IsProp-recent time ends outer u.1 v.1 in
     let first = IsProp-form time body tree u.2 v.2 in
     let body_left = IsProp-never (IsBare body) u.3 v.3 in
-    λ i. (entered i, reach i, first i, body_left i)
+    let short = IsProp-IsShort ends.high body u.4 v.4 in
+    λ i. (entered i, reach i, first i, body_left i, short i)
 IsProp-form time mark tree = λ x. absurd x
 
 IsProp-IsWellAt : (time : ℕ) (mark : MarkTree) (tree : PatternTree)

@@ -4,12 +4,14 @@ ghost use Rattle.tre_online.specs.Well.{IsWellNow, IsProp-IsWellNow};
 
 use crate::told::not_told;
 use std::alloc::{AllocError, Global};
+use std::mem;
 use tre_advance::{advance, close};
 use tre_edges::Piece;
 use tre_mark::{Mark, moments};
 use tre_pairs::TIME_MAX;
 use tre_syntax::Pattern;
 use tre_trace::{PushFault, Segment};
+use tre_zone::Zone;
 use tre_zoneset::ZoneSet;
 
 /// The matches of a pattern over a trace that is still coming.
@@ -33,6 +35,8 @@ pub struct Progress {
     last: Option<u64>,
     ended: ZoneSet,
     mark: Mark,
+    // What was told before that: its memory is used again.
+    room: Vec<Zone>,
 }
 
 impl Session {
@@ -65,6 +69,7 @@ impl Session {
             last: None,
             ended,
             mark,
+            room: Vec::new(alloc),
         };
         let progress = Box::new(alloc, first)?;
         Ok(Session {
@@ -233,6 +238,7 @@ impl Session {
             last: progress.last,
             ended,
             mark,
+            room: Vec::new(self.alloc),
         };
         let copy = Box::new(self.alloc, same)?;
         Ok(copy)
@@ -252,36 +258,34 @@ impl Session {
             (mark_of progress.new.mark)) }
         ensures behind { IfOk result (λ told. IsBehind piece.now told progress.new) }
     {
-        let found = Session::found(alloc, pattern, &mut progress.mark, piece)?;
+        let room = mem::replace(&mut progress.room, Vec::new(alloc));
+        let found = Session::found(alloc, pattern, &mut progress.mark, piece, room)?;
         let told = not_told(alloc, found, &progress.ended)?;
-        progress.ended = told.try_clone()?;
+        let copy = told.try_clone()?;
+        let earlier = mem::replace(&mut progress.ended, copy);
+        progress.room = earlier.into_zones();
         progress.at = piece.begin + piece.segment.len;
         progress.last = Some(piece.segment.val);
         Ok(told)
     }
 
-    // What the mark tells of the piece, over which it goes, as a set.
+    // What the mark tells of the piece, over which it goes, as a set made in the room.
     fn found(
         alloc: Global,
         pattern: &Pattern,
         mark: &mut Mark,
         piece: &Piece,
+        room: Vec<Zone>,
     ) -> Result<ZoneSet, AllocError>
         requires { IsWellAt piece.now.begin (mark_of mark.old) (pattern_tree pattern.now) }
         ensures { IfOk result (λ found. Finds (mark_of mark.old) (pattern_tree pattern.now)
             piece.now found (mark_of mark.new)) }
     {
         let end = piece.begin + piece.segment.len;
-        let entering = Session::moments(alloc, piece.begin, end)?;
-        let mut told = Vec::new(alloc);
-        advance(
-            alloc,
-            mark,
-            pattern.expr(),
-            entering.zones(),
-            piece,
-            &mut told,
-        )?;
+        let entering = [Zone::instants(piece.begin, end)];
+        let mut told = room;
+        told.clear();
+        advance(alloc, mark, pattern.expr(), &entering, piece, &mut told)?;
         let found = ZoneSet::of_zones(alloc, told)?;
         // For the proof: the call says that it is a set of zones.
         let _found = found.zones();

@@ -1,8 +1,8 @@
 -- Each form is short where its parts are.
 use Rattle.std.proofs.Common.{◌≡◌, ◌∙◌, ap, refl, sym}
 use Rattle.std.proofs.lemmas.Result.{on_ok_weaker}
-use Rattle.tre_mark.specs.MarkTree.{mark_of, atom_mark, sequence_mark, repetition_mark}
-use Rattle.tre_advance.proofs.Shortenings.{shortens_atom, shortens_sequence, shortens_repetition, shortens_moved}
+use Rattle.tre_mark.specs.MarkTree.{mark_of, atom_mark, sequence_mark, repetition_mark, intersection_of, restriction_of}
+use Rattle.tre_advance.proofs.Shortenings.{shortens_atom, shortens_sequence, shortens_repetition, shortens_intersection, shortens_restriction, shortens_moved}
 use Rattle.tre_advance.proofs.shortening.+shorten.Goals as goal
 
 pub returns-in_ok-short-in-Atom : goal.returns-in_ok-short-in-Atom
@@ -49,3 +49,32 @@ returns-in_ok-short-in-Star t c =
     (repetition_mark here' body') (repetition_mark here' body') shape refl
     (shortens_repetition c.args.longest here here' body body' c.in_ok-short-in-Star.ensures second))
     c.shorten-in-Star.ensures
+
+pub returns-in-Meet : goal.returns-in-Meet
+returns-in-Meet t c =
+    let to = c.in-Meet.to in
+    let outer = c.in-Meet.outer.items in
+    let one = mark_of c.in-Meet.left.value in
+    let other = mark_of c.in-Meet.right.value in
+    let to' = c.drop_long.new.to in
+    let outer' = c.drop_long.new.outer.items in
+    on_ok_weaker c.drop_long.result
+    (λ drops. shortens_moved c.args.longest (intersection_of to outer one other)
+    (mark_of c.args.mark.now) (intersection_of to' outer' one other)
+    (intersection_of to' outer' one other) (ap mark_of c.in-Meet.is) refl
+    (shortens_intersection c.args.longest to to' outer outer' one other drops))
+    c.drop_long.ensures
+
+pub returns-in-Within : goal.returns-in-Within
+returns-in-Within t c =
+    let to = c.in-Within.to in
+    let outer = c.in-Within.outer.items in
+    let body = mark_of c.in-Within.body.value in
+    let to' = c.drop_long-in-Within.new.to in
+    let outer' = c.drop_long-in-Within.new.outer.items in
+    on_ok_weaker c.drop_long-in-Within.result
+    (λ drops. shortens_moved c.args.longest (restriction_of to outer body)
+    (mark_of c.args.mark.now) (restriction_of to' outer' body)
+    (restriction_of to' outer' body) (ap mark_of c.in-Within.is) refl
+    (shortens_restriction c.args.longest to to' outer outer' body drops))
+    c.drop_long-in-Within.ensures
