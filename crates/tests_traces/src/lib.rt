@@ -9,6 +9,8 @@
 #[cfg(test)]
 mod bytes;
 #[cfg(test)]
+mod define;
+#[cfg(test)]
 mod dumps;
 #[cfg(test)]
 mod num;

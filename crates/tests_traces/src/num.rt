@@ -4,39 +4,11 @@ use std::alloc::{AllocError, Global};
 use std::test::Fail;
 use tests_support::names_of;
 use tre_decimal::SCALE_MAX;
-use tre_num::Comparison::{AtLeast, AtMost, Equal, Greater, Less, Unequal};
-use tre_num::{ColumnsReader, Comparison, Definition, LetFault, read_definitions, read_rows};
+use tre_define::Comparison::{AtLeast, AtMost, Greater, Less};
+use tre_define::{Comparison, LetFault};
+use tre_num::{ColumnsReader, Definition, read_definitions, read_rows};
 use tre_trace::TraceKind::Spent;
 use tre_trace::{Trace, TraceFault, TraceReader};
-
-// A number, a comparison, and whether it holds of the number and 3.
-const COMPARISONS: [(i64, Comparison, bool); 18] = [
-    (2, Less, true),
-    (3, Less, false),
-    (4, Less, false),
-    (2, AtMost, true),
-    (3, AtMost, true),
-    (4, AtMost, false),
-    (2, Greater, false),
-    (3, Greater, false),
-    (4, Greater, true),
-    (2, AtLeast, false),
-    (3, AtLeast, true),
-    (4, AtLeast, true),
-    (2, Equal, false),
-    (3, Equal, true),
-    (4, Equal, false),
-    (2, Unequal, true),
-    (3, Unequal, false),
-    (4, Unequal, true),
-];
-
-#[test]
-fn numbers_are_compared(rt: HostRuntime) {
-    for (number, comparison, holds) in &COMPARISONS {
-        assert!(rt; comparison.holds(*number, 3) == *holds, "{number}");
-    }
-}
 
 // Names, and the column, the comparison and the number of each.
 const DEFINED: [(&str, &str, Comparison, i64); 6] = [

@@ -5,6 +5,5 @@ mod Keeping
 mod Tables
 mod NameColumns
 mod Pieces
-mod Defining
 pub mod OneReading
 pub mod SomeReading

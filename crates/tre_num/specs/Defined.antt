@@ -1,6 +1,6 @@
 -- What a definition says.
 use Rattle.std.specs.Prelude.{ℕ, List, ℤ}
-use Rattle.tre_num.specs.declared.comparison.Comparison.{Comparison}
+use Rattle.tre_define.specs.declared.comparison.Comparison.{Comparison}
 
 -- A name stands for a comparison of the numbers of a column with a value.
 pub record Defined : Type 0 where
@@ -8,3 +8,6 @@ pub record Defined : Type 0 where
   pub column : List ℕ
   pub comparison : Comparison
   pub value : ℤ
+
+abbrev pub name_of : Defined → List ℕ
+name_of defined = defined.name

@@ -1,5 +1,4 @@
 -- What a reader must believe.
-pub mod Comparison
 pub mod Defined
 pub mod Whole
 pub mod Rows
@@ -8,7 +7,5 @@ pub mod Definitions
 pub mod Left
 pub mod Durations
 pub mod Told
-pub mod Pieces
-pub mod Cut
 pub mod Kept
 pub mod Times

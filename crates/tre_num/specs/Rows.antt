@@ -1,5 +1,5 @@
 -- What comma-separated rows say of a trace.
-use Rattle.std.specs.Prelude.{ℕ, ◌+◌, nat_lt, nat_le, ◌==◌, Bool, true, false, Option, Some, None, List, [], ◌∷◌, length, drop, find, Result, Ok, Err, option_and_then, option_map, if◌then◌else◌}
+use Rattle.std.specs.Prelude.{ℕ, ◌+◌, nat_lt, nat_le, ◌==◌, Bool, true, false, Option, Some, None, List, [], ◌∷◌, length, drop, Result, Ok, Err, option_and_then, option_map, if◌then◌else◌}
 use Rattle.std.specs.List.{list_all, position_from}
 use Rattle.std.specs.Option.{is_some, option_map_or}
 use Rattle.std.specs.Str.{bytes_eq}
@@ -12,15 +12,16 @@ use Rattle.tre_trace.specs.declared.fault.TraceKind.{TraceKind}
 use Rattle.tre_trace.specs.declared.fault.TraceKind.TheVariants.{BadNumber, Zero, TooLate, UnknownName, CutShort}
 use Rattle.tre_parts.specs.Format.{nothing, faulty, behind}
 use Rattle.tre_num.specs.declared.column.Column.{Column}
-use Rattle.tre_num.specs.Comparison.{compares}
-use Rattle.tre_num.specs.Defined.{Defined}
+use Rattle.tre_define.specs.Comparison.{compares}
+use Rattle.tre_define.specs.Texts.{named}
+use Rattle.tre_num.specs.Defined.{Defined, name_of}
 use Rattle.tre_num.specs.Whole.{whole_of}
 
 -- ---- the columns of names
 
 -- the first definition of a name
 abbrev pub definition_of : List Defined → List ℕ → Option Defined
-definition_of definitions name = find (λ defined. bytes_eq defined.name name) definitions
+definition_of definitions name = named name_of definitions name
 
 -- The place of the first column of a name in the header, whose first field names no column.
 abbrev pub place_in : List (List ℕ) → List ℕ → Option ℕ

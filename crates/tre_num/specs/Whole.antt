@@ -1,5 +1,6 @@
 -- Whole numbers from -2^63 to 2^63 - 1, in decimal digits.
-use Rattle.std.specs.Prelude.{ℕ, ◌-◌, ◌^◌, nat_le, ◌==◌, ◌&&◌, Option, Some, None, List, [], ◌∷◌, ℤ, pos, neg_ℤ, option_map, if◌then◌else◌}
+use Rattle.std.specs.Prelude.{ℕ, ◌-◌, ◌^◌, nat_le, ◌==◌, Bool, ◌&&◌, ◌||◌, Option, Some, None, List, [], ◌∷◌, ℤ, pos, neg_ℤ, option_map, if◌then◌else◌}
+use Rattle.std.specs.Char.{is_ascii_digit}
 use Rattle.std.specs.Str.Parse.{digits_value}
 use Rattle.tre_decimal.specs.Decimal.{is_numeral}
 
@@ -15,3 +16,7 @@ whole_of [] = None
 whole_of (byte ∷ bytes) =
     if byte == 45 then option_map (λ number. neg_ℤ (pos number)) (number_up_to (2 ^ 63) bytes)
     else option_map pos (number_up_to (2 ^ 63 - 1) (byte ∷ bytes))
+
+-- a byte of a whole number: a digit or a minus
+abbrev pub is_whole_byte : ℕ → Bool
+is_whole_byte byte = is_ascii_digit byte || byte == 45

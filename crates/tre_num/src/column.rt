@@ -1,4 +1,4 @@
-use crate::comparison::Comparison;
+use tre_define::Comparison;
 
 /// What the comparison of a name reads: the field at a place.
 #[derive(Clone, Copy, Debug)]

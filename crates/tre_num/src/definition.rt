@@ -1,5 +1,5 @@
-use crate::comparison::Comparison;
 use std::marker::Model;
+use tre_define::Comparison;
 
 /// A name for a comparison of the numbers of a column with a number.
 #[derive(Debug, Drop)]

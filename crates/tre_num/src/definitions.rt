@@ -1,18 +1,16 @@
 // The definitions of a text.
-ghost use Rattle.std.specs.Prelude.{◌≡◌, ◌≢◌, ◌+◌, ◌<◌, ◌∷◌, ◌++◌, [], length, None, IfOk, IfErr, IfSome, OnOk};
-ghost use Rattle.std.specs.List.{slice_split};
-ghost use Rattle.std.specs.Option.{option_map};
-ghost use Rattle.tre_num.specs.Cut.{parts_behind};
-ghost use Rattle.tre_num.specs.Defined.{Defined};
-ghost use Rattle.tre_num.specs.Definitions.{Spells, Define, HasFault, IsRefused, is_semicolon, parts_of};
+ghost use Rattle.std.specs.Prelude.{◌≡◌, ◌≢◌, ◌+◌, ◌∷◌, ◌++◌, [], length, None, IfOk, IfErr, OnOk};
+ghost use Rattle.tre_num.specs.Defined.{Defined, name_of};
+ghost use Rattle.tre_num.specs.Definitions.{Spells, Define, IsRefused};
 ghost use Rattle.tre_num.specs.Rows.{definition_of};
-ghost use Rattle.tre_num.specs.declared.let_fault.LetFault.{LetFault};
+ghost use Rattle.tre_define.specs.Texts.{HasFault, parts_of};
+ghost use Rattle.tre_define.specs.declared.let_fault.LetFault.{LetFault};
 
 use crate::columns::definition_of;
 use crate::definition::Definition;
-use crate::let_fault::LetFault;
-use crate::parts::{parts_in, skip_spaces};
+use crate::parts::parts_in;
 use std::alloc::Global;
+use tre_define::{LetFault, first_part, skip_spaces};
 
 /// The definitions of a text, in their order: `name = column op number` each, with `;` between two,
 /// where the op is one of `<`, `<=`, `>`, `>=`, `==` and `!=`, and the number is whole, from -2^63
@@ -46,7 +44,8 @@ fn add(alloc: Global, definitions: &mut Vec<Definition>, part: &[u8]) -> Result<
         × Spells part.now defined
         × (definition_of definitions.old.items defined.name ≡ None)) }
     ensures fault { IfErr result (λ fault. fault ≢ LetFault.Memory →
-        HasFault definitions.old.items (length definitions.old.items + 1) part.now fault) }
+        HasFault Spells name_of definitions.old.items (length definitions.old.items + 1)
+        part.now fault) }
 {
     let at = definitions.len() as u64 + 1;
     let Some(parts) = parts_in(part) else {
@@ -62,18 +61,4 @@ fn add(alloc: Global, definitions: &mut Vec<Definition>, part: &[u8]) -> Result<
         return Err(LetFault::Memory);
     }
     Ok(())
-}
-
-// What stands before the first semicolon, and what behind it, if there is one.
-fn first_part(bytes: &[u8]) -> (&[u8], Option<&[u8]>)
-    ensures parts { slice_split is_semicolon bytes.now
-        ≡ result.0.now ∷ parts_behind (option_map (λ rest. rest.now) result.1) }
-    ensures shorter { IfSome result.1 (λ rest. length rest.now < length bytes.now) }
-{
-    for (place, &byte) in bytes.iter().enumerate() {
-        if byte == b';' {
-            return (&bytes[..place], Some(&bytes[place + 1..]));
-        }
-    }
-    (bytes, None)
 }

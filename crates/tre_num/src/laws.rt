@@ -1,8 +1,9 @@
 //! Laws of definitions, each as a function whose contract it is.
 ghost use Rattle.std.specs.Prelude.{◌≡◌, ◌⊎◌, ℕ, List};
 ghost use Rattle.tre_num.specs.Defined.{Defined};
-ghost use Rattle.tre_num.specs.Definitions.{Define, IsRefused, parts_of};
-ghost use Rattle.tre_num.specs.declared.let_fault.LetFault.{LetFault};
+ghost use Rattle.tre_num.specs.Definitions.{Define, IsRefused};
+ghost use Rattle.tre_define.specs.Texts.{parts_of};
+ghost use Rattle.tre_define.specs.declared.let_fault.LetFault.{LetFault};
 
 /// A text has a reading: it is some definitions, or has a first fault.
 pub fn some_reading()

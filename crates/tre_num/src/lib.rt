@@ -16,12 +16,10 @@
 
 mod column;
 mod columns;
-mod comparison;
 mod definition;
 mod definitions;
 mod kept_bytes;
 pub mod laws;
-mod let_fault;
 mod parts;
 mod reader;
 mod row;
@@ -29,9 +27,7 @@ mod rows;
 mod table;
 mod whole;
 
-pub use comparison::Comparison;
 pub use definition::Definition;
 pub use definitions::read_definitions;
-pub use let_fault::LetFault;
 pub use reader::ColumnsReader;
 pub use rows::read_rows;

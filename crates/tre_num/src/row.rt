@@ -89,5 +89,9 @@ fn told_by(column: &Column, row: &ByteRecord) -> Option<bool>
     ensures { result ≡ told_by column.now (fields_of row.now) }
 {
     let number = read_whole(row.get(column.place)?)?;
-    Some(column.comparison.holds(number, column.value))
+    Some(
+        column
+            .comparison
+            .holds(i128::from(number), i128::from(column.value)),
+    )
 }

@@ -2,8 +2,9 @@
 use Rattle.std.proofs.Common.{◌≡◌, ◌≢◌, ℕ, List, [], ◌∷◌, Option, None, Some, refl, sym, ◌∙◌, subst, inl, inr, ⊎_elim, ap, ◌⊎◌}
 use Rattle.std.specs.Option.{MatchOption}
 use Rattle.tre_num.specs.Defined.{Defined}
-use Rattle.tre_num.specs.Definitions.{Define, parts_of, IsRefused as IsRefusedAt}
-use Rattle.tre_num.specs.declared.let_fault.LetFault.{LetFault}
+use Rattle.tre_define.specs.Texts.{parts_of}
+use Rattle.tre_num.specs.Definitions.{Define, IsRefused as IsRefusedAt}
+use Rattle.tre_define.specs.declared.let_fault.LetFault.{LetFault}
 use Rattle.tre_num.proofs.OneReading.{same-definitions, refused-or, one-fault}
 use Rattle.tre_parse.specs.Outcome.{IsOutcome, spelt, refused}
 use Rattle.tre_parse.specs.declared.fault.ParseFault.{ParseFault}

@@ -5,8 +5,9 @@ use Rattle.std.specs.Prelude.{◌≡◌, ◌⊎◌, ℕ, List, [], ◌∷◌, Op
 use Rattle.std.specs.Option.{MatchOption, option_to_list}
 use Rattle.tre_generate.specs.FixedPattern.{fixed_tree, fixed_vocabulary}
 use Rattle.tre_num.specs.Defined.{Defined}
-use Rattle.tre_num.specs.Definitions.{Define, parts_of, IsRefused as IsRefusedAt}
-use Rattle.tre_num.specs.declared.let_fault.LetFault.{LetFault}
+use Rattle.tre_define.specs.Texts.{parts_of}
+use Rattle.tre_num.specs.Definitions.{Define, IsRefused as IsRefusedAt}
+use Rattle.tre_define.specs.declared.let_fault.LetFault.{LetFault}
 use Rattle.tre_parse.specs.Outcome.{IsOutcome, spelt, refused}
 use Rattle.tre_parse.specs.declared.fault.ParseFault.{ParseFault}
 use Rattle.tre_syntax.specs.PatternTree.{PatternTree}

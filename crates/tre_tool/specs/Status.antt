@@ -4,8 +4,8 @@ use Rattle.tre_trace.specs.declared.fault.TraceKind.{TraceKind}
 use Rattle.tre_trace.specs.declared.fault.TraceKind.TheVariants.{LineTooLong, BadNumber, Zero, TooLate, BadName, BadToken, UnknownName, TimeBack, CutShort, Spent, Memory as KindMemory}
 use Rattle.tre_parse.specs.declared.fault.ParseFault.{ParseFault}
 use Rattle.tre_parse.specs.declared.fault.ParseFault.TheVariants.{TooLong, BadByte, Number, TooDeep, Syntax, EmptyInterval, TooManyNames, TooLarge, Memory as ParseMemory}
-use Rattle.tre_num.specs.declared.let_fault.LetFault.{LetFault}
-use Rattle.tre_num.specs.declared.let_fault.LetFault.TheVariants.{BadLet, Twice, Memory as LetMemory}
+use Rattle.tre_define.specs.declared.let_fault.LetFault.{LetFault}
+use Rattle.tre_define.specs.declared.let_fault.LetFault.TheVariants.{BadLet, Twice, Memory as LetMemory}
 use Rattle.tre_feed.specs.declared.fault.Fault.{Fault}
 use Rattle.tre_feed.specs.declared.fault.Fault.TheVariants.{Trace as FaultTrace, TooLong as FaultTooLong, TooManyZones as FaultTooMany, Read as FaultRead, Write as FaultWrite, Memory as FaultMemory}
 use Rattle.tre_watch.specs.declared.fault.WatchFault.{WatchFault}

@@ -7,8 +7,8 @@ ghost use Rattle.tre_tool.specs.Status.{kind_name, refusal_words, error_line};
 
 use crate::Status;
 use itoa::Buffer;
+use tre_define::LetFault;
 use tre_io::{Failed, Sink, put_all};
-use tre_num::LetFault;
 use tre_parse::ParseFault;
 use tre_trace::TraceKind;
 use tre_watch::WatchFault;

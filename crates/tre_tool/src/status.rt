@@ -1,8 +1,8 @@
 ghost use Rattle.std.specs.Prelude.{◌≡◌};
 
 use std::alloc::AllocError;
+use tre_define::LetFault;
 use tre_feed::Fault;
-use tre_num::LetFault;
 use tre_parse::ParseFault;
 use tre_trace::TraceFault;
 use tre_watch::WatchFault;

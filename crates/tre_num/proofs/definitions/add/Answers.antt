@@ -4,7 +4,7 @@ use Rattle.std.proofs.lemmas.Int.{to_z-of_z}
 use mir.Val.{of_z, to_z}
 use Rattle.tre_num.specs.Definitions.{Spells}
 use Rattle.tre_num.specs.Rows.{definition_of}
-use Rattle.tre_num.proofs.Defining.{none-mapped}
+use Rattle.tre_define.proofs.Defining.{none-mapped}
 use Rattle.tre_num.proofs.definitions.add.Goals as goal
 
 pub returns-clause-added : goal.returns-clause-added

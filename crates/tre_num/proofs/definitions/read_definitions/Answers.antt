@@ -3,10 +3,11 @@ use Rattle.std.specs.Prelude.{◌==◌}
 use Rattle.std.specs.List.{slice_split}
 use Rattle.std.specs.Option.{option_map}
 use Rattle.std.proofs.lemmas.Result.{err_from_is_err_and}
-use Rattle.tre_num.specs.Cut.{parts_behind}
-use Rattle.tre_num.specs.Definitions.{Define, IsRefused, is_semicolon}
-use Rattle.tre_num.specs.Pieces.{past_spaces}
-use Rattle.tre_num.proofs.Defining.{HasDefined, all-defined, begins, no_parts, one-more, refused, some_parts}
+use Rattle.tre_define.specs.Pieces.{parts_behind, past_spaces}
+use Rattle.tre_define.specs.Texts.{is_semicolon}
+use Rattle.tre_num.specs.Defined.{name_of}
+use Rattle.tre_num.specs.Definitions.{Define, IsRefused, Spells}
+use Rattle.tre_define.proofs.Defining.{HasDefined, all-defined, begins, no_parts, one-more, refused, some_parts}
 use Rattle.tre_num.proofs.definitions.read_definitions.Goals as goal
 
 pub returns-then-is_empty-clause-definitions : goal.returns-then-is_empty-clause-definitions
@@ -27,7 +28,7 @@ returns-in_err-add-clause-refused c =
     let part = c.first_part.result.0.now in
     let others = parts_behind (option_map (λ rest. rest.now) c.first_part.result.1) in
     let all = slice_split is_semicolon text in
-    let has = subst (λ parts. HasDefined all definitions parts) c.first_part.ensures.parts
+    let has = subst (λ parts. HasDefined Spells name_of all definitions parts) c.first_part.ensures.parts
     c.loop-definitions.invariant in
     let past = c.skip_spaces.ensures ∙ ap past_spaces c.as_bytes-rest.ensures.value in
     let some : (length (past_spaces text) == 0) ≡ false =
@@ -50,10 +51,10 @@ loop-definitions-preserved c =
     let step : slice_split is_semicolon bytes ≡ part ∷ others =
     c.first_part.ensures.parts
     ∙ ap (λ rest. part ∷ parts_behind (option_map (λ found. found.now) rest)) c.in-Some.is in
-    let has = subst (λ parts. HasDefined all definitions parts) step c.loop-definitions.invariant
+    let has = subst (λ parts. HasDefined Spells name_of all definitions parts) step c.loop-definitions.invariant
     in
     let added = c.in_ok-add.ensures.added in
-    subst (λ items. HasDefined all items others) (sym added.1)
+    subst (λ items. HasDefined Spells name_of all items others) (sym added.1)
     (one-more all others definitions part added.0 has added.2 added.3)
 
 pub returns-in-None-clause-definitions : goal.returns-in-None-clause-definitions
@@ -66,7 +67,7 @@ returns-in-None-clause-definitions c =
     let step : slice_split is_semicolon bytes ≡ part ∷ [] =
     c.first_part.ensures.parts
     ∙ ap (λ rest. part ∷ parts_behind (option_map (λ found. found.now) rest)) c.in-None.is in
-    let has = subst (λ parts. HasDefined all definitions parts) step c.loop-definitions.invariant
+    let has = subst (λ parts. HasDefined Spells name_of all definitions parts) step c.loop-definitions.invariant
     in
     let added = c.in_ok-add.ensures.added in
     let past = c.skip_spaces.ensures ∙ ap past_spaces c.as_bytes-rest.ensures.value in
@@ -74,5 +75,5 @@ returns-in-None-clause-definitions c =
     ap (λ bytes. length bytes == 0) (sym past) ∙ sym c.is_empty.ensures ∙ c.if-is_empty.false in
     subst (λ parts. Define parts c.add.new.definitions.items) (sym (some_parts text some))
     (all-defined all c.add.new.definitions.items
-    (subst (λ items. HasDefined all items []) (sym added.1)
+    (subst (λ items. HasDefined Spells name_of all items []) (sym added.1)
     (one-more all [] definitions part added.0 has added.2 added.3)))

@@ -1,4 +1,4 @@
-use Rattle.tre_num.specs.Definitions.{parts_of}
+use Rattle.tre_define.specs.Texts.{parts_of}
 use Rattle.tre_num.proofs.OneReading.{one-fault}
 use Rattle.tre_num.proofs.laws.one_fault.Goals as goal
 

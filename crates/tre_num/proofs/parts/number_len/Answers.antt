@@ -1,6 +1,6 @@
 use Rattle.std.proofs.Common.{length, sym, ◌∙◌, arith}
 use Rattle.std.proofs.lemmas.List.Sums.{prefix_len_is}
-use Rattle.tre_num.specs.Pieces.{is_whole_byte}
+use Rattle.tre_num.specs.Whole.{is_whole_byte}
 use Rattle.tre_num.proofs.parts.number_len.Goals as goal
 
 pub returns-then-not-is_whole_byte-clause-len : goal.returns-then-not-is_whole_byte-clause-len

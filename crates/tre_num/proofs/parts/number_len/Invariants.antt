@@ -1,5 +1,5 @@
 use Rattle.std.proofs.Common.{◌≡◌, ℕ, ◌<◌, get_or, true}
-use Rattle.tre_num.specs.Pieces.{is_whole_byte}
+use Rattle.tre_num.specs.Whole.{is_whole_byte}
 use Rattle.tre_num.proofs.parts.number_len.Given as goal
 
 -- the bytes before this place pass

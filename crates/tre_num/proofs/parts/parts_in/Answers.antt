@@ -6,9 +6,10 @@ use Rattle.std.proofs.lemmas.Option.{none-some}
 use mir.Val.{of_z, to_z}
 use Rattle.tre_state.specs.Name.{continues_name, IsName, IsWord}
 use Rattle.tre_num.specs.Definitions.{Spells}
-use Rattle.tre_num.specs.Pieces.{behind_equals, behind_piece, is_whole_byte, piece, sign_in}
-use Rattle.tre_num.specs.Whole.{whole_of}
-use Rattle.tre_num.proofs.Pieces.{empty, equals-is, parts-are, parts-spell, same-behind, same-tail}
+use Rattle.tre_define.specs.Pieces.{behind_equals, behind_piece, piece, sign_in}
+use Rattle.tre_num.specs.Whole.{is_whole_byte, whole_of}
+use Rattle.tre_define.proofs.Cutting.{empty, equals-is}
+use Rattle.tre_num.proofs.Pieces.{parts-are, parts-spell, same-behind, same-tail}
 use Rattle.tre_num.proofs.parts.parts_in.Goals as goal
 
 pub returns-in_err-name-clause-none : goal.returns-in_err-name-clause-none

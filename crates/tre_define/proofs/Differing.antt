@@ -1,0 +1,66 @@
+-- Two values that have other letters at a bit of a part.
+use Rattle.std.proofs.Common.{◌≡◌, ℕ, zero, suc, ◌+◌, ◌-◌, ◌<◌, ◌≤◌, Bool, true, false, List, length, refl, sym, ap, subst, ◌∙◌, arith}
+use Rattle.std.specs.Prelude.{slice_index, nat_lt, not, ◌||◌, ◌==◌, if◌then◌else◌}
+use Rattle.std.specs.Char.{to_ascii_lowercase}
+use Rattle.std.proofs.lemmas.Bool.Decides.{nat_tests}
+use Rattle.tre_define.specs.Values.{differ_from, extension, letter_at}
+
+-- whether the letters of the bits at a place differ
+abbrev other_at : ℕ → List ℕ → List ℕ → Bool
+other_at bit old new = not (letter_at old bit == letter_at new bit)
+
+other-same : (a b : ℕ) → a ≡ b → not (a == b) ≡ false
+other-same a b same = grind (arith, nat_tests)
+
+other-differs : (a b : ℕ) → (a ≡ b → ⊥) → not (a == b) ≡ true
+other-differs a b differ = grind (arith, nat_tests)
+
+either : (a b : Bool) → b ≡ true → (a || b) ≡ true
+either true b e = refl
+either false b e = e
+
+pub differ-at : (low width k : ℕ) (old new : List ℕ) → k < width
+    → (letter_at old (low + k) ≡ letter_at new (low + k) → ⊥)
+    → differ_from low width old new ≡ true
+differ-at low zero k old new below differs = absurd (omega (arith, below))
+differ-at low (suc width) zero old new below differs =
+    let same : low + 0 ≡ low = omega arith in
+    let here = other-differs (letter_at old low) (letter_at new low)
+    (subst (λ n. letter_at old n ≡ letter_at new n → ⊥) same differs) in
+    ap (λ t. t || differ_from (low + 1) width old new) here
+differ-at low (suc width) (suc k) old new below differs =
+    let same : low + suc k ≡ low + 1 + k = omega arith in
+    either (other_at low old new) (differ_from (low + 1) width old new)
+    (differ-at (low + 1) width k old new (omega (arith, below))
+    (subst (λ n. letter_at old n ≡ letter_at new n → ⊥) same differs))
+
+pub differ-none : (low width : ℕ) (old new : List ℕ)
+    → ((k : ℕ) → k < width → letter_at old (low + k) ≡ letter_at new (low + k))
+    → differ_from low width old new ≡ false
+differ-none low zero old new all = refl
+differ-none low (suc width) old new all =
+    let same : low + 0 ≡ low = omega arith in
+    let here = other-same (letter_at old low) (letter_at new low)
+    (subst (λ n. letter_at old n ≡ letter_at new n) same (all 0 (omega arith))) in
+    let more = differ-none (low + 1) width old new (λ k below.
+    let next : low + suc k ≡ low + 1 + k = omega arith in
+    subst (λ n. letter_at old n ≡ letter_at new n) next (all (suc k) (omega (arith, below)))) in
+    ap (λ t. t || differ_from (low + 1) width old new) here ∙ more
+
+-- past its letters a value goes on with one
+past : (letters : List ℕ) (bit : ℕ) → length letters ≤ bit → letter_at letters bit ≡ extension letters
+past letters bit beyond =
+    let test : nat_lt bit (length letters) ≡ false = grind (arith, nat_tests) in
+    ap (λ t. if t then to_ascii_lowercase (slice_index letters (length letters - 1 - bit))
+    else extension letters) test
+
+-- Past the letters of both values one bit tells of all others.
+pub same-past : (old new : List ℕ) (one other : ℕ) → length old ≤ one → length new ≤ one
+    → one ≤ other → letter_at old one ≡ letter_at new one
+    → letter_at old other ≡ letter_at new other
+same-past old new one other in_old in_new order same =
+    past old other (omega (arith, in_old, order))
+    ∙ sym (past old one in_old)
+    ∙ same
+    ∙ past new one in_new
+    ∙ sym (past new other (omega (arith, in_new, order)))

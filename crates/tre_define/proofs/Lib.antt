@@ -1,0 +1,14 @@
+mod Digits
+mod Ranges
+mod Colons
+mod Differing
+mod SignalLength
+mod ReadsOf
+mod SignalParts
+pub mod OneSignals
+mod SomeSignals
+pub mod Cutting
+pub mod Deciding
+pub mod Defining
+pub mod OneReading
+pub mod SomeReading

@@ -1,0 +1,30 @@
+//! Laws of definitions, each as a function whose contract it is.
+ghost use Rattle.std.specs.Prelude.{◌≡◌, ◌⊎◌, ℕ, List};
+ghost use Rattle.tre_define.specs.Signals.{AreRefused, DefineSignals, SignalDefined};
+ghost use Rattle.tre_define.specs.Texts.{parts_of};
+ghost use Rattle.tre_define.specs.declared.let_fault.LetFault.{LetFault};
+
+/// A text has a reading: it is some definitions, or has a first fault.
+pub fn some_reading()
+    ensures { (text : List ℕ) →
+        ((definitions : List SignalDefined) × DefineSignals (parts_of text) definitions)
+        ⊎ ((fault : LetFault) × AreRefused (parts_of text) fault) }
+{}
+
+/// A text has one reading: it is these definitions, or others, and not both.
+pub fn one_reading()
+    ensures { (text : List ℕ) (one other : List SignalDefined) →
+        DefineSignals (parts_of text) one → DefineSignals (parts_of text) other → one ≡ other }
+{}
+
+/// A text has one first fault.
+pub fn one_fault()
+    ensures { (text : List ℕ) (one other : LetFault) →
+        AreRefused (parts_of text) one → AreRefused (parts_of text) other → one ≡ other }
+{}
+
+/// A text of definitions is never refused.
+pub fn definitions_are_read()
+    ensures { (text : List ℕ) (definitions : List SignalDefined) (fault : LetFault) →
+        DefineSignals (parts_of text) definitions → AreRefused (parts_of text) fault → ⊥ }
+{}

@@ -1,0 +1,12 @@
+use crate::comparison::Comparison;
+
+/// What a definition reads of what a signal's text names.
+#[derive(Clone, Copy, Debug, PartialEq, Eq)]
+pub enum Reads {
+    /// It is one bit, which is 1.
+    Bit,
+    /// Its number is so beside this one.
+    Compared(Comparison, u64),
+    /// It changes: an event.
+    Changes,
+}

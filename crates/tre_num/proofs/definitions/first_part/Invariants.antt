@@ -1,7 +1,0 @@
-use Rattle.std.proofs.Common.{◌≡◌, ℕ, ◌<◌, get_or, false}
-use Rattle.tre_num.specs.Definitions.{is_semicolon}
-use Rattle.tre_num.proofs.definitions.first_part.Given as goal
-
--- no semicolon stands before this place
-abbrev pub invariant-loop-place : goal.invariant-loop-place
-invariant-loop-place l = (k : ℕ) → k < l.place → is_semicolon (get_or l.bytes k 0) ≡ false
