@@ -20,6 +20,7 @@ READ, WRITE = (6, "montre: read fault\n"), (7, "montre: write fault\n")
 CHECKS = ("# What is watched.\nmany = ({p && q};r)* % [1,9]\nend = <:p:>\n"
           "happens = event(a);true;event(b)\nat=(q|event(a))+\n")
 LETS = "p = one >= 1; q = two != 0; r = three < -5"
+SIGNALS = "v = p == 1; w = q; c = r changes"
 OPTIONS = [[], ["--online"], ["--minus", "{p && q}"], ["--normal"],
            ["--normal", "--max-zones", "99"], ["--normal", "--max-zones", "2"],
            ["--scale", "2"], ["--scale", "9", "--online"],
@@ -31,7 +32,8 @@ REFUSED = [["p;"], ["--minus", "p;", "p"], ["--nothing"], ["--show", "p % [2,1]"
            ["--input", "nowhere", "p"], ["--input", ".", "p"],
            ["--watch", "nowhere"], ["--watch", "checks", "--input", "nowhere"],
            ["--watch", "text"], ["--max-bytes", "9", "p"], ["--max-bytes", "9", "--online", "p"],
-           ["--format", "vcd", "none"], ["p", "--input", "checks"]]
+           ["--format", "vcd", "none"], ["--format", "vcd", "--define", "p", "p"],
+           ["p", "--input", "checks"]]
 
 
 def padded(text, head, foot=""):
@@ -58,6 +60,9 @@ def all_cases():
     columns = ["--format", "csv", "--input", "columns", "--let", LETS]
     cases += [columns + options + ["(p;q)* | {r && !q}"] for options in OPTIONS
               if "--online" not in options and "--minus" not in options]
+    signals = ["--format", "vcd", "--input", "dump", "--define", SIGNALS]
+    cases += [signals + options + ["(v;w)* | event(c);v"] for options in OPTIONS[:4]]
+    cases.append(["--watch", *signals, "checks"])
     for form, name in (("text", "text"), ("vcd", "dump")):
         words = ["--watch", "--format", form, "--input", name]
         cases += [words + ["checks"], words + ["--scale", "3", "checks"]]

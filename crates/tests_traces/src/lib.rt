@@ -11,6 +11,8 @@ mod bytes;
 #[cfg(test)]
 mod define;
 #[cfg(test)]
+mod dump_definitions;
+#[cfg(test)]
 mod dumps;
 #[cfg(test)]
 mod num;

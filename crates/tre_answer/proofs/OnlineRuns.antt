@@ -9,7 +9,7 @@ use Rattle.tre_tell.specs.Ends.{EndsTelling, IsTold, IsToldToFault}
 use Rattle.tre_tell.specs.Outputs.{OutputTold, NothingWritten}
 use Rattle.tre_tell.specs.Watched.{watched_by}
 use Rattle.tre_tell.specs.Standing.{BlockIsCut, EndIsCut, IsOnlineAnswer}
-use Rattle.tre_num.specs.Defined.{Defined}
+use Rattle.tre_answer.specs.declared.asked.Definitions.{Definitions}
 use Rattle.tre_trace.specs.Reading.{Recording}
 use Rattle.tre_words.specs.declared.job.Job.{Job}
 use Rattle.tre_words.specs.declared.job.Mode.{Mode}
@@ -98,28 +98,28 @@ module _ (request : Request) (input : InputTold) (output : OutputTold) where
         (told.reads, blocks_so_far request.job.mode _ comes told.stands)
 
 -- What was told of these patterns is what was asked for.
-module _ (job : Job) (lets : List Defined) (asked : Asked) (texts : List (List ℕ))
+module _ (job : Job) (definitions : Definitions) (asked : Asked) (texts : List (List ℕ))
     (patterns : List Pattern) (name : List ℕ)
     (same_texts : texts ≡ map string_bytes asked.labels.items)
     (same_patterns : patterns ≡ asked.patterns.items) (same_name : name ≡ job.input)
     (recording : Bool → List ℕ → Recording) (limit : ℕ)
-    (same : recording ≡ recording_for (request_for job lets asked))
+    (same : recording ≡ recording_for (request_for job definitions asked))
     (limited : limit ≡ job.max_bytes) (reads : ReadsInput job.mode)
     (other : job.mode ≡ Offline → ⊥) (input : InputTold) (output : OutputTold) where
   -- all of it is as was asked for
   as_asked : watched_by texts patterns recording limit job.scale
-      ≡ watched_of (request_for job lets asked)
+      ≡ watched_of (request_for job definitions asked)
   as_asked = rw (same_texts, same_patterns, same, limited) refl
 
   pub EndsOver-told_by : (result : Result (Unit {0}) Fault)
       → EndsTelling (watched_by texts patterns recording limit job.scale) name input output result
-      → EndsOver (request_for job lets asked) input output result
-  EndsOver-told_by (Ok value) told = EndsOver-told (request_for job lets asked) input output
+      → EndsOver (request_for job definitions asked) input output result
+  EndsOver-told_by (Ok value) told = EndsOver-told (request_for job definitions asked) input output
       (told_way job.mode reads other) value
       (subst (λ watched. IsTold watched input output) as_asked told)
-  EndsOver-told_by (Err fault) told = EndsOver-stopped (request_for job lets asked) input output
+  EndsOver-told_by (Err fault) told = EndsOver-stopped (request_for job definitions asked) input output
       (told_way job.mode reads other) fault
-      (subst (λ n. EndsTelling {T = Unit {0}} (watched_of (request_for job lets asked)) n input
+      (subst (λ n. EndsTelling {T = Unit {0}} (watched_of (request_for job definitions asked)) n input
       output (Err fault)) same_name
       (subst (λ watched. EndsTelling {T = Unit {0}} watched name input output (Err fault)) as_asked
       told))

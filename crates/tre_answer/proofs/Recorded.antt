@@ -1,6 +1,7 @@
 -- What the inputs of a request say, and that no bytes say nothing.
 use Rattle.std.proofs.Common.{◌≡◌, ◌∙◌, ◌<◌, ℕ, suc, Bool, false, List, [], ◌∷◌, length, get_or, map, string_bytes, refl, sym, ap, arith}
 use Rattle.std.proofs.lemmas.List.{length-map}
+use Rattle.tre_define.specs.Signals.{SignalDefined}
 use Rattle.tre_num.specs.Defined.{Defined}
 use Rattle.tre_num.specs.Rows.{Terms as RowTerms, rows_recording}
 use Rattle.tre_parts.specs.Format.{recording_from}
@@ -16,6 +17,7 @@ use Rattle.tre_words.specs.declared.job.Format.TheVariants.{Text, Vcd, Csv}
 use Rattle.tre_words.specs.declared.job.Job.{Job}
 use Rattle.tre_answer.specs.Recorded.{first_names, recording_for, recording_in}
 use Rattle.tre_answer.specs.Request.{Request, FitsJob, request_for}
+use Rattle.tre_answer.specs.declared.asked.Definitions.{Definitions}
 use Rattle.tre_answer.specs.declared.asked.Asked.{Asked}
 
 -- ---- what no bytes say
@@ -48,6 +50,10 @@ vocabulary_same names events other same same' =
     vocabulary_of : List (List ℕ) → List (List ℕ) → Vocabulary
     vocabulary_of all more = record { names = all; events = more }
 
+abbrev pub dump_terms_of : List Vocabulary → ℕ → List SignalDefined → DumpTerms
+dump_terms_of declared scale signals =
+    record { declared = declared; scale = scale; definitions = signals }
+
 abbrev pub rows_terms_of : List Defined → Vocabulary → ℕ → RowTerms
 rows_terms_of lets names scale = record { definitions = lets; names = names; scale = scale }
 
@@ -70,39 +76,42 @@ names_first labels [] pattern same some is = absurd (omega (arith, some))
 names_first [] (first ∷ patterns) pattern same some is = absurd (omega (arith, same))
 names_first (label ∷ labels) (first ∷ patterns) pattern same some is = ap names_of is
 
-module _ (job : Job) (lets : List Defined) (asked : Asked) (fits : FitsJob job asked) where
+module _ (job : Job) (definitions : Definitions) (asked : Asked) (fits : FitsJob job asked) where
   pub labels_fit : length (map string_bytes asked.labels.items) ≡ length asked.patterns.items
   labels_fit = length-map asked.labels.items string_bytes ∙ fits.labels
 
   -- an input in the format of the job says what is asked for
   in_format : (format : Format) → job.format ≡ format → recording_in format
-      (request_for job lets asked) ≡ recording_for (request_for job lets asked)
-  in_format format is = ap (λ f. recording_in f (request_for job lets asked)) (sym is)
+      (request_for job definitions asked) ≡ recording_for (request_for job definitions asked)
+  in_format format is = ap (λ f. recording_in f (request_for job definitions asked)) (sym is)
 
   pub text_says : {said : Bool → List ℕ → Recording} → job.format ≡ Text
-      → said ≡ text_recording job.scale → said ≡ recording_for (request_for job lets asked)
+      → said ≡ text_recording job.scale → said ≡ recording_for (request_for job definitions asked)
   text_says is says = says ∙ in_format Text is
 
   pub dump_says : {said : Bool → List ℕ → Recording} (patterns : List Pattern)
-      → patterns ≡ asked.patterns.items → job.format ≡ Vcd
-      → said ≡ vcd_recording (record { declared = map names_of patterns; scale = job.scale })
-      → said ≡ recording_for (request_for job lets asked)
-  dump_says patterns all is says =
-      says ∙ (ap (λ names. vcd_recording (record { declared = names; scale = job.scale }))
+      (signals : List SignalDefined) → patterns ≡ asked.patterns.items
+      → signals ≡ definitions.signals.items → job.format ≡ Vcd
+      → said ≡ vcd_recording (dump_terms_of (map names_of patterns) job.scale signals)
+      → said ≡ recording_for (request_for job definitions asked)
+  dump_says patterns signals all defined is says =
+      says ∙ (ap (λ signals. vcd_recording (dump_terms_of (map names_of patterns) job.scale
+      signals)) defined
+      ∙ (ap (λ names. vcd_recording (dump_terms_of names job.scale definitions.signals.items))
       (ap (map names_of) all
       ∙ sym (asked_sought (map string_bytes asked.labels.items) asked.patterns.items labels_fit))
-      ∙ in_format Vcd is)
+      ∙ in_format Vcd is))
 
   pub rows_says : {said : Bool → List ℕ → Recording} (pattern : Pattern)
       → pattern ≡ get_or asked.patterns.items 0 pattern → job.format ≡ Csv
       → said ≡ rows_recording (record {
-        definitions = lets;
+        definitions = definitions.columns.items;
         names = names_of pattern;
         scale = job.scale;
-      }) → said ≡ recording_for (request_for job lets asked)
+      }) → said ≡ recording_for (request_for job definitions asked)
   rows_says pattern first is says =
       says ∙ (ap (λ names. rows_recording (record {
-        definitions = lets;
+        definitions = definitions.columns.items;
         names = names;
         scale = job.scale;
       })) (names_first (map string_bytes asked.labels.items) asked.patterns.items pattern labels_fit

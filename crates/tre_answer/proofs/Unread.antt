@@ -3,7 +3,7 @@ use Rattle.std.proofs.Common.{◌≡◌, ◌∙◌, ℕ, zero, suc, List, [], �
 use Rattle.tre_feed.specs.Input.{InputTold, AllReadsGood}
 use Rattle.tre_feed.specs.declared.fault.Fault.TheVariants.{Memory}
 use Rattle.tre_generate.specs.Summary.{IsSummary}
-use Rattle.tre_num.specs.Defined.{Defined}
+use Rattle.tre_answer.specs.declared.asked.Definitions.{Definitions}
 use Rattle.tre_show.specs.PatternText.{expression_text}
 use Rattle.tre_syntax.specs.Pattern.{pattern_tree, names_of}
 use Rattle.tre_syntax.specs.declared.pattern.Pattern.{Pattern}
@@ -23,20 +23,20 @@ use Rattle.tre_answer.proofs.Recorded.{labels_fit, nothing_said}
 
 -- ---- where memory was wanting before the input was opened
 
-module _ (job : Job) (lets : List Defined) (asked : Asked) (input : InputTold)
+module _ (job : Job) (definitions : Definitions) (asked : Asked) (input : InputTold)
     (output : OutputTold) where
   early_by : (comes : Bool) → input.opened ≡ false → NothingWritten output
-      → MatchBool comes (FirstBlocksStand (watched_of (request_for job lets asked)) input output)
+      → MatchBool comes (FirstBlocksStand (watched_of (request_for job definitions asked)) input output)
       (NothingWritten output)
   early_by false closed unwritten = unwritten
   early_by true closed unwritten =
-      let request = request_for job lets asked in
+      let request = request_for job definitions asked in
       FirstBlocksStand-unread (map string_bytes asked.labels.items) asked.patterns.items
       (recording_for request) job.max_bytes job.scale (nothing_said request) input output
       (λ is_open. cc) (λ is_open. cc) unwritten
 
   pub EndsOver-early : input.opened ≡ false → AllReadsGood input → NothingWritten output
-      → EndsOver {T = Unit {0}} (request_for job lets asked) input output (Err Memory)
+      → EndsOver {T = Unit {0}} (request_for job definitions asked) input output (Err Memory)
   EndsOver-early closed reads unwritten =
       (reads, early_by (as_it_comes job.mode) closed unwritten)
 
@@ -78,32 +78,32 @@ made_one count [] (first ∷ []) pattern copy text same one is copied summary k 
 made_one count (label ∷ other ∷ labels) (first ∷ []) pattern copy text same one is copied summary k
     d below = absurd (omega (arith, same))
 
-module _ (job : Job) (lets : List Defined) (asked : Asked) (fits : FitsJob job asked)
+module _ (job : Job) (definitions : Definitions) (asked : Asked) (fits : FitsJob job asked)
     (alone : length asked.patterns.items ≡ 1) (pattern : Pattern)
     (first : pattern ≡ get_or asked.patterns.items 0 pattern) (input : InputTold)
     (reads : AllReadsGood input) (text : List ℕ) where
   shown_in : (mode : Mode) → mode ≡ Show
       → text ≡ expression_text job.scale (names_of pattern) (pattern_tree pattern) ++ codes "\n"
-      → IsAnswerIn mode (request_for job lets asked) input text
+      → IsAnswerIn mode (request_for job definitions asked) input text
   shown_in mode is same = rw is (shown_one job.scale (map string_bytes asked.labels.items)
-      asked.patterns.items pattern text (labels_fit job lets asked fits) alone first same)
+      asked.patterns.items pattern text (labels_fit job definitions asked fits) alone first same)
 
   made_in : (mode : Mode) (count : ℕ) (copy : Pattern) → mode ≡ Generate count
       → pattern_tree copy ≡ pattern_tree pattern → IsSummary (pattern_tree copy) count text
-      → IsAnswerIn mode (request_for job lets asked) input text
+      → IsAnswerIn mode (request_for job definitions asked) input text
   made_in mode count copy is copied summary = rw is (made_one count
       (map string_bytes asked.labels.items) asked.patterns.items pattern copy text
-      (labels_fit job lets asked fits) alone first copied summary)
+      (labels_fit job definitions asked fits) alone first copied summary)
 
   -- the pattern's text is the answer
   pub shown_for : job.mode ≡ Show
       → text ≡ expression_text job.scale (names_of pattern) (pattern_tree pattern) ++ codes "\n"
-      → IsFoundFor (request_for job lets asked) input text
+      → IsFoundFor (request_for job definitions asked) input text
   shown_for is same = record { reads = reads; right = shown_in job.mode is same }
 
   -- the summary of a made run is
   pub made_for : (count : ℕ) (copy : Pattern) → job.mode ≡ Generate count
       → pattern_tree copy ≡ pattern_tree pattern → IsSummary (pattern_tree copy) count text
-      → IsFoundFor (request_for job lets asked) input text
+      → IsFoundFor (request_for job definitions asked) input text
   made_for count copy is copied summary =
       record { reads = reads; right = made_in job.mode count copy is copied summary }

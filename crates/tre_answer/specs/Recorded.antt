@@ -16,12 +16,15 @@ abbrev pub first_names : List Sought → Vocabulary
 first_names [] = no_names
 first_names (pattern ∷ patterns) = pattern.names
 
--- What bytes in this format say, at the scale of the request. A dump must declare the names of all
--- patterns, and rows those of the only one.
+-- What bytes in this format say, at the scale of the request. A dump must declare what the names of
+-- all patterns read, and rows the names of the only one.
 abbrev pub recording_in : Format → Request → Bool → List ℕ → Recording
 recording_in Text request = text_recording request.job.scale
-recording_in Vcd request =
-    vcd_recording (record { declared = all_names request.patterns; scale = request.job.scale })
+recording_in Vcd request = vcd_recording (record {
+  declared = all_names request.patterns;
+  scale = request.job.scale;
+  definitions = request.signals;
+})
 recording_in Csv request = rows_recording (record {
   definitions = request.lets;
   names = first_names request.patterns;

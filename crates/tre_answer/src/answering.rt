@@ -1,5 +1,5 @@
 // From a request to the text that answers it.
-ghost use Rattle.std.specs.Prelude.{◌≡◌, ◌≤◌, ◌<◌, ◌+◌, ◌++◌, List, codes, false, IsTrue, IfOk, IfSome, length, string_bytes};
+ghost use Rattle.std.specs.Prelude.{◌≡◌, ◌≤◌, ◌<◌, ◌+◌, ◌++◌, codes, false, IsTrue, IfOk, IfSome, length, string_bytes};
 ghost use Rattle.tre_answer.specs.Ends.{EndsOver, ReadsInput};
 ghost use Rattle.tre_answer.specs.Parts.{IsInputOf};
 ghost use Rattle.tre_answer.specs.Recorded.{recording_for};
@@ -7,20 +7,19 @@ ghost use Rattle.tre_answer.specs.Request.{FitsJob, request_for};
 ghost use Rattle.tre_decimal.specs.declared.TheConstants.{SCALE_MAX};
 ghost use Rattle.tre_feed.specs.Input.{TakesAtMost, input_told};
 ghost use Rattle.tre_feed.specs.Standing.{IsNew, recording_of};
-ghost use Rattle.tre_num.specs.Defined.{Defined};
+ghost use Rattle.tre_answer.specs.declared.asked.Definitions.{Definitions};
 ghost use Rattle.tre_show.specs.PatternText.{expression_text};
 ghost use Rattle.tre_syntax.specs.Pattern.{pattern_tree, names_of};
 ghost use Rattle.tre_tell.specs.Outputs.{output_told};
 ghost use Rattle.tre_words.specs.Job.{IsJob};
 
-use crate::asked::Asked;
+use crate::asked::{Asked, Definitions};
 use crate::columns::column_input;
 use crate::offline::matches_text;
 use std::alloc::{AllocError, Global};
 use tre_feed::{Fault, Input, dump_input, text_input};
 use tre_generate::summary;
 use tre_io::{Sink, Source};
-use tre_num::Definition;
 use tre_show::pattern_text;
 use tre_syntax::Pattern;
 use tre_tell::{tell_matches, write_text};
@@ -42,9 +41,9 @@ fn answer_by<S: Source, R: TraceReader + Drop, O: Sink>(
     requires fits { FitsJob job.now asked.now }
     requires input { IsInputOf R.names asked.now job.now input }
     requires new { IsNew R.terms R.represents R.names input }
-    ensures ends { (lets : List Defined) → recording_of R.recording R.terms input
-        ≡ recording_for (request_for job.now lets asked.now) →
-        EndsOver (request_for job.now lets asked.now)
+    ensures ends { (definitions : Definitions) → recording_of R.recording R.terms input
+        ≡ recording_for (request_for job.now definitions asked.now) →
+        EndsOver (request_for job.now definitions asked.now)
         (input_told S.file_name S.file S.sound S.opened S.left S.found S.faults source.old
         source.new) (output_told O.written O.faults out.old out.new) result }
     ensures bounded { IsTrue (S.opened source.new) →
@@ -74,7 +73,7 @@ fn answer_by<S: Source, R: TraceReader + Drop, O: Sink>(
 fn answer_input<S: Source, O: Sink>(
     alloc: Global,
     asked: &Asked,
-    definitions: Vec<Definition>,
+    definitions: Definitions,
     job: &Job,
     source: &mut S,
     out: &mut O,
@@ -83,7 +82,7 @@ fn answer_input<S: Source, O: Sink>(
     requires job { IsJob job.now }
     requires reads { ReadsInput job.now.mode }
     requires fits { FitsJob job.now asked.now }
-    ensures ends { EndsOver (request_for job.now definitions.items asked.now)
+    ensures ends { EndsOver (request_for job.now definitions asked.now)
         (input_told S.file_name S.file S.sound S.opened S.left S.found S.faults source.old
         source.new) (output_told O.written O.faults out.old out.new) result }
     ensures bounded { IsTrue (S.opened source.new) →
@@ -98,12 +97,14 @@ fn answer_input<S: Source, O: Sink>(
             answer_by(alloc, asked, job, input, source, out)
         }
         Format::Vcd => {
-            let input = dump_input(alloc, &asked.patterns, job.scale, limit)?;
+            let signals = &definitions.signals;
+            let input = dump_input(alloc, &asked.patterns, signals, job.scale, limit)?;
             answer_by(alloc, asked, job, input, source, out)
         }
         Format::Csv => {
             let pattern = &asked.patterns[0];
-            let input = column_input(alloc, pattern, definitions, job.scale, limit)?;
+            let Definitions { columns, .. } = definitions;
+            let input = column_input(alloc, pattern, columns, job.scale, limit)?;
             answer_by(alloc, asked, job, input, source, out)
         }
     }
@@ -121,14 +122,14 @@ fn shown_text(alloc: Global, pattern: &Pattern, scale: u8) -> Result<String, All
     Ok(text)
 }
 
-/// Writes what answers a job with these patterns, for which the definitions say what names of
-/// columns mean: at once where all is known, or as the input comes.
+/// Writes what answers a job with these patterns, for which the definitions say what names mean: at
+/// once where all is known, or as the input comes.
 ///
 /// A job that shows a pattern, or makes a trace of its own, has one pattern, and reads no input.
 pub fn answer<S: Source, O: Sink>(
     alloc: Global,
     asked: &Asked,
-    definitions: Vec<Definition>,
+    definitions: Definitions,
     job: &Job,
     source: &mut S,
     out: &mut O,
@@ -137,7 +138,7 @@ pub fn answer<S: Source, O: Sink>(
     requires job { IsJob job.now }
     requires fits { FitsJob job.now asked.now }
     requires alone { (ReadsInput job.now.mode → ⊥) → length asked.now.patterns.items ≡ 1 }
-    ensures ends { EndsOver (request_for job.now definitions.items asked.now)
+    ensures ends { EndsOver (request_for job.now definitions asked.now)
         (input_told S.file_name S.file S.sound S.opened S.left S.found S.faults source.old
         source.new) (output_told O.written O.faults out.old out.new) result }
     ensures bounded { IsTrue (S.opened source.new) →

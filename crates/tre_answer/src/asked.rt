@@ -1,3 +1,5 @@
+use tre_define::SignalDefinition;
+use tre_num::Definition;
 use tre_syntax::Pattern;
 
 /// Patterns that are looked for, and the label of each: it stands before each line on its pattern
@@ -9,4 +11,13 @@ use tre_syntax::Pattern;
 pub struct Asked {
     pub patterns: Vec<Pattern>,
     pub labels: Vec<String>,
+}
+
+/// What names mean that a text defines, in the format of the input; none in the others.
+#[derive(Debug, Drop)]
+pub struct Definitions {
+    /// Comparisons of columns.
+    pub columns: Vec<Definition>,
+    /// Tests and changes of the signals of a dump.
+    pub signals: Vec<SignalDefinition>,
 }

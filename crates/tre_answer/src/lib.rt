@@ -20,4 +20,4 @@ pub mod laws;
 mod offline;
 
 pub use answering::answer;
-pub use asked::Asked;
+pub use asked::{Asked, Definitions};

@@ -6,7 +6,7 @@ ghost use Rattle.tre_answer.specs.Request.{FitsJob, request_for};
 ghost use Rattle.tre_answer.specs.Wanted.{AreZonesOf, IsWanted, MatchesSome};
 ghost use Rattle.tre_feed.specs.Input.{TakesAtMost, input_told};
 ghost use Rattle.tre_feed.specs.Standing.{IsNew, recording_of};
-ghost use Rattle.tre_num.specs.Defined.{Defined};
+ghost use Rattle.tre_answer.specs.declared.asked.Definitions.{Definitions};
 ghost use Rattle.tre_pairs.specs.Except.{Except};
 ghost use Rattle.tre_tell.specs.Sought.{sought_by};
 ghost use Rattle.tre_trace.specs.Trace.{IsTrace, end_of, quiet};
@@ -127,14 +127,14 @@ pub fn matches_text<S: Source, R: TraceReader + Drop>(
     requires fits { FitsJob job.now asked.now }
     requires input { IsInputOf R.names asked.now job.now input }
     requires new { IsNew R.terms R.represents R.names input }
-    ensures found { (lets : List Defined) → recording_of R.recording R.terms input
-        ≡ recording_for (request_for job.now lets asked.now) →
-        IfOk result (λ text. IsFoundFor (request_for job.now lets asked.now)
+    ensures found { (definitions : Definitions) → recording_of R.recording R.terms input
+        ≡ recording_for (request_for job.now definitions asked.now) →
+        IfOk result (λ text. IsFoundFor (request_for job.now definitions asked.now)
         (input_told S.file_name S.file S.sound S.opened S.left S.found S.faults source.old
         source.new) (string_bytes text)) }
-    ensures stops { (lets : List Defined) → recording_of R.recording R.terms input
-        ≡ recording_for (request_for job.now lets asked.now) →
-        IfErr result (StopsAs (request_for job.now lets asked.now)
+    ensures stops { (definitions : Definitions) → recording_of R.recording R.terms input
+        ≡ recording_for (request_for job.now definitions asked.now) →
+        IfErr result (StopsAs (request_for job.now definitions asked.now)
         (input_told S.file_name S.file S.sound S.opened S.left S.found S.faults source.old
         source.new)) }
     ensures bounded { IsTrue (S.opened source.new) →

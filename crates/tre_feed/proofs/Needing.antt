@@ -3,12 +3,13 @@ use Rattle.std.proofs.Common.{◌≡◌, ◌∙◌, ◌&&◌, ℕ, ◌+◌, ◌<
 use Rattle.std.specs.List.{list_all}
 use Rattle.std.specs.Option.{is_some}
 use Rattle.std.proofs.lemmas.List.{map_more, take_all}
+use Rattle.tre_define.specs.Signals.{SignalDefined}
 use Rattle.tre_trace.specs.Reading.{Vocabulary}
 use Rattle.tre_feed.specs.Dump.{NeedsAll}
-use Rattle.tre_vcd.specs.Needs.{JoinsNames}
+use Rattle.tre_vcd.specs.Sorted.{JoinsNames}
 use Rattle.tre_feed.specs.Dump.{dump_terms}
 use Rattle.tre_vcd.proofs.Listing.{listed-alike}
-use Rattle.tre_vcd.specs.VcdReading.{Statement, vcd_recording, are_declared, identifier_of, is_signal, is_event}
+use Rattle.tre_vcd.specs.VcdReading.{Statement, vcd_recording, are_declared, signal_of, event_of}
 
 crossed : (a b c d : Bool) → ((a && b) && (c && d)) ≡ ((a && c) && (b && d))
 crossed true true c d = refl
@@ -17,16 +18,17 @@ crossed true false false d = refl
 crossed false b c d = refl
 
 -- with these names too
-joined : (past : List Statement) (old added new : Vocabulary) → JoinsNames old.names added.names new.names
-    → JoinsNames old.events added.events new.events
-    → are_declared past new ≡ (are_declared past old && are_declared past added)
-joined past old added new names events =
-    ap₂ (λ (a b : Bool). a && b) (names.each (λ name. is_some (identifier_of is_signal past name)))
-    (events.each (λ name. is_some (identifier_of is_event past name)))
-    ∙ crossed (list_all (λ name. is_some (identifier_of is_signal past name)) old.names)
-    (list_all (λ name. is_some (identifier_of is_signal past name)) added.names)
-    (list_all (λ name. is_some (identifier_of is_event past name)) old.events)
-    (list_all (λ name. is_some (identifier_of is_event past name)) added.events)
+joined : (definitions : List SignalDefined) (past : List Statement) (old added new : Vocabulary)
+    → JoinsNames old.names added.names new.names → JoinsNames old.events added.events new.events
+    → are_declared definitions past new
+    ≡ (are_declared definitions past old && are_declared definitions past added)
+joined definitions past old added new names events =
+    ap₂ (λ (a b : Bool). a && b) (names.each (λ name. is_some (signal_of definitions past name)))
+    (events.each (λ name. is_some (event_of definitions past name)))
+    ∙ crossed (list_all (λ name. is_some (signal_of definitions past name)) old.names)
+    (list_all (λ name. is_some (signal_of definitions past name)) added.names)
+    (list_all (λ name. is_some (event_of definitions past name)) old.events)
+    (list_all (λ name. is_some (event_of definitions past name)) added.events)
 
 and-true : (b : Bool) → (b && true) ≡ b
 and-true true = refl
@@ -43,19 +45,21 @@ all-push test (first ∷ xs) x =
     ap (λ b. test first && b) (all-push test xs x) ∙ and-assoc (test first) (list_all test xs) (test x)
 
 pub needs-none : (set : Vocabulary) → set ≡ record { names = []; events = [] } → NeedsAll set []
-needs-none set is = record { declared = λ past. ap (are_declared past) is }
+needs-none set is = record {
+  declared = λ definitions past. ap (are_declared definitions past) is;
+}
 
 pub needs-more : {X : Type 0} (f : X → Vocabulary) (xs : List X) (i : ℕ) (x : X)
     (old added new : Vocabulary) → i < length xs → x ≡ get_or xs i x → added ≡ f x
     → JoinsNames old.names added.names new.names → JoinsNames old.events added.events new.events
     → NeedsAll old (map f (take i xs)) → NeedsAll new (map f (take (i + 1) xs))
 needs-more f xs i x old added new below here is names events needs = record {
-  declared = λ past.
-      joined past old added new names events
-      ∙ ap₂ (λ (a b : Bool). a && b) (needs.declared past)
-      (ap (are_declared past) (is ∙ ap f here))
-      ∙ sym (all-push (are_declared past) (map f (take i xs)) (f (get_or xs i x)))
-      ∙ ap (list_all (are_declared past)) (sym (map_more f xs i x below));
+  declared = λ definitions past.
+      joined definitions past old added new names events
+      ∙ ap₂ (λ (a b : Bool). a && b) (needs.declared definitions past)
+      (ap (are_declared definitions past) (is ∙ ap f here))
+      ∙ sym (all-push (are_declared definitions past) (map f (take i xs)) (f (get_or xs i x)))
+      ∙ ap (list_all (are_declared definitions past)) (sym (map_more f xs i x below));
 }
 
 pub needs-all : {X : Type 0} (f : X → Vocabulary) (xs : List X) (i : ℕ) (set : Vocabulary)
@@ -64,8 +68,10 @@ needs-all f xs i set past needs =
     subst (λ all. NeedsAll set (map f all)) (take_all i xs past) needs
 
 -- so a dump that must declare the set says what one does that must declare all lists
-pub needs-alike : (set : Vocabulary) (all : List Vocabulary) (scale : ℕ) → NeedsAll set all
-    → vcd_recording (dump_terms (set ∷ []) scale) ≡ vcd_recording (dump_terms all scale)
-needs-alike set all scale needs =
-    listed-alike (set ∷ []) all scale
-    (λ past. and-true (are_declared past set) ∙ needs.declared past)
+pub needs-alike : (set : Vocabulary) (all : List Vocabulary) (scale : ℕ)
+    (definitions : List SignalDefined) → NeedsAll set all
+    → vcd_recording (dump_terms (set ∷ []) scale definitions)
+    ≡ vcd_recording (dump_terms all scale definitions)
+needs-alike set all scale definitions needs =
+    listed-alike (set ∷ []) all scale definitions
+    (λ past. and-true (are_declared definitions past set) ∙ needs.declared definitions past)

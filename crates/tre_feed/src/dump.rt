@@ -6,7 +6,7 @@ ghost use Rattle.tre_feed.specs.Standing.{Asks, IsNew, limit_of, recording_of};
 ghost use Rattle.tre_feed.specs.Dump.{NeedsAll, dump_terms};
 ghost use Rattle.tre_syntax.specs.Pattern.{names_of};
 ghost use Rattle.tre_trace.specs.declared.reader.TheConstants.{FED_MAX};
-ghost use Rattle.tre_vcd.specs.Needs.{needs};
+ghost use Rattle.tre_vcd.specs.Needs.{definitions_of, needs};
 ghost use Rattle.tre_vcd.specs.VcdReading.{vcd_recording};
 
 use crate::group::Group;
@@ -14,15 +14,17 @@ use crate::input::Input;
 use crate::shares::share;
 use std::alloc::{AllocError, Global};
 use std::rc::Rc;
+use tre_define::SignalDefinition;
 use tre_syntax::Pattern;
 use tre_trace::TraceReader;
 use tre_vcd::{Needed, TokenReader, VcdReader};
 
-/// A dump that is read for these patterns, as far as the limit, and must declare the names of all.
-/// Nothing of it was read.
+/// A dump that is read for these patterns, whose names mean what the definitions say, as far as the
+/// limit. It must declare what the names of all patterns read. Nothing of it was read.
 pub fn dump_input(
     alloc: Global,
     patterns: &[Pattern],
+    definitions: &[SignalDefinition],
     scale: u8,
     limit: usize,
 ) -> Result<Input<VcdReader>, AllocError>
@@ -36,22 +38,30 @@ pub fn dump_input(
     ensures recording { IfOk result (λ input.
         recording_of ⟦<VcdReader as TraceReader>⟧.recording
         ⟦<VcdReader as TraceReader>⟧.terms input
-        ≡ vcd_recording (dump_terms (map names_of patterns.now) scale)) }
+        ≡ vcd_recording (dump_terms (map names_of patterns.now) scale definitions.now)) }
     ensures limit { IfOk result (λ input. limit_of input ≡ limit) }
 {
     let shares = share(alloc, patterns)?;
     let (groups, views) = shares.into_parts();
-    let needed = needed_by(alloc, patterns)?;
-    let readers = dump_readers(alloc, &groups, &needed, scale)?;
+    let needed = needed_by(alloc, patterns, definitions)?;
+    let readers = dump_readers(alloc, &groups, &needed, definitions, scale)?;
     let input = Input::new(alloc, readers, views, limit)?;
     Ok(input)
 }
 
 // The names that a dump for these patterns must declare, to be shared by its readers.
-fn needed_by(alloc: Global, patterns: &[Pattern]) -> Result<Rc<Needed>, AllocError>
-    ensures { IfOk result (λ needed. NeedsAll (needs needed.value) (map names_of patterns.now)) }
+fn needed_by(
+    alloc: Global,
+    patterns: &[Pattern],
+    definitions: &[SignalDefinition],
+) -> Result<Rc<Needed>, AllocError>
+    ensures needs { IfOk result (λ needed.
+        NeedsAll (needs needed.value) (map names_of patterns.now)) }
+    ensures definitions { IfOk result (λ needed.
+        definitions_of needed.value ≡ definitions.now) }
 {
     let mut needed = Needed::new(alloc);
+    needed.define(definitions)?;
     for pattern in patterns {
         needed.add(pattern.names(), pattern.events())?;
     }
@@ -66,19 +76,21 @@ fn dump_readers(
     alloc: Global,
     groups: &[Group],
     needed: &Rc<Needed>,
+    definitions: &[SignalDefinition],
     scale: u8,
 ) -> Result<Vec<VcdReader>, AllocError>
-    requires { scale ≤ SCALE_MAX }
+    requires scale { scale ≤ SCALE_MAX }
+    requires needed { definitions_of needed.now.value ≡ definitions.now }
     ensures names { IfOk result (λ readers.
         map ⟦<VcdReader as TraceReader>⟧.names readers.items ≡ groups.now) }
     ensures fresh { IfOk result (λ readers. AllByRecursion
         (λ reader. (⟦<VcdReader as TraceReader>⟧.terms reader
-        ≡ dump_terms (needs needed.now.value ∷ []) scale)
+        ≡ dump_terms (needs needed.now.value ∷ []) scale definitions.now)
         × ⟦<VcdReader as TraceReader>⟧.represents reader []) readers.items) }
 {
     let mut readers = Vec::new(alloc);
     for group in groups {
-        readers.push(dump_reader(alloc, group, needed, scale)?)?;
+        readers.push(dump_reader(alloc, group, needed, definitions, scale)?)?;
     }
     Ok(readers)
 }
@@ -88,18 +100,21 @@ fn dump_reader(
     alloc: Global,
     group: &Group,
     needed: &Rc<Needed>,
+    definitions: &[SignalDefinition],
     scale: u8,
 ) -> Result<VcdReader, AllocError>
-    requires { scale ≤ SCALE_MAX }
+    requires scale { scale ≤ SCALE_MAX }
+    requires needed { definitions_of needed.now.value ≡ definitions.now }
     ensures fresh { IfOk result (λ reader. ⟦<VcdReader as TraceReader>⟧.represents reader []) }
     ensures terms { IfOk result (λ reader. ⟦<VcdReader as TraceReader>⟧.terms reader
-        ≡ dump_terms (needs needed.now.value ∷ []) scale) }
+        ≡ dump_terms (needs needed.now.value ∷ []) scale definitions.now) }
     ensures names { IfOk result (λ reader. ⟦<VcdReader as TraceReader>⟧.names reader
         ≡ group.now) }
 {
     let names = group.names().try_clone()?;
     let events = group.events().try_clone()?;
     let mut tokens = TokenReader::new(alloc, names, events, scale);
+    tokens.define(definitions)?;
     tokens.must_declare(needed)?;
     let reader = VcdReader::new(alloc, tokens);
     Ok(reader)

@@ -1,14 +1,15 @@
 -- What a job asks for, by its mode.
-use Rattle.std.proofs.Common.{◌≡◌, ◌≢◌, ℕ, List, true, Option, None, Some, IfSome, refl, sym, subst}
+use Rattle.std.proofs.Common.{◌≡◌, ◌≢◌, ℕ, List, true, Option, None, Some, IfSome, refl, sym, ◌∙◌, subst}
 use Rattle.std.specs.Prelude.{is_some}
 use Rattle.tre_answer.specs.Ends.{ReadsInput}
 use Rattle.tre_feed.specs.Input.{AllReadsGood, InputTold}
 use Rattle.tre_tell.specs.Sought.{Sought}
-use Rattle.tre_tool.specs.Checks.{ChecksWereRead}
-use Rattle.tre_tool.specs.Parts.{StopsAsking, StopsChecks}
-use Rattle.tre_tool.specs.Request.{Spell, texts_with, ArePatterns, IsRefusalOf, IsRefusalIn}
+use Rattle.tre_tool.specs.Checks.{ChecksWereRead, SayPatterns}
+use Rattle.tre_tool.specs.Parts.{RefusesDefinitions, StopsAsking, StopsChecks}
+use Rattle.tre_tool.proofs.Definings.{IsRefusalOfWatch-definitions}
+use Rattle.tre_tool.specs.Request.{Spell, texts_with, ArePatterns, IsRefusalOf, IsRefusalOfFile, IsRefusalOfWatch, IsRefusalIn}
 use Rattle.tre_tool.specs.declared.status.Status.{Status}
-use Rattle.tre_tool.specs.declared.status.Status.TheVariants.{ReadFault, Memory}
+use Rattle.tre_tool.specs.declared.status.Status.TheVariants.{Done, Usage, Expression, Minus, Definitions, Watch as WatchStatus, Trace, InputTooLong, TooManyZones, ReadFault, WriteFault, Memory}
 use Rattle.tre_watch.specs.Outcome.{Outcome}
 use Rattle.tre_words.specs.Job.{IsJob}
 use Rattle.tre_words.specs.declared.job.Job.{Job}
@@ -67,13 +68,59 @@ StopsAsking-memory job checks status is good = rw is (record {
   unread = λ unread. absurd cc;
 })
 
+-- nor is one of definitions
+definitions_unread : (job : Job) (status : Status) → (status ≢ Memory → RefusesDefinitions job status)
+    → status ≢ ReadFault
+definitions_unread job status refuses is =
+    let told = refuses (λ memory. cc) in
+    let both : ReadFault ≡ Definitions told.fault = sym is ∙ told.is in
+    cc
+
+-- a job in the mode of a watch is refused as a watch is
+refusal_of_watch : (mode : Mode) (Says : ℕ → Outcome → Type 0) (job : Job) (status : Status)
+    (file : List ℕ) → mode ≡ Watch file → IsRefusalOfWatch Says job status
+    → IsRefusalIn mode Says job status
+refusal_of_watch mode Says job status file is told =
+    subst (λ (m : Mode). IsRefusalIn m Says job status) (sym is) told
+
+-- a watch, whose definitions were refused behind its file of checks
+pub StopsAsking-definitions : (job : Job) (checks : InputTold) (status : Status)
+    (patterns : List Sought) (file : List ℕ) → job.mode ≡ Watch file
+    → (status ≢ Memory → RefusesDefinitions job status)
+    → SayPatterns (ChecksWereRead checks) job.scale patterns → AllReadsGood checks
+    → StopsAsking job checks status
+StopsAsking-definitions job checks status patterns file is refuses said good = record {
+  wanting = λ other. good;
+  refuses = λ never unread. refusal_of_watch job.mode (ChecksWereRead checks) job status file is
+      (IsRefusalOfWatch-definitions (ChecksWereRead checks) job status patterns (refuses never)
+      said);
+  unread = λ unread. absurd (definitions_unread job status refuses unread);
+}
+
+-- what a file of checks is refused as, its watch is
+watch_of_file : (Says : ℕ → Outcome → Type 0) (job : Job) (status : Status)
+    → IsRefusalOfFile Says job.scale status → IsRefusalOfWatch Says job status
+watch_of_file Says job Done is = is
+watch_of_file Says job Usage is = is
+watch_of_file Says job (Expression fault) is = is
+watch_of_file Says job (Minus fault) is = is
+watch_of_file Says job (WatchStatus fault) is = is
+watch_of_file Says job (Trace fault) is = is
+watch_of_file Says job InputTooLong is = is
+watch_of_file Says job (TooManyZones zones) is = is
+watch_of_file Says job ReadFault is = is
+watch_of_file Says job WriteFault is = is
+watch_of_file Says job Memory is = is
+watch_of_file Says job (Definitions fault) is = absurd is
+
 -- a watch, whose file of checks was refused or not read
 pub StopsAsking-watch : (job : Job) (checks : InputTold) (status : Status) (file : List ℕ)
     → job.mode ≡ Watch file → StopsChecks file job.scale checks status
     → StopsAsking job checks status
 StopsAsking-watch job checks status file is stops = record {
   wanting = stops.wanting;
-  refuses = λ never unread. rw is (stops.refuses never unread);
+  refuses = λ never unread. refusal_of_watch job.mode (ChecksWereRead checks) job status file is
+      (watch_of_file (ChecksWereRead checks) job status (stops.refuses never unread));
   unread = λ unread. (file, is, stops.unread unread);
 }
 

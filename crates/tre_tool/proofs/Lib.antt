@@ -2,6 +2,8 @@
 pub mod Texts
 -- what was read of a file of checks
 pub mod Plans
+-- what a text of definitions says
+pub mod Definings
 -- what a job asks for
 pub mod Asking
 -- that words and a file of checks ask for one thing

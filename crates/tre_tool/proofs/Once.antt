@@ -2,6 +2,8 @@
 -- the file comes to, and `same` that they agree on it.
 use Rattle.std.proofs.Common.{◌≡◌, ℕ, List, refl, sym, ◌∙◌, subst, ⊎_elim, ap}
 use Rattle.tre_answer.specs.Request.{Request}
+use Rattle.tre_define.specs.Signals.{SignalDefined}
+use Rattle.tre_define.specs.declared.let_fault.LetFault.{LetFault}
 use Rattle.tre_num.specs.Defined.{Defined}
 use Rattle.tre_tell.specs.Sought.{Sought}
 use Rattle.tre_watch.specs.Outcome.{Outcome, planned, faulty}
@@ -10,10 +12,10 @@ use Rattle.tre_words.specs.declared.job.Job.{Job}
 use Rattle.tre_words.specs.declared.job.Mode.{Mode}
 use Rattle.tre_words.specs.declared.job.Mode.TheVariants.{Offline, Online, Show, Generate, Watch as WatchMode}
 use Rattle.tre_tool.specs.Checks.{SayPatterns, labelled}
-use Rattle.tre_tool.specs.Request.{texts_with, ArePatterns, AreDefinitions, IsRefusalOfFile, IsRefusalIn, AsksFor, Asks, IsRefused, AsksForNothing}
+use Rattle.tre_tool.specs.Request.{texts_with, ArePatterns, AreDefinitions, AreRefusedDefinitions, IsRefusalOfWatch, IsRefusalIn, AsksFor, Asks, IsRefused, AsksForNothing}
 use Rattle.tre_tool.specs.declared.status.Status.{Status}
 use Rattle.tre_tool.specs.declared.status.Status.TheVariants.{Done, Usage, Expression, Minus, Definitions, Watch, Trace, InputTooLong, TooManyZones, ReadFault, WriteFault, Memory}
-use Rattle.tre_tool.proofs.Texts.{spell_once, definitions_once, texts_or_refused, text_refusal_once}
+use Rattle.tre_tool.proofs.Texts.{spell_once, definitions_once, defined_or_refused, lets_once, texts_or_refused, text_refusal_once}
 
 -- ---- files of checks
 
@@ -26,25 +28,28 @@ abbrev pub Agree : Meaning → Meaning → Type 0
 Agree Says Tells =
     (scale : ℕ) (one other : Outcome) → Says scale one → Tells scale other → one ≡ other
 
--- a file is refused
-data RefusesFile (Says : Meaning) (scale : ℕ) (refusal : Status) : Type 0 where
-  of_file : (fault : WatchFault) → refusal ≡ Watch fault → Says scale (faulty fault)
-      → RefusesFile Says scale refusal
+-- What a refusal of a watch is of: its file, or its definitions.
+data RefusesWatch (Says : Meaning) (job : Job) (refusal : Status) : Type 0 where
+  of_file : (fault : WatchFault) → refusal ≡ Watch fault → Says job.scale (faulty fault)
+      → RefusesWatch Says job refusal
+  of_definitions : (fault : LetFault) → refusal ≡ Definitions fault
+      → AreRefusedDefinitions (SayPatterns Says job.scale) job fault
+      → RefusesWatch Says job refusal
 
-refuses_file_of : (Says : Meaning) (scale : ℕ) (refusal : Status)
-    → IsRefusalOfFile Says scale refusal → RefusesFile Says scale refusal
-refuses_file_of Says scale (Watch fault) is = of_file fault refl is
-refuses_file_of Says scale (Expression fault) is = absurd is
-refuses_file_of Says scale (Minus fault) is = absurd is
-refuses_file_of Says scale (Definitions fault) is = absurd is
-refuses_file_of Says scale Done is = absurd is
-refuses_file_of Says scale Usage is = absurd is
-refuses_file_of Says scale (Trace fault) is = absurd is
-refuses_file_of Says scale InputTooLong is = absurd is
-refuses_file_of Says scale (TooManyZones zones) is = absurd is
-refuses_file_of Says scale ReadFault is = absurd is
-refuses_file_of Says scale WriteFault is = absurd is
-refuses_file_of Says scale Memory is = absurd is
+refuses_watch_of : (Says : Meaning) (job : Job) (refusal : Status)
+    → IsRefusalOfWatch Says job refusal → RefusesWatch Says job refusal
+refuses_watch_of Says job (Watch fault) is = of_file fault refl is
+refuses_watch_of Says job (Definitions fault) is = of_definitions fault refl is
+refuses_watch_of Says job (Expression fault) is = absurd is
+refuses_watch_of Says job (Minus fault) is = absurd is
+refuses_watch_of Says job Done is = absurd is
+refuses_watch_of Says job Usage is = absurd is
+refuses_watch_of Says job (Trace fault) is = absurd is
+refuses_watch_of Says job InputTooLong is = absurd is
+refuses_watch_of Says job (TooManyZones zones) is = absurd is
+refuses_watch_of Says job ReadFault is = absurd is
+refuses_watch_of Says job WriteFault is = absurd is
+refuses_watch_of Says job Memory is = absurd is
 
 module _ (Says Tells : Meaning) (same : Agree Says Tells) where
   -- a file says one list of patterns
@@ -59,19 +64,41 @@ module _ (Says Tells : Meaning) (same : Agree Says Tells) where
       ∙ (ap (λ s. labelled so'.names s) spelt ∙ sym so'.are))
 
   -- or it is refused
-  say_or_refused : (scale : ℕ) (refusal : Status) (patterns : List Sought)
-      → SayPatterns Says scale patterns → RefusesFile Tells scale refusal → ⊥
-  say_or_refused scale refusal patterns so (of_file fault is told) =
+  say_or_refused : (scale : ℕ) (fault : WatchFault) (patterns : List Sought)
+      → SayPatterns Says scale patterns → Tells scale (faulty fault) → ⊥
+  say_or_refused scale fault patterns so told =
       let one = same scale (planned so.names so.spelt) (faulty fault) so.says told in
       cc
 
+  refused_or_say : (scale : ℕ) (fault : WatchFault) (patterns : List Sought)
+      → Says scale (faulty fault) → SayPatterns Tells scale patterns → ⊥
+  refused_or_say scale fault patterns told so =
+      let one = same scale (faulty fault) (planned so.names so.spelt) told so.says in
+      cc
+
+  -- a watch asks for something or is refused
+  watch_or_refused : (job : Job) (refusal : Status) (patterns : List Sought)
+      (lets : List Defined) (signals : List SignalDefined) → SayPatterns Says job.scale patterns
+      → AreDefinitions job lets signals → RefusesWatch Tells job refusal → ⊥
+  watch_or_refused job refusal patterns lets signals so defined (of_file fault is told) =
+      say_or_refused job.scale fault patterns so told
+  watch_or_refused job refusal patterns lets signals so defined (of_definitions fault is told) =
+      defined_or_refused _ job fault lets signals told defined
+
   -- in one way
-  file_refusal_once : (scale : ℕ) (one other : Status) → RefusesFile Says scale one
-      → RefusesFile Tells scale other → one ≡ other
-  file_refusal_once scale one other (of_file fault is told) (of_file fault' is' told') =
-      let both = same scale (faulty fault) (faulty fault') told told' in
+  watch_refusal_once : (job : Job) (one other : Status) → RefusesWatch Says job one
+      → RefusesWatch Tells job other → one ≡ other
+  watch_refusal_once job one other (of_file fault is told) (of_file fault' is' told') =
+      let both = same job.scale (faulty fault) (faulty fault') told told' in
       let faults : fault ≡ fault' = cc in
       is ∙ (ap Watch faults ∙ sym is')
+  watch_refusal_once job one other (of_definitions fault is told)
+      (of_definitions fault' is' told') =
+      is ∙ (ap Definitions (lets_once _ _ job fault fault' told told') ∙ sym is')
+  watch_refusal_once job one other (of_file fault is told) (of_definitions fault' is' told') =
+      absurd (refused_or_say job.scale fault told'.patterns told told'.sought)
+  watch_refusal_once job one other (of_definitions fault is told) (of_file fault' is' told') =
+      absurd (say_or_refused job.scale fault' told.patterns told.sought told')
 
   -- ---- jobs
 
@@ -87,17 +114,18 @@ module _ (Says Tells : Meaning) (same : Agree Says Tells) where
   patterns_once (WatchMode file) job some others so so' = say_once job.scale some others so so'
 
   patterns_or_refused : (mode : Mode) (job : Job) (refusal : Status) (patterns : List Sought)
-      (lets : List Defined) → ArePatterns mode Says job patterns
-      → AreDefinitions job.mode job lets → IsRefusalIn mode Tells job refusal → ⊥
-  patterns_or_refused Offline job refusal patterns lets so defined is =
-      texts_or_refused job refusal patterns lets is so defined
-  patterns_or_refused Online job refusal patterns lets so defined is =
-      texts_or_refused job refusal patterns lets is so defined
-  patterns_or_refused Show job refusal patterns lets so defined is =
-      texts_or_refused job refusal patterns lets is so defined
-  patterns_or_refused (Generate count) job refusal patterns lets so defined is = absurd is
-  patterns_or_refused (WatchMode file) job refusal patterns lets so defined is =
-      say_or_refused job.scale refusal patterns so (refuses_file_of Tells job.scale refusal is)
+      (lets : List Defined) (signals : List SignalDefined) → ArePatterns mode Says job patterns
+      → AreDefinitions job lets signals → IsRefusalIn mode Tells job refusal → ⊥
+  patterns_or_refused Offline job refusal patterns lets signals so defined is =
+      texts_or_refused job refusal patterns lets signals is so defined
+  patterns_or_refused Online job refusal patterns lets signals so defined is =
+      texts_or_refused job refusal patterns lets signals is so defined
+  patterns_or_refused Show job refusal patterns lets signals so defined is =
+      texts_or_refused job refusal patterns lets signals is so defined
+  patterns_or_refused (Generate count) job refusal patterns lets signals so defined is = absurd is
+  patterns_or_refused (WatchMode file) job refusal patterns lets signals so defined is =
+      watch_or_refused job refusal patterns lets signals so defined
+      (refuses_watch_of Tells job refusal is)
 
   refusal_once : (mode : Mode) (job : Job) (one other : Status) → IsRefusalIn mode Says job one
       → IsRefusalIn mode Tells job other → one ≡ other
@@ -106,14 +134,15 @@ module _ (Says Tells : Meaning) (same : Agree Says Tells) where
   refusal_once Show job one other is is' = text_refusal_once job one other is is'
   refusal_once (Generate count) job one other is is' = absurd is
   refusal_once (WatchMode file) job one other is is' =
-      file_refusal_once job.scale one other (refuses_file_of Says job.scale one is)
-      (refuses_file_of Tells job.scale other is')
+      watch_refusal_once job one other (refuses_watch_of Says job one is)
+      (refuses_watch_of Tells job other is')
 
 -- ---- words
 
 -- a request by its parts
-request_of : Job → List Sought → List Defined → Request
-request_of job patterns lets = record { job = job; patterns = patterns; lets = lets }
+request_of : Job → List Sought → List Defined → List SignalDefined → Request
+request_of job patterns lets signals =
+    record { job = job; patterns = patterns; lets = lets; signals = signals }
 
 -- They give one job.
 abbrev pub GiveOne : (Job → Type 0) → Type 0
@@ -131,13 +160,14 @@ module _ (Gives : Job → Type 0) (once : GiveOne Gives) (Says Tells : Meaning)
       asks.patterns in
       let same_patterns = patterns_once Says Tells same other.job.mode other.job one.patterns
       other.patterns patterns asks'.patterns in
-      let definitions = subst (λ (j : Job). AreDefinitions j.mode j one.lets) same_job
+      let definitions = subst (λ (j : Job). AreDefinitions j one.lets one.signals) same_job
       asks.definitions in
-      let same_lets = definitions_once other.job.mode other.job one.lets other.lets definitions
-      asks'.definitions in
-      ap (λ j. request_of j one.patterns one.lets) same_job
-      ∙ (ap (λ p. request_of other.job p one.lets) same_patterns
-      ∙ ap (λ l. request_of other.job other.patterns l) same_lets)
+      let same_lets = definitions_once other.job one.lets other.lets one.signals other.signals
+      definitions asks'.definitions in
+      ap (λ j. request_of j one.patterns one.lets one.signals) same_job
+      ∙ (ap (λ p. request_of other.job p one.lets one.signals) same_patterns
+      ∙ (ap (λ l. request_of other.job other.patterns l one.signals) same_lets.0
+      ∙ ap (λ s. request_of other.job other.patterns other.lets s) same_lets.1))
 
   -- what is so of it
   pub the_request : (request : Request) (IsSo : Request → Type 0) → AsksFor Gives Tells request
@@ -151,7 +181,7 @@ module _ (Gives : Job → Type 0) (once : GiveOne Gives) (Says Tells : Meaning)
   asked_or_refused request refusal asks told =
       let same_job = once told.job request.job told.gives asks.gives in
       patterns_or_refused Says Tells same request.job.mode request.job refusal request.patterns
-      request.lets asks.patterns asks.definitions
+      request.lets request.signals asks.patterns asks.definitions
       (subst (λ (j : Job). IsRefusalIn j.mode Tells j refusal) same_job told.refuses)
 
   -- they are refused in one way

@@ -4,6 +4,7 @@ use Rattle.std.specs.Io.KnownBytes.{Appends}
 use Rattle.tre_answer.specs.Ends.{ReadsInput, EndsOver, EndsDone}
 use Rattle.tre_answer.specs.Request.{Request, request_for, sought_in}
 use Rattle.tre_answer.specs.declared.asked.Asked.{Asked}
+use Rattle.tre_answer.specs.declared.asked.Definitions.{Definitions as Meanings}
 use Rattle.tre_feed.specs.declared.fault.Fault.{Fault}
 use Rattle.tre_feed.specs.declared.fault.Fault.TheVariants.{Trace as FaultTrace, TooLong as FaultTooLong, TooManyZones as FaultTooMany, Read as FaultRead, Write as FaultWrite, Memory as FaultMemory}
 use Rattle.tre_feed.specs.Front.{IsUnreadable}
@@ -11,7 +12,6 @@ use Rattle.tre_feed.specs.Input.{InputTold, AllReadsGood}
 use Rattle.tre_io.specs.Faults.{HasCause}
 use Rattle.tre_io.specs.Written.{AppendsPart}
 use Rattle.tre_io.specs.declared.faults.Failed.{Failed}
-use Rattle.tre_num.specs.Defined.{Defined}
 use Rattle.tre_tell.specs.Outputs.{OutputTold}
 use Rattle.tre_watch.specs.Outcome.{Outcome}
 use Rattle.tre_words.specs.Job.{GivesJob}
@@ -22,7 +22,7 @@ use Rattle.tre_words.specs.declared.job.WordsFault.{WordsFault}
 use Rattle.tre_words.specs.declared.job.WordsFault.TheVariants.{Usage as WordsUsage, Memory as WordsMemory}
 use Rattle.tre_words.proofs.Jobs.{job_unique}
 use Rattle.tre_tool.specs.Checks.{ChecksWereRead}
-use Rattle.tre_tool.specs.Request.{ArePatterns, AreDefinitions, IsRefusalOf, IsRefusalOfFile, IsRefusalIn, AsksFor, IsRefused, GiveNone}
+use Rattle.tre_tool.specs.Request.{ArePatterns, AreDefinitions, IsRefusalOf, IsRefusalOfWatch, IsRefusalIn, AsksFor, IsRefused, GiveNone}
 use Rattle.tre_tool.specs.Run.{ReadsChecks, ComesFirst, NothingDone, EndsAs, IsLineTold}
 use Rattle.tre_tool.specs.Status.{words_status, fault_status}
 use Rattle.tre_tool.specs.declared.status.Status.{Status}
@@ -41,10 +41,11 @@ EndsAs-words Gives checks input output WordsMemory none good nothing =
 
 -- what they ask for, from what is found of a job
 pub AsksFor-of : (Gives : Job → Type 0) (Says : ℕ → Outcome → Type 0) (job : Job)
-    (lets : List Defined) (asked : Asked) → Gives job
-    → ArePatterns job.mode Says job (sought_in asked) → AreDefinitions job.mode job lets
-    → AsksFor Gives Says (request_for job lets asked)
-AsksFor-of Gives Says job lets asked gives patterns definitions = record {
+    (meanings : Meanings) (asked : Asked) → Gives job
+    → ArePatterns job.mode Says job (sought_in asked)
+    → AreDefinitions job meanings.columns.items meanings.signals.items
+    → AsksFor Gives Says (request_for job meanings asked)
+AsksFor-of Gives Says job meanings asked gives patterns definitions = record {
   gives = gives;
   patterns = patterns;
   definitions = definitions;
@@ -54,7 +55,7 @@ AsksFor-of Gives Says job lets asked gives patterns definitions = record {
 
 -- a status that is no refusal
 never_refused : (Says : ℕ → Outcome → Type 0) (mode : Mode) (job : Job) (status : Status)
-    → (IsRefusalOf job status → ⊥) → (IsRefusalOfFile Says job.scale status → ⊥)
+    → (IsRefusalOf job status → ⊥) → (IsRefusalOfWatch Says job status → ⊥)
     → IsRefusalIn mode Says job status → ⊥
 never_refused Says Offline job status text file is = text is
 never_refused Says Online job status text file is = text is

@@ -1,11 +1,10 @@
 -- What the texts of a job spell, and how they are refused: each text in one way at most.
 use Rattle.std.proofs.Common.{◌≡◌, ◌≢◌, ℕ, List, [], ◌∷◌, Option, None, Some, refl, sym, ◌∙◌, subst, inl, inr, ⊎_elim, ap, ◌⊎◌}
 use Rattle.std.specs.Option.{MatchOption}
-use Rattle.tre_num.specs.Defined.{Defined}
+use Rattle.tre_define.specs.Signals.{SignalDefined}
 use Rattle.tre_define.specs.Texts.{parts_of}
-use Rattle.tre_num.specs.Definitions.{Define, IsRefused as IsRefusedAt}
 use Rattle.tre_define.specs.declared.let_fault.LetFault.{LetFault}
-use Rattle.tre_num.proofs.OneReading.{same-definitions, refused-or, one-fault}
+use Rattle.tre_num.specs.Defined.{Defined}
 use Rattle.tre_parse.specs.Outcome.{IsOutcome, spelt, refused}
 use Rattle.tre_parse.specs.declared.fault.ParseFault.{ParseFault}
 use Rattle.tre_parse.specs.declared.fault.ParseFault.TheVariants.{TooLong, BadByte, Number, TooDeep, Syntax, EmptyInterval, TooManyNames, TooLarge, Memory as ParseMemory}
@@ -16,11 +15,11 @@ use Rattle.tre_syntax.specs.declared.pattern.Pattern.{Pattern}
 use Rattle.tre_tell.specs.Sought.{Sought}
 use Rattle.tre_trace.specs.Reading.{Vocabulary}
 use Rattle.tre_words.specs.declared.job.Job.{Job}
-use Rattle.tre_words.specs.declared.job.Mode.{Mode}
-use Rattle.tre_words.specs.declared.job.Mode.TheVariants.{Offline, Online, Show, Generate, Watch as WatchMode}
+use Rattle.tre_words.specs.declared.job.Format.{Format}
 use Rattle.tre_tool.specs.Parts.{plain_sought, patterns_with}
-use Rattle.tre_tool.specs.Request.{Spell, texts_with, AreDefinitions, IsRefusedMinus, AreRefusedDefinitions, IsRefusalOf}
+use Rattle.tre_tool.specs.Request.{Spell, text_read, texts_with, AreDefinedIn, AreDefinitions, AreRefusedIn, IsRefusedMinus, AreRefusedDefinitions, IsRefusalOf}
 use Rattle.tre_tool.specs.Status.{parse_status, minus_status}
+use Rattle.tre_tool.proofs.Definings.{defined_in_once, defined_in_or_refused, refused_in_once}
 use Rattle.tre_tool.specs.declared.status.Status.{Status}
 use Rattle.tre_tool.specs.declared.status.Status.TheVariants.{Done, Usage, Expression, Minus, Definitions, Watch, Trace, InputTooLong, TooManyZones, ReadFault, WriteFault, Memory}
 
@@ -55,23 +54,24 @@ spell_once scale (text ∷ texts) [] others so so' = absurd so
 spell_once scale (text ∷ texts) (one ∷ some) [] so so' = absurd so'
 
 -- A text of definitions is these, and where there is none there are none.
-abbrev AreDefinedBy : Option (List ℕ) → List Defined → Type 0
-AreDefinedBy text lets = MatchOption text (lets ≡ []) (λ text. Define (parts_of text) lets)
+abbrev AreDefinedBy : Format → Option (List ℕ) → List Defined → List SignalDefined → Type 0
+AreDefinedBy format text lets signals = MatchOption text ((lets ≡ []) × (signals ≡ []))
+    (λ text. AreDefinedIn format (parts_of text) lets signals)
 
 -- a text is one list of definitions
-defined_once : (text : Option (List ℕ)) (some others : List Defined) → AreDefinedBy text some
-    → AreDefinedBy text others → some ≡ others
-defined_once None some others so so' = so ∙ sym so'
-defined_once (Some text) some others so so' =
-    same-definitions (parts_of text) some others so.spelt so'.spelt
+defined_once : (format : Format) (text : Option (List ℕ)) (lets lets' : List Defined)
+    (signals signals' : List SignalDefined) → AreDefinedBy format text lets signals
+    → AreDefinedBy format text lets' signals' → (lets ≡ lets') × (signals ≡ signals')
+defined_once format None lets lets' signals signals' so so' =
+    (so.0 ∙ sym so'.0, so.1 ∙ sym so'.1)
+defined_once format (Some text) lets lets' signals signals' so so' =
+    defined_in_once format (parts_of text) lets lets' signals signals' so so'
 
-pub definitions_once : (mode : Mode) (job : Job) (some others : List Defined)
-    → AreDefinitions mode job some → AreDefinitions mode job others → some ≡ others
-definitions_once Offline job some others so so' = defined_once job.lets some others so so'
-definitions_once Online job some others so so' = so ∙ sym so'
-definitions_once Show job some others so so' = so ∙ sym so'
-definitions_once (Generate count) job some others so so' = so ∙ sym so'
-definitions_once (WatchMode file) job some others so so' = so ∙ sym so'
+pub definitions_once : (job : Job) (lets lets' : List Defined) (signals signals' : List SignalDefined)
+    → AreDefinitions job lets signals → AreDefinitions job lets' signals'
+    → (lets ≡ lets') × (signals ≡ signals')
+definitions_once job lets lets' signals signals' so so' =
+    defined_once job.format (text_read job.mode job.lets) lets lets' signals signals' so so'
 
 -- ---- refusals
 
@@ -205,12 +205,12 @@ all_or_second job fault patterns told so =
     (subst (λ taken. Spell job.scale (texts_with job.expr taken) patterns) told.given so)
 
 -- definitions that are refused are none
-defined_or_refused : (job : Job) (fault : LetFault) (lets : List Defined)
-    → AreRefusedDefinitions job fault → AreDefinedBy job.lets lets → ⊥
-defined_or_refused job fault lets told so =
-    let defined : Define (parts_of told.text) lets =
-    subst (λ text. AreDefinedBy text lets) told.given so in
-    refused-or (parts_of told.text) lets fault defined told.refuses
+pub defined_or_refused : (AreSought : List Sought → Type 0) (job : Job) (fault : LetFault)
+    (lets : List Defined) (signals : List SignalDefined)
+    → AreRefusedDefinitions AreSought job fault → AreDefinitions job lets signals → ⊥
+defined_or_refused AreSought job fault lets signals told so =
+    defined_in_or_refused job.format (parts_of told.text) lets signals fault
+    (subst (λ text. AreDefinedBy job.format text lets signals) told.given so) told.refuses
 
 -- a text is refused in one way
 fault_once : (scale : ℕ) (text : List ℕ) (one other : ParseFault)
@@ -229,12 +229,13 @@ minus_once job one other told told' =
     (subst (λ text. IsOutcome job.scale text (refused one))
     (given_once job.minus told.given told'.given) told.refuses) told'.refuses
 
-lets_once : (job : Job) (one other : LetFault) → AreRefusedDefinitions job one
-    → AreRefusedDefinitions job other → one ≡ other
-lets_once job one other told told' =
-    one-fault (parts_of told'.text) one other
-    (subst (λ text. IsRefusedAt (parts_of text) one)
-    (given_once job.lets told.given told'.given) told.refuses) told'.refuses
+pub lets_once : (AreSought AreAlso : List Sought → Type 0) (job : Job) (one other : LetFault)
+    → AreRefusedDefinitions AreSought job one → AreRefusedDefinitions AreAlso job other
+    → one ≡ other
+lets_once AreSought AreAlso job one other told told' =
+    refused_in_once job.format (parts_of told'.text) one other
+    (subst (λ text. AreRefusedIn job.format (parts_of text) one)
+    (given_once (text_read job.mode job.lets) told.given told'.given) told.refuses) told'.refuses
 
 -- What a refusal is of.
 data Refuses (job : Job) (refusal : Status) : Type 0 where
@@ -243,7 +244,8 @@ data Refuses (job : Job) (refusal : Status) : Type 0 where
   of_minus : (fault : ParseFault) → refusal ≡ Minus fault → IsRefusedMinus job fault
       → Refuses job refusal
   of_definitions : (fault : LetFault) → refusal ≡ Definitions fault
-      → AreRefusedDefinitions job fault → Refuses job refusal
+      → AreRefusedDefinitions (Spell job.scale (texts_with job.expr job.minus)) job fault
+      → Refuses job refusal
 
 refuses_of : (job : Job) (refusal : Status) → IsRefusalOf job refusal → Refuses job refusal
 refuses_of job (Expression fault) is = of_expression fault refl is
@@ -265,19 +267,19 @@ both_refuse job one other (of_expression fault is told) (of_expression fault' is
 both_refuse job one other (of_minus fault is told) (of_minus fault' is' told') =
     is ∙ (ap Minus (minus_once job fault fault' told told') ∙ sym is')
 both_refuse job one other (of_definitions fault is told) (of_definitions fault' is' told') =
-    is ∙ (ap Definitions (lets_once job fault fault' told told') ∙ sym is')
+    is ∙ (ap Definitions (lets_once _ _ job fault fault' told told') ∙ sym is')
 both_refuse job one other (of_expression fault is told) (of_minus fault' is' told') = absurd
     (first_or_refused job.scale job.expr fault [] told'.patterns told told'.spelt)
 both_refuse job one other (of_minus fault is told) (of_expression fault' is' told') = absurd
     (first_or_refused job.scale job.expr fault' [] told.patterns told' told.spelt)
 both_refuse job one other (of_expression fault is told) (of_definitions fault' is' told') = absurd
-    (all_or_first job.scale job.expr job.minus fault told'.patterns told told'.spelt)
+    (all_or_first job.scale job.expr job.minus fault told'.patterns told told'.sought)
 both_refuse job one other (of_definitions fault is told) (of_expression fault' is' told') = absurd
-    (all_or_first job.scale job.expr job.minus fault' told.patterns told' told.spelt)
+    (all_or_first job.scale job.expr job.minus fault' told.patterns told' told.sought)
 both_refuse job one other (of_minus fault is told) (of_definitions fault' is' told') = absurd
-    (all_or_second job fault told'.patterns told told'.spelt)
+    (all_or_second job fault told'.patterns told told'.sought)
 both_refuse job one other (of_definitions fault is told) (of_minus fault' is' told') = absurd
-    (all_or_second job fault' told.patterns told' told.spelt)
+    (all_or_second job fault' told.patterns told' told.sought)
 
 -- what a job gives is refused in one way
 pub text_refusal_once : (job : Job) (one other : Status) → IsRefusalOf job one
@@ -286,20 +288,20 @@ text_refusal_once job one other is is' =
     both_refuse job one other (refuses_of job one is) (refuses_of job other is')
 
 or_refused : (job : Job) (refusal : Status) (patterns : List Sought) (lets : List Defined)
-    → Refuses job refusal → Spell job.scale (texts_with job.expr job.minus) patterns
-    → AreDefinitions job.mode job lets → ⊥
-or_refused job refusal patterns lets (of_expression fault is told) so defined =
+    (signals : List SignalDefined) → Refuses job refusal
+    → Spell job.scale (texts_with job.expr job.minus) patterns
+    → AreDefinitions job lets signals → ⊥
+or_refused job refusal patterns lets signals (of_expression fault is told) so defined =
     all_or_first job.scale job.expr job.minus fault patterns told so
-or_refused job refusal patterns lets (of_minus fault is told) so defined =
+or_refused job refusal patterns lets signals (of_minus fault is told) so defined =
     all_or_second job fault patterns told so
-or_refused job refusal patterns lets (of_definitions fault is told) so defined =
-    defined_or_refused job fault lets told
-    (subst (λ mode. AreDefinitions mode job lets) told.offline defined)
+or_refused job refusal patterns lets signals (of_definitions fault is told) so defined =
+    defined_or_refused _ job fault lets signals told defined
 
 -- what a job gives isn't both refused and there
 pub texts_or_refused : (job : Job) (refusal : Status) (patterns : List Sought)
-    (lets : List Defined) → IsRefusalOf job refusal
+    (lets : List Defined) (signals : List SignalDefined) → IsRefusalOf job refusal
     → Spell job.scale (texts_with job.expr job.minus) patterns
-    → AreDefinitions job.mode job lets → ⊥
-texts_or_refused job refusal patterns lets is so defined =
-    or_refused job refusal patterns lets (refuses_of job refusal is) so defined
+    → AreDefinitions job lets signals → ⊥
+texts_or_refused job refusal patterns lets signals is so defined =
+    or_refused job refusal patterns lets signals (refuses_of job refusal is) so defined

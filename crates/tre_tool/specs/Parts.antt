@@ -5,6 +5,9 @@ use Rattle.tre_answer.specs.Request.{FitsJob, sought_in}
 use Rattle.tre_answer.specs.declared.asked.Asked.{Asked}
 use Rattle.tre_feed.specs.Front.{IsUnreadable}
 use Rattle.tre_feed.specs.Input.{AllReadsGood, InputTold}
+use Rattle.tre_define.specs.Signals.{SignalDefined}
+use Rattle.tre_define.specs.Texts.{parts_of}
+use Rattle.tre_define.specs.declared.let_fault.LetFault.{LetFault}
 use Rattle.tre_num.specs.Defined.{Defined}
 use Rattle.tre_parse.specs.declared.fault.ParseFault.{ParseFault}
 use Rattle.tre_parse.specs.declared.fault.ParseFault.TheVariants.{TooLong, BadByte, Number, TooDeep, Syntax, EmptyInterval, TooManyNames, TooLarge, Memory as ParseMemory}
@@ -14,9 +17,9 @@ use Rattle.tre_tell.specs.Sought.{Sought}
 use Rattle.tre_words.specs.declared.job.Job.{Job}
 use Rattle.tre_words.specs.declared.job.Mode.TheVariants.{Watch}
 use Rattle.tre_tool.specs.Checks.{ChecksWereRead}
-use Rattle.tre_tool.specs.Request.{AreDefinitions, ArePatterns, IsRefusalIn, IsRefusalOfFile}
+use Rattle.tre_tool.specs.Request.{AreDefinitions, ArePatterns, AreRefusedIn, IsRefusalIn, IsRefusalOfFile, text_read}
 use Rattle.tre_tool.specs.declared.status.Status.{Status}
-use Rattle.tre_tool.specs.declared.status.Status.TheVariants.{Done, ReadFault, Memory}
+use Rattle.tre_tool.specs.declared.status.Status.TheVariants.{Done, Definitions, ReadFault, Memory}
 
 -- how a run ended that went on as `?` does
 abbrev pub status_of : {T : Type 0} → Result T Status → Status
@@ -36,11 +39,11 @@ patterns_with pattern (Some taken) = plain_sought pattern ∷ plain_sought taken
 -- A job asks for these patterns, with these definitions of names, as its texts or its file of
 -- checks say, and no read of that failed.
 pub record IsAskedBy (job : Job) (checks : InputTold) (asked : Asked) (lets : List Defined)
-    : Type 0 where
+    (signals : List SignalDefined) : Type 0 where
   pub patterns : ArePatterns job.mode (ChecksWereRead checks) job (sought_in asked)
   pub fits : FitsJob job asked
   pub alone : (ReadsInput job.mode → ⊥) → length asked.patterns.items ≡ 1
-  pub defines : AreDefinitions job.mode job lets
+  pub defines : AreDefinitions job lets signals
   pub good : AllReadsGood checks
 
 -- Why it isn't known what a job asks for: a text or the file of checks is refused, the file
@@ -51,6 +54,14 @@ pub record StopsAsking (job : Job) (checks : InputTold) (status : Status) : Type
       IsRefusalIn job.mode (ChecksWereRead checks) job status
   pub unread : status ≡ ReadFault →
       (file : List ℕ) × (job.mode ≡ Watch file) × IsUnreadable file checks
+
+-- The text of a job's definitions is refused so.
+pub record RefusesDefinitions (job : Job) (status : Status) : Type 0 where
+  pub fault : LetFault
+  pub is : status ≡ Definitions fault
+  pub text : List ℕ
+  pub given : text_read job.mode job.lets ≡ Some text
+  pub refuses : AreRefusedIn job.format (parts_of text) fault
 
 -- Why a file of checks of this name says no patterns at the scale.
 pub record StopsChecks (file : List ℕ) (scale : ℕ) (checks : InputTold) (status : Status) : Type 0

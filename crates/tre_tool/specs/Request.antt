@@ -1,22 +1,25 @@
 -- What words ask for: a job, the patterns that it looks for, and the definitions of their names.
 -- `Gives` is the job that the words give, and `Says` what the file of checks comes to, which the
 -- words of a watch name.
-use Rattle.std.specs.Prelude.{◌≡◌, ◌⊎◌, ℕ, List, [], ◌∷◌, Option, Some}
+use Rattle.std.specs.Prelude.{◌≡◌, ◌⊎◌, ℕ, List, [], ◌∷◌, Option, None, Some}
 use Rattle.std.specs.Option.{MatchOption, option_to_list}
+use Rattle.tre_define.specs.Signals.{AreRefused, DefineSignals, SignalDefined}
+use Rattle.tre_define.specs.Texts.{parts_of}
+use Rattle.tre_define.specs.declared.let_fault.LetFault.{LetFault}
 use Rattle.tre_generate.specs.FixedPattern.{fixed_tree, fixed_vocabulary}
 use Rattle.tre_num.specs.Defined.{Defined}
-use Rattle.tre_define.specs.Texts.{parts_of}
 use Rattle.tre_num.specs.Definitions.{Define, IsRefused as IsRefusedAt}
-use Rattle.tre_define.specs.declared.let_fault.LetFault.{LetFault}
 use Rattle.tre_parse.specs.Outcome.{IsOutcome, spelt, refused}
 use Rattle.tre_parse.specs.declared.fault.ParseFault.{ParseFault}
 use Rattle.tre_syntax.specs.PatternTree.{PatternTree}
 use Rattle.tre_tell.specs.Sought.{Sought}
 use Rattle.tre_trace.specs.Reading.{Vocabulary}
 use Rattle.tre_watch.specs.Outcome.{Outcome, faulty}
+use Rattle.tre_words.specs.declared.job.Format.{Format}
+use Rattle.tre_words.specs.declared.job.Format.TheVariants.{Text as TextFormat, Vcd, Csv}
 use Rattle.tre_words.specs.declared.job.Job.{Job}
 use Rattle.tre_words.specs.declared.job.Mode.{Mode}
-use Rattle.tre_words.specs.declared.job.Mode.TheVariants.{Offline, Generate, Watch}
+use Rattle.tre_words.specs.declared.job.Mode.TheVariants.{Show, Generate, Watch}
 use Rattle.tre_answer.specs.Request.{Request}
 use Rattle.tre_tool.specs.Checks.{SayPatterns}
 use Rattle.tre_tool.specs.declared.status.Status.{Status}
@@ -46,12 +49,30 @@ ArePatterns (Generate count) Says job patterns = patterns ≡ alone fixed_tree f
 ArePatterns (Watch file) Says job patterns = SayPatterns Says job.scale patterns
 ArePatterns mode Says job patterns = Spell job.scale (texts_with job.expr job.minus) patterns
 
--- The definitions of a job in this mode, none where it has no text of them: only a run that tells
--- all matches at once reads it.
-abbrev pub AreDefinitions : Mode → Job → List Defined → Type 0
-AreDefinitions Offline job lets =
-    MatchOption job.lets (lets ≡ []) (λ text. Define (parts_of text) lets)
-AreDefinitions mode job lets = lets ≡ []
+-- the text of definitions that a run reads, which reads an input: no other looks at it
+abbrev pub text_read : Mode → Option (List ℕ) → Option (List ℕ)
+text_read Show text = None
+text_read (Generate count) text = None
+text_read mode text = text
+
+-- The parts of a text are these definitions, as the format has them: of columns, or of the signals
+-- of a dump.
+abbrev pub AreDefinedIn : Format → List (List ℕ) → List Defined → List SignalDefined → Type 0
+AreDefinedIn Csv parts lets signals = Define parts lets × (signals ≡ [])
+AreDefinedIn Vcd parts lets signals = (lets ≡ []) × DefineSignals parts signals
+AreDefinedIn TextFormat parts lets signals = (lets ≡ []) × (signals ≡ [])
+
+-- They are none, for this fault.
+abbrev pub AreRefusedIn : Format → List (List ℕ) → LetFault → Type 0
+AreRefusedIn Csv parts fault = IsRefusedAt parts fault
+AreRefusedIn Vcd parts fault = AreRefused parts fault
+AreRefusedIn TextFormat parts fault = ⊥
+
+-- The definitions that a job's run reads, none where it reads no text of them.
+abbrev pub AreDefinitions : Job → List Defined → List SignalDefined → Type 0
+AreDefinitions job lets signals =
+    MatchOption (text_read job.mode job.lets) ((lets ≡ []) × (signals ≡ []))
+    (λ text. AreDefinedIn job.format (parts_of text) lets signals)
 
 -- The text of the pattern that is taken away is, and that of the one that is looked for isn't.
 pub record IsRefusedMinus (job : Job) (fault : ParseFault) : Type 0 where
@@ -61,31 +82,38 @@ pub record IsRefusedMinus (job : Job) (fault : ParseFault) : Type 0 where
   pub given : job.minus ≡ Some text
   pub refuses : IsOutcome job.scale text (refused fault)
 
--- A definition is refused, and no pattern is. Only a run that tells all matches at once reads them.
-pub record AreRefusedDefinitions (job : Job) (fault : LetFault) : Type 0 where
-  pub offline : job.mode ≡ Offline
+-- A definition is refused, and what the job looks for isn't: these patterns are it.
+pub record AreRefusedDefinitions (AreSought : List Sought → Type 0) (job : Job) (fault : LetFault)
+    : Type 0 where
   pub patterns : List Sought
-  pub spelt : Spell job.scale (texts_with job.expr job.minus) patterns
+  pub sought : AreSought patterns
   pub text : List ℕ
-  pub given : job.lets ≡ Some text
-  pub refuses : IsRefusedAt (parts_of text) fault
+  pub given : text_read job.mode job.lets ≡ Some text
+  pub refuses : AreRefusedIn job.format (parts_of text) fault
 
 -- What a job gives is refused so, before its input is looked at: the first of its texts that is.
 abbrev pub IsRefusalOf : Job → Status → Type 0
 IsRefusalOf job (Expression fault) = IsOutcome job.scale job.expr (refused fault)
 IsRefusalOf job (Minus fault) = IsRefusedMinus job fault
-IsRefusalOf job (Definitions fault) = AreRefusedDefinitions job fault
+IsRefusalOf job (Definitions fault) =
+    AreRefusedDefinitions (Spell job.scale (texts_with job.expr job.minus)) job fault
 IsRefusalOf job refusal = ⊥
 
--- A watch at this scale is refused so: its file of checks is.
+-- The file of checks of a watch at this scale is refused so.
 abbrev pub IsRefusalOfFile : (ℕ → Outcome → Type 0) → ℕ → Status → Type 0
 IsRefusalOfFile Says scale (WatchStatus fault) = Says scale (faulty fault)
 IsRefusalOfFile Says scale refusal = ⊥
 
+-- A watch is refused so: its file of checks is, or the file isn't and the definitions are.
+abbrev pub IsRefusalOfWatch : (ℕ → Outcome → Type 0) → Job → Status → Type 0
+IsRefusalOfWatch Says job (Definitions fault) =
+    AreRefusedDefinitions (SayPatterns Says job.scale) job fault
+IsRefusalOfWatch Says job refusal = IsRefusalOfFile Says job.scale refusal
+
 -- A job in this mode is. Of a made run nothing is refused.
 abbrev pub IsRefusalIn : Mode → (ℕ → Outcome → Type 0) → Job → Status → Type 0
 IsRefusalIn (Generate count) Says job refusal = ⊥
-IsRefusalIn (Watch file) Says job refusal = IsRefusalOfFile Says job.scale refusal
+IsRefusalIn (Watch file) Says job refusal = IsRefusalOfWatch Says job refusal
 IsRefusalIn mode Says job refusal = IsRefusalOf job refusal
 
 -- The words give this job, and these are its patterns and definitions.
@@ -93,7 +121,7 @@ pub record AsksFor (Gives : Job → Type 0) (Says : ℕ → Outcome → Type 0) 
     : Type 0 where
   pub gives : Gives request.job
   pub patterns : ArePatterns request.job.mode Says request.job request.patterns
-  pub definitions : AreDefinitions request.job.mode request.job request.lets
+  pub definitions : AreDefinitions request.job request.lets request.signals
 
 -- They ask for something of which this is true.
 pub record Asks (Gives : Job → Type 0) (Says : ℕ → Outcome → Type 0) (IsSo : Request → Type 0)

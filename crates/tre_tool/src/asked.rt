@@ -1,13 +1,15 @@
 // What a job asks for, as its texts or its file of checks say it.
+ghost use Rattle.std.specs.Option.{option_map};
 ghost use Rattle.std.specs.Prelude.{◌≡◌, ◌≢◌, ◌≤◌, ◌+◌, ◌∷◌, [], List, None, IfOk, IfErr, IfSome, IsTrue, false, length, ℕ};
 ghost use Rattle.tre_answer.specs.Request.{FitsJob, sought_in};
 ghost use Rattle.tre_decimal.specs.declared.TheConstants.{SCALE_MAX};
+ghost use Rattle.tre_define.specs.Texts.{parts_of};
 ghost use Rattle.tre_feed.specs.Input.{TakesAtMost, input_told};
 ghost use Rattle.tre_generate.specs.FixedPattern.{fixed_tree, fixed_vocabulary};
 ghost use Rattle.tre_syntax.specs.declared.pattern.Pattern.{Pattern};
 ghost use Rattle.tre_tell.specs.Sought.{Sought};
-ghost use Rattle.tre_tool.specs.Parts.{IsAskedBy, StopsAsking, plain_sought, patterns_with};
-ghost use Rattle.tre_tool.specs.Request.{Spell, alone, texts_with, AreDefinitions, IsRefusalOf};
+ghost use Rattle.tre_tool.specs.Parts.{IsAskedBy, RefusesDefinitions, StopsAsking, plain_sought, patterns_with};
+ghost use Rattle.tre_tool.specs.Request.{Spell, alone, text_read, texts_with, AreDefinedIn, AreDefinitions, AreRefusedIn, IsRefusalOf};
 ghost use Rattle.tre_tool.specs.Run.{ReadsChecks};
 ghost use Rattle.tre_tool.specs.Status.{minus_status};
 ghost use Rattle.tre_watch.specs.declared.reader.TheConstants.{FILE_MAX};
@@ -17,20 +19,21 @@ ghost use Rattle.tre_words.specs.declared.job.Mode.TheVariants.{Watch};
 use crate::checks::asked_of_checks;
 use crate::status::Status;
 use std::alloc::{AllocError, Global};
-use tre_answer::Asked;
+use tre_answer::{Asked, Definitions};
+use tre_define::{LetFault, read_signals};
 use tre_generate::fixed_pattern;
 use tre_io::Source;
-use tre_num::{Definition, read_definitions};
+use tre_num::read_definitions;
 use tre_parse::{ParseFault, parse};
 use tre_syntax::Pattern;
-use tre_words::{Job, Mode};
+use tre_words::{Format, Job, Mode};
 
 /// What a job asks for.
 #[derive(Debug, Drop)]
 pub struct Question {
     pub asked: Asked,
-    /// What the names of columns mean.
-    pub definitions: Vec<Definition>,
+    /// What names mean, of columns or of the signals of a dump.
+    pub definitions: Definitions,
 }
 
 // The end of a run at the refusal of the pattern that is taken away.
@@ -63,23 +66,77 @@ fn taken_by(alloc: Global, job: &Job) -> Result<Option<Pattern>, Status>
     }
 }
 
-// The definitions of the text, if there is one and they are read.
-fn definitions_by(alloc: Global, job: &Job) -> Result<Vec<Definition>, Status>
-    ensures defines { IfOk result (λ definitions.
-        AreDefinitions job.now.mode job.now definitions.items) }
-    ensures refuses { IfErr result (λ status. status ≢ Status.Memory → (patterns : List Sought) →
-        Spell job.now.scale (texts_with job.now.expr job.now.minus) patterns →
-        IsRefusalOf job.now status) }
+// No name is defined.
+fn no_definitions(alloc: Global) -> Definitions
+    ensures columns { result.columns.items ≡ [] }
+    ensures signals { result.signals.items ≡ [] }
 {
-    match job.mode {
-        Mode::Offline => match &job.lets {
-            None => Ok(Vec::new(alloc)),
-            Some(text) => {
-                let definitions = read_definitions(alloc, text.text())?;
-                Ok(definitions)
-            }
-        },
-        _ => Ok(Vec::new(alloc)),
+    Definitions {
+        columns: Vec::new(alloc),
+        signals: Vec::new(alloc),
+    }
+}
+
+// The text of the job's definitions, if there is one.
+fn text_given(job: &Job) -> Option<&str>
+    ensures { option_map (λ text. text.now) result ≡ job.now.lets }
+{
+    match &job.lets {
+        None => None,
+        Some(text) => Some(text.text()),
+    }
+}
+
+// The same, if the run reads it.
+fn text_read(job: &Job) -> Option<&str>
+    ensures { option_map (λ text. text.now) result ≡ text_read job.now.mode job.now.lets }
+{
+    match &job.mode {
+        Mode::Show => None,
+        Mode::Generate { .. } => None,
+        _ => text_given(job),
+    }
+}
+
+// The definitions of a text, as the format has them.
+fn definitions_in(alloc: Global, format: Format, text: &str) -> Result<Definitions, LetFault>
+    ensures defines { IfOk result (λ definitions. AreDefinedIn format (parts_of text.now)
+        definitions.columns.items definitions.signals.items) }
+    ensures refuses { IfErr result (λ fault. fault ≢ LetFault.Memory →
+        AreRefusedIn format (parts_of text.now) fault) }
+{
+    match format {
+        Format::Text => Ok(no_definitions(alloc)),
+        Format::Vcd => {
+            let signals = read_signals(alloc, text)?;
+            Ok(Definitions {
+                columns: Vec::new(alloc),
+                signals,
+            })
+        }
+        Format::Csv => {
+            let columns = read_definitions(alloc, text)?;
+            Ok(Definitions {
+                columns,
+                signals: Vec::new(alloc),
+            })
+        }
+    }
+}
+
+// The definitions of the job's text, if there is one and they are read.
+fn definitions_by(alloc: Global, job: &Job) -> Result<Definitions, Status>
+    ensures defines { IfOk result (λ definitions.
+        AreDefinitions job.now definitions.columns.items definitions.signals.items) }
+    ensures refuses { IfErr result (λ status. status ≢ Status.Memory →
+        RefusesDefinitions job.now status) }
+{
+    match text_read(job) {
+        None => Ok(no_definitions(alloc)),
+        Some(text) => {
+            let definitions = definitions_in(alloc, job.format, text)?;
+            Ok(definitions)
+        }
     }
 }
 
@@ -114,8 +171,8 @@ fn asked_by_texts(alloc: Global, job: &Job) -> Result<Question, Status>
     ensures fits { IfOk result (λ question. FitsJob job.now question.asked) }
     ensures alone { IfOk result (λ question. job.now.minus ≡ None →
         length question.asked.patterns.items ≡ 1) }
-    ensures defines { IfOk result (λ question.
-        AreDefinitions job.now.mode job.now question.definitions.items) }
+    ensures defines { IfOk result (λ question. AreDefinitions job.now
+        question.definitions.columns.items question.definitions.signals.items) }
     ensures refuses { IfErr result (λ status. status ≢ Status.Memory →
         IsRefusalOf job.now status) }
 {
@@ -132,25 +189,27 @@ fn asked_of_made_run(alloc: Global) -> Result<Question, Status>
         ≡ alone fixed_tree fixed_vocabulary) }
     ensures labels { IfOk result (λ question. length question.asked.labels.items ≡ 1) }
     ensures alone { IfOk result (λ question. length question.asked.patterns.items ≡ 1) }
-    ensures definitions { IfOk result (λ question. question.definitions.items ≡ []) }
+    ensures columns { IfOk result (λ question. question.definitions.columns.items ≡ []) }
+    ensures signals { IfOk result (λ question. question.definitions.signals.items ≡ []) }
     ensures failed { IfErr result (λ status. status ≡ Status.Memory) }
 {
     let pattern = fixed_pattern(alloc)?;
     let asked = plainly_asked(alloc, pattern, None)?;
     Ok(Question {
         asked,
-        definitions: Vec::new(alloc),
+        definitions: no_definitions(alloc),
     })
 }
 
-/// What a job asks for: the first of its texts that is refused ends the run. A watch reads its file
-/// of checks from `checks`; no other job looks at that.
+/// What a job asks for: the first of its texts that is refused ends the run, and definitions are
+/// the last. A watch reads its file of checks from `checks`; no other job looks at that.
 pub fn asked_by<P: Source>(alloc: Global, job: &Job, checks: &mut P) -> Result<Question, Status>
     requires closed { P.opened checks.old ≡ false }
     requires job { IsJob job.now }
     ensures asks { IfOk result (λ question. IsAskedBy job.now
         (input_told P.file_name P.file P.sound P.opened P.left P.found P.faults checks.old
-        checks.new) question.asked question.definitions.items) }
+        checks.new) question.asked question.definitions.columns.items
+        question.definitions.signals.items) }
     ensures stops { IfErr result (StopsAsking job.now
         (input_told P.file_name P.file P.sound P.opened P.left P.found P.faults checks.old
         checks.new)) }
@@ -167,10 +226,8 @@ pub fn asked_by<P: Source>(alloc: Global, job: &Job, checks: &mut P) -> Result<Q
         }
         Mode::Watch { file } => {
             let asked = asked_of_checks(alloc, file.text(), job.scale, checks)?;
-            Ok(Question {
-                asked,
-                definitions: Vec::new(alloc),
-            })
+            let definitions = definitions_by(alloc, job)?;
+            Ok(Question { asked, definitions })
         }
         _ => {
             let question = asked_by_texts(alloc, job)?;

@@ -23,7 +23,7 @@ pub bit-says : (terms : Terms) (place : Place) (part : List ℕ) (letter : ℕ) 
     → part ≡ letter ∷ rest → (letter == 48 || letter == 49) ≡ true → (length rest == 0) ≡ false
     → is_defined place.past ≡ true → place.inside ≡ nothing
     → token_says terms place part
-    ≡ goes_to (change scalar rest (letter == 49) ∷ place.past) nothing
+    ≡ goes_to (change scalar rest (letter ∷ []) ∷ place.past) nothing
 bit-says terms place part letter rest is bit some defined open_none =
     values-say terms place part letter rest is defined open_none
     ∙ (ap (value_says terms place.past) is
@@ -46,7 +46,7 @@ only_nothing : (inside : Open) → is_nothing (inside_of inside) ≡ true → in
 only_nothing nothing is = refl
 only_nothing (section command tokens) is = absurd (cc (is))
 only_nothing comment is = absurd (cc (is))
-only_nothing (vector value) is = absurd (cc (is))
+only_nothing (vector letters) is = absurd (cc (is))
 only_nothing number is = absurd (cc (is))
 
 pub values-read : (reader : TokenReader) (place : Place) → Holds reader place
@@ -55,7 +55,7 @@ values-read reader place holds reads =
     let parts = both reader.past.is_defined (is_nothing reader.inside) reads in
     let shut = only_nothing place.inside (ap is_nothing (sym holds.inside) ∙ parts.1) in
     record {
-      defined = sym holds.past.defined ∙ parts.0;
+      defined = sym holds.knows.past.defined ∙ parts.0;
       open_none = shut;
       stays = holds.inside ∙ ap inside_of shut;
       tokens = holds.tokens ∙ ap (λ (o : Open). take KEPT_MAX (tokens_of o)) shut;
@@ -70,7 +70,7 @@ pub commands-read : (reader : TokenReader) (place : Place) → Holds reader plac
     → (reader.past.is_defined && is_nothing reader.inside) ≡ false → reader.inside ≡ Nothing
     → is_defined place.past ≡ false
 commands-read reader place holds reads shut =
-    sym holds.past.defined
+    sym holds.knows.past.defined
     ∙ not_defined reader.past.is_defined (is_nothing reader.inside) reads (ap is_nothing shut)
 
 pub commands-say : (terms : Terms) (past : List Statement) (part : List ℕ)

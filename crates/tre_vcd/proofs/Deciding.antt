@@ -1,5 +1,5 @@
 -- Which statement of a past decides.
-use Rattle.std.proofs.Common.{◌≡◌, ◌≢◌, ◌↔◌, ℕ, zero, suc, ◌+◌, ◌*◌, ◌/◌, ◌%◌, ◌^◌, ◌==◌, ◌&&◌, ◌||◌, not, Bool, true, false, List, [], ◌∷◌, ◌++◌, Option, None, Some, refl, sym, ap, ◌∙◌, arith, if◌then◌else◌}
+use Rattle.std.proofs.Common.{◌≡◌, ◌≢◌, ◌↔◌, ℕ, zero, suc, ◌+◌, ◌*◌, ◌/◌, ◌%◌, ◌^◌, ◌==◌, ◌&&◌, ◌||◌, not, Bool, true, false, List, [], ◌∷◌, ◌++◌, Option, None, Some, refl, sym, ap, ap₂, ◌∙◌, arith, if◌then◌else◌}
 use Rattle.std.specs.Int.{bit_at}
 use Rattle.std.specs.Str.{bytes_eq}
 use Rattle.std.proofs.Math.Nat.{pow-suc}
@@ -7,9 +7,13 @@ use Rattle.std.proofs.lemmas.Bool.Decides.{nat_tests}
 use Rattle.std.proofs.lemmas.Nat.Bits.{bit_at-zero, bit_at_lowest, bit_at-suc}
 use Rattle.std.proofs.lemmas.Slice.Eq.{bytes_eq-Decides}
 use Rattle.std.specs.Option.{option_or, option_map_or}
-use Rattle.tre_vcd.specs.VcdReading.{Form, scalar, wide, Statement, scope, upscope, var, definitions, time, change, dump, dump_end, time_at, scopes_at, in_dump, value_at, happened_at, is_signal, is_event, identifier_in, identifier_of, true_at, happens_at}
+use Rattle.tre_define.specs.Signals.{SignalDefined, signal_definition_of}
+use Rattle.tre_define.specs.Values.{differ}
+use Rattle.tre_define.specs.Values as values
+use Rattle.tre_define.specs.declared.part.Part.{Part}
+use Rattle.tre_vcd.specs.VcdReading.{Form, scalar, wide, Statement, scope, upscope, var, definitions, time, change, dump, dump_end, time_at, scopes_at, in_dump, letters_at, happened_at, before_now, Occasion, scalar_said, bits_changed, signal_in, event_in, of_changes, first_read, is_passed, is_come, has_come, differs, true_at, happens_at}
 use Rattle.tre_vcd.specs.Kept.{mask_from}
-use Rattle.tre_vcd.specs.Deciding.{Keeps, LastChange, StaysInTime, Happened, Leaves, FirstDeclaration, IsHigh, HasHappened}
+use Rattle.tre_vcd.specs.Deciding.{Keeps, LastChange, StaysInTime, Happened, HasChanged, HasCome, Leaves, FirstRead, IsHigh, HasHappened}
 
 eq-same : (bytes : List ℕ) → bytes_eq bytes bytes ≡ true
 eq-same bytes = (bytes_eq-Decides bytes bytes).1 refl
@@ -21,57 +25,58 @@ eq-other one other false e apart = refl
 
 -- ---- changes
 
-value-behind : (later earlier : List Statement) (identifier : List ℕ) → Keeps identifier later
-    → value_at (later ++ earlier) identifier ≡ value_at earlier identifier
-value-behind [] earlier identifier keeps = refl
-value-behind (scope name ∷ later) earlier identifier keeps =
-    value-behind later earlier identifier keeps
-value-behind (upscope ∷ later) earlier identifier keeps =
-    value-behind later earlier identifier keeps
-value-behind (var tokens ∷ later) earlier identifier keeps =
-    value-behind later earlier identifier keeps
-value-behind (definitions ∷ later) earlier identifier keeps =
-    value-behind later earlier identifier keeps
-value-behind (time ticks ∷ later) earlier identifier keeps =
-    value-behind later earlier identifier keeps
-value-behind (change form other value ∷ later) earlier identifier keeps =
-    ap (λ (b : Bool). if b then value else value_at (later ++ earlier) identifier)
+letters-behind : (later earlier : List Statement) (identifier : List ℕ) → Keeps identifier later
+    → letters_at (later ++ earlier) identifier ≡ letters_at earlier identifier
+letters-behind [] earlier identifier keeps = refl
+letters-behind (scope name ∷ later) earlier identifier keeps =
+    letters-behind later earlier identifier keeps
+letters-behind (upscope ∷ later) earlier identifier keeps =
+    letters-behind later earlier identifier keeps
+letters-behind (var tokens ∷ later) earlier identifier keeps =
+    letters-behind later earlier identifier keeps
+letters-behind (definitions ∷ later) earlier identifier keeps =
+    letters-behind later earlier identifier keeps
+letters-behind (time ticks ∷ later) earlier identifier keeps =
+    letters-behind later earlier identifier keeps
+letters-behind (change form other letters ∷ later) earlier identifier keeps =
+    ap (λ (b : Bool). if b then Some letters else letters_at (later ++ earlier) identifier)
     (eq-other identifier other (bytes_eq identifier other) refl keeps.0)
-    ∙ value-behind later earlier identifier keeps.1
-value-behind (dump ∷ later) earlier identifier keeps = value-behind later earlier identifier keeps
-value-behind (dump_end ∷ later) earlier identifier keeps =
-    value-behind later earlier identifier keeps
+    ∙ letters-behind later earlier identifier keeps.1
+letters-behind (dump ∷ later) earlier identifier keeps =
+    letters-behind later earlier identifier keeps
+letters-behind (dump_end ∷ later) earlier identifier keeps =
+    letters-behind later earlier identifier keeps
 
-pub value-last : (past : List Statement) (identifier : List ℕ) (value : Bool) → LastChange past
-    identifier value → value_at past identifier ≡ value
-value-last past identifier value change_last =
-    ap (λ (p : List Statement). value_at p identifier) change_last.parts
-    ∙ value-behind change_last.later (change change_last.form identifier value ∷
+letters-last : (past : List Statement) (identifier letters : List ℕ)
+    → LastChange past identifier letters → letters_at past identifier ≡ Some letters
+letters-last past identifier letters change_last =
+    ap (λ (p : List Statement). letters_at p identifier) change_last.parts
+    ∙ letters-behind change_last.later (change change_last.form identifier letters ∷
     change_last.earlier) identifier
     change_last.last
-    ∙ ap (λ (b : Bool). if b then value else value_at change_last.earlier identifier)
+    ∙ ap (λ (b : Bool). if b then Some letters else letters_at change_last.earlier identifier)
     (eq-same identifier)
 
-pub value-none : (past : List Statement) (identifier : List ℕ) → Keeps identifier past
-    → value_at past identifier ≡ false
-value-none [] identifier keeps = refl
-value-none (scope name ∷ past) identifier keeps = value-none past identifier keeps
-value-none (upscope ∷ past) identifier keeps = value-none past identifier keeps
-value-none (var tokens ∷ past) identifier keeps = value-none past identifier keeps
-value-none (definitions ∷ past) identifier keeps = value-none past identifier keeps
-value-none (time ticks ∷ past) identifier keeps = value-none past identifier keeps
-value-none (change form other value ∷ past) identifier keeps =
-    ap (λ (b : Bool). if b then value else value_at past identifier)
+pub letters-none : (past : List Statement) (identifier : List ℕ) → Keeps identifier past
+    → letters_at past identifier ≡ None
+letters-none [] identifier keeps = refl
+letters-none (scope name ∷ past) identifier keeps = letters-none past identifier keeps
+letters-none (upscope ∷ past) identifier keeps = letters-none past identifier keeps
+letters-none (var tokens ∷ past) identifier keeps = letters-none past identifier keeps
+letters-none (definitions ∷ past) identifier keeps = letters-none past identifier keeps
+letters-none (time ticks ∷ past) identifier keeps = letters-none past identifier keeps
+letters-none (change form other letters ∷ past) identifier keeps =
+    ap (λ (b : Bool). if b then Some letters else letters_at past identifier)
     (eq-other identifier other (bytes_eq identifier other) refl keeps.0)
-    ∙ value-none past identifier keeps.1
-value-none (dump ∷ past) identifier keeps = value-none past identifier keeps
-value-none (dump_end ∷ past) identifier keeps = value-none past identifier keeps
+    ∙ letters-none past identifier keeps.1
+letters-none (dump ∷ past) identifier keeps = letters-none past identifier keeps
+letters-none (dump_end ∷ past) identifier keeps = letters-none past identifier keeps
 
 -- a statement in front that doesn't change the identifier
-last-later : (statement : Statement) (past : List Statement) (identifier : List ℕ) (value : Bool)
+last-later : (statement : Statement) (past : List Statement) (identifier letters : List ℕ)
     → ((later : List Statement) → Keeps identifier later → Keeps identifier (statement ∷ later))
-    → LastChange past identifier value → LastChange (statement ∷ past) identifier value
-last-later statement past identifier value stays found = record {
+    → LastChange past identifier letters → LastChange (statement ∷ past) identifier letters
+last-later statement past identifier letters stays found = record {
   later = statement ∷ found.later;
   form = found.form;
   earlier = found.earlier;
@@ -79,52 +84,57 @@ last-later statement past identifier value stays found = record {
   last = stays found.later found.last;
 }
 
-last-here : (form : Form) (other identifier : List ℕ) (value : Bool) (past : List Statement)
-    → identifier ≡ other
-    → value ≡ true → LastChange (change form other value ∷ past) identifier true
-last-here form other identifier value past same is = record {
+last-here : (form : Form) (other identifier said letters : List ℕ) (past : List Statement)
+    → identifier ≡ other → said ≡ letters
+    → LastChange (change form other said ∷ past) identifier letters
+last-here form other identifier said letters past same is = record {
   later = [];
   form = form;
   earlier = past;
-  parts = ap (λ (o : List ℕ). change form o value ∷ past) (sym same)
-      ∙ ap (λ (v : Bool). change form identifier v ∷ past) is;
+  parts = ap (λ (o : List ℕ). change form o said ∷ past) (sym same)
+      ∙ ap (λ (v : List ℕ). change form identifier v ∷ past) is;
   last = tt;
 }
 
-last-change : (form : Form) (other identifier : List ℕ) (value : Bool) (past : List Statement)
+last-change : (form : Form) (other identifier said letters : List ℕ) (past : List Statement)
     (same : Bool)
     → bytes_eq identifier other ≡ same
-    → (value_at past identifier ≡ true → LastChange past identifier true)
-    → (if same then value else value_at past identifier) ≡ true
-    → LastChange (change form other value ∷ past) identifier true
-last-change form other identifier value past true e more is = last-here
-    form other identifier value past
-    ((bytes_eq-Decides identifier other).0 e) is
-last-change form other identifier value past false e more is =
+    → (letters_at past identifier ≡ Some letters → LastChange past identifier letters)
+    → (if same then Some said else letters_at past identifier) ≡ Some letters
+    → LastChange (change form other said ∷ past) identifier letters
+last-change form other identifier said letters past true e more is = last-here
+    form other identifier said letters past
+    ((bytes_eq-Decides identifier other).0 e) cc
+last-change form other identifier said letters past false e more is =
     let apart : identifier ≢ other = λ same. cc (e, (bytes_eq-Decides identifier other).1 same) in
-    last-later (change form other value) past identifier true (λ later keeps. (apart, keeps))
+    last-later (change form other said) past identifier letters (λ later keeps. (apart, keeps))
     (more is)
 
-pub last-of : (past : List Statement) (identifier : List ℕ) → value_at past identifier ≡ true
-    → LastChange past identifier true
-last-of [] identifier is = cc (is)
-last-of (scope name ∷ past) identifier is = last-later (scope name) past identifier true
-    (λ later keeps. keeps) (last-of past identifier is)
-last-of (upscope ∷ past) identifier is = last-later upscope past identifier true
-    (λ later keeps. keeps) (last-of past identifier is)
-last-of (var tokens ∷ past) identifier is = last-later (var tokens) past identifier true
-    (λ later keeps. keeps) (last-of past identifier is)
-last-of (definitions ∷ past) identifier is = last-later definitions past identifier true
-    (λ later keeps. keeps) (last-of past identifier is)
-last-of (time ticks ∷ past) identifier is = last-later (time ticks) past identifier true
-    (λ later keeps. keeps) (last-of past identifier is)
-last-of (change form other value ∷ past) identifier is = last-change
-    form other identifier value past
-    (bytes_eq identifier other) refl (last-of past identifier) is
-last-of (dump ∷ past) identifier is = last-later dump past identifier true
-    (λ later keeps. keeps) (last-of past identifier is)
-last-of (dump_end ∷ past) identifier is = last-later dump_end past identifier true
-    (λ later keeps. keeps) (last-of past identifier is)
+last-of : (past : List Statement) (identifier letters : List ℕ)
+    → letters_at past identifier ≡ Some letters → LastChange past identifier letters
+last-of [] identifier letters is = absurd (cc (is))
+last-of (scope name ∷ past) identifier letters is = last-later (scope name) past identifier letters
+    (λ later keeps. keeps) (last-of past identifier letters is)
+last-of (upscope ∷ past) identifier letters is = last-later upscope past identifier letters
+    (λ later keeps. keeps) (last-of past identifier letters is)
+last-of (var tokens ∷ past) identifier letters is = last-later (var tokens) past identifier letters
+    (λ later keeps. keeps) (last-of past identifier letters is)
+last-of (definitions ∷ past) identifier letters is = last-later definitions past identifier letters
+    (λ later keeps. keeps) (last-of past identifier letters is)
+last-of (time ticks ∷ past) identifier letters is = last-later (time ticks) past identifier letters
+    (λ later keeps. keeps) (last-of past identifier letters is)
+last-of (change form other said ∷ past) identifier letters is = last-change
+    form other identifier said letters past
+    (bytes_eq identifier other) refl (last-of past identifier letters) is
+last-of (dump ∷ past) identifier letters is = last-later dump past identifier letters
+    (λ later keeps. keeps) (last-of past identifier letters is)
+last-of (dump_end ∷ past) identifier letters is = last-later dump_end past identifier letters
+    (λ later keeps. keeps) (last-of past identifier letters is)
+
+pub last-is : (past : List Statement) (identifier letters : List ℕ)
+    → LastChange past identifier letters ↔ (letters_at past identifier ≡ Some letters)
+last-is past identifier letters =
+    (letters-last past identifier letters, last-of past identifier letters)
 
 -- ---- happenings
 
@@ -156,10 +166,10 @@ happened-behind (time ticks ∷ later) earlier identifier stays is =
     happened-time (ticks == time_at (later ++ earlier)) (happened_at (later ++ earlier) identifier)
     (same-time ticks (time_at (later ++ earlier)) stays.0)
     (happened-behind later earlier identifier stays.1 is)
-happened-behind (change scalar other value ∷ later) earlier identifier stays is =
+happened-behind (change scalar other letters ∷ later) earlier identifier stays is =
     happened-said (not (in_dump (later ++ earlier))) (bytes_eq identifier other)
     (happened_at (later ++ earlier) identifier) (happened-behind later earlier identifier stays is)
-happened-behind (change wide other value ∷ later) earlier identifier stays is =
+happened-behind (change wide other letters ∷ later) earlier identifier stays is =
     happened-behind later earlier identifier stays is
 happened-behind (dump ∷ later) earlier identifier stays is =
     happened-behind later earlier identifier stays is
@@ -176,7 +186,7 @@ happened-is : (past : List Statement) (identifier : List ℕ) → Happened past 
     → happened_at past identifier ≡ true
 happened-is past identifier found =
     ap (λ (p : List Statement). happened_at p identifier) found.parts
-    ∙ happened-behind found.later (change scalar identifier found.value ∷ found.earlier) identifier
+    ∙ happened-behind found.later (change scalar identifier found.letters ∷ found.earlier) identifier
     found.now
     (said-here (in_dump found.earlier) (bytes_eq identifier identifier)
     (happened_at found.earlier identifier) found.outside (eq-same identifier))
@@ -188,33 +198,33 @@ happened-later : (statement : Statement) (past : List Statement) (identifier : L
     → Happened past identifier → Happened (statement ∷ past) identifier
 happened-later statement past identifier stays found = record {
   later = statement ∷ found.later;
-  value = found.value;
+  letters = found.letters;
   earlier = found.earlier;
   parts = ap (λ (p : List Statement). statement ∷ p) found.parts;
   outside = found.outside;
-  now = stays found.later (change scalar identifier found.value ∷ found.earlier) found.parts
+  now = stays found.later (change scalar identifier found.letters ∷ found.earlier) found.parts
       found.now;
 }
 
-happened-scalar : (other identifier : List ℕ) (value : Bool) (past : List Statement)
+happened-scalar : (other identifier letters : List ℕ) (past : List Statement)
     (inside same : Bool) → in_dump past ≡ inside → bytes_eq identifier other ≡ same
     → (happened_at past identifier ≡ true → Happened past identifier)
     → ((not inside && same) || happened_at past identifier) ≡ true
-    → Happened (change scalar other value ∷ past) identifier
-happened-scalar other identifier value past false true outside same more is = record {
+    → Happened (change scalar other letters ∷ past) identifier
+happened-scalar other identifier letters past false true outside same more is = record {
   later = [];
-  value = value;
+  letters = letters;
   earlier = past;
-  parts = ap (λ (o : List ℕ). change scalar o value ∷ past)
+  parts = ap (λ (o : List ℕ). change scalar o letters ∷ past)
       (sym ((bytes_eq-Decides identifier other).0 same));
   outside = outside;
   now = tt;
 }
-happened-scalar other identifier value past false false outside same more is =
-    happened-later (change scalar other value) past identifier (λ later earlier parts stays. stays)
+happened-scalar other identifier letters past false false outside same more is =
+    happened-later (change scalar other letters) past identifier (λ later earlier parts stays. stays)
     (more is)
-happened-scalar other identifier value past true same outside e more is =
-    happened-later (change scalar other value) past identifier (λ later earlier parts stays. stays)
+happened-scalar other identifier letters past true same outside e more is =
+    happened-later (change scalar other letters) past identifier (λ later earlier parts stays. stays)
     (more is)
 
 happened-at_time : (ticks : ℕ) (past : List Statement) (identifier : List ℕ) (same : Bool)
@@ -241,10 +251,10 @@ happened-of (definitions ∷ past) identifier is = happened-later definitions pa
     (λ later earlier parts stays. stays) (happened-of past identifier is)
 happened-of (time ticks ∷ past) identifier is = happened-at_time ticks past identifier
     (ticks == time_at past) refl (happened-of past identifier) is
-happened-of (change scalar other value ∷ past) identifier is = happened-scalar other identifier
-    value past (in_dump past) (bytes_eq identifier other) refl refl (happened-of past identifier) is
-happened-of (change wide other value ∷ past) identifier is = happened-later
-    (change wide other value) past identifier (λ later earlier parts stays. stays)
+happened-of (change scalar other letters ∷ past) identifier is = happened-scalar other identifier
+    letters past (in_dump past) (bytes_eq identifier other) refl refl (happened-of past identifier) is
+happened-of (change wide other letters ∷ past) identifier is = happened-later
+    (change wide other letters) past identifier (λ later earlier parts stays. stays)
     (happened-of past identifier is)
 happened-of (dump ∷ past) identifier is = happened-later dump past identifier
     (λ later earlier parts stays. stays) (happened-of past identifier is)
@@ -257,142 +267,114 @@ happening-is past identifier = (happened-is past identifier, happened-of past id
 
 -- ---- declarations
 
-pub declared-none : (test : List ℕ → List ℕ → Bool) (past : List Statement) (name : List ℕ)
-    → Leaves test name past
-    → identifier_of test past name ≡ None
-declared-none test [] name leaves = refl
-declared-none test (scope other ∷ past) name leaves = declared-none test past name leaves
-declared-none test (upscope ∷ past) name leaves = declared-none test past name leaves
-declared-none test (var tokens ∷ past) name leaves =
-    ap (λ (o : Option (List ℕ)). option_or o (identifier_in test (scopes_at past) name tokens))
-    (declared-none test past name leaves.1) ∙ leaves.0
-declared-none test (definitions ∷ past) name leaves = declared-none test past name leaves
-declared-none test (time ticks ∷ past) name leaves = declared-none test past name leaves
-declared-none test (change form other value ∷ past) name leaves =
-    declared-none test past name leaves
-declared-none test (dump ∷ past) name leaves = declared-none test past name leaves
-declared-none test (dump_end ∷ past) name leaves = declared-none test past name leaves
+module _ {X : Type 0} (reads : List (List ℕ) → List (List ℕ) → Option X) where
+  pub read-none : (past : List Statement) → Leaves reads past → first_read reads past ≡ None
+  read-none [] leaves = refl
+  read-none (scope other ∷ past) leaves = read-none past leaves
+  read-none (upscope ∷ past) leaves = read-none past leaves
+  read-none (var tokens ∷ past) leaves =
+      ap (λ (o : Option X). option_or o (reads (scopes_at past) tokens))
+      (read-none past leaves.1) ∙ leaves.0
+  read-none (definitions ∷ past) leaves = read-none past leaves
+  read-none (time ticks ∷ past) leaves = read-none past leaves
+  read-none (change form other letters ∷ past) leaves = read-none past leaves
+  read-none (dump ∷ past) leaves = read-none past leaves
+  read-none (dump_end ∷ past) leaves = read-none past leaves
 
-declared-behind : (test : List ℕ → List ℕ → Bool) (later earlier : List Statement)
-    (name identifier : List ℕ)
-    → identifier_of test earlier name ≡ Some identifier
-    → identifier_of test (later ++ earlier) name ≡ Some identifier
-declared-behind test [] earlier name identifier is = is
-declared-behind test (scope other ∷ later) earlier name identifier is =
-    declared-behind test later earlier name identifier is
-declared-behind test (upscope ∷ later) earlier name identifier is =
-    declared-behind test later earlier name identifier is
-declared-behind test (var tokens ∷ later) earlier name identifier is =
-    ap (λ (o : Option (List ℕ)). option_or o (identifier_in test (scopes_at (later ++ earlier)) name
-    tokens))
-    (declared-behind test later earlier name identifier is)
-declared-behind test (definitions ∷ later) earlier name identifier is =
-    declared-behind test later earlier name identifier is
-declared-behind test (time ticks ∷ later) earlier name identifier is =
-    declared-behind test later earlier name identifier is
-declared-behind test (change form other value ∷ later) earlier name identifier is =
-    declared-behind test later earlier name identifier is
-declared-behind test (dump ∷ later) earlier name identifier is =
-    declared-behind test later earlier name identifier is
-declared-behind test (dump_end ∷ later) earlier name identifier is =
-    declared-behind test later earlier name identifier is
+  read-behind : (later earlier : List Statement) (read : X) → first_read reads earlier ≡ Some read
+      → first_read reads (later ++ earlier) ≡ Some read
+  read-behind [] earlier read is = is
+  read-behind (scope other ∷ later) earlier read is = read-behind later earlier read is
+  read-behind (upscope ∷ later) earlier read is = read-behind later earlier read is
+  read-behind (var tokens ∷ later) earlier read is =
+      ap (λ (o : Option X). option_or o (reads (scopes_at (later ++ earlier)) tokens))
+      (read-behind later earlier read is)
+  read-behind (definitions ∷ later) earlier read is =
+      read-behind later earlier read is
+  read-behind (time ticks ∷ later) earlier read is =
+      read-behind later earlier read is
+  read-behind (change form other letters ∷ later) earlier read is =
+      read-behind later earlier read is
+  read-behind (dump ∷ later) earlier read is =
+      read-behind later earlier read is
+  read-behind (dump_end ∷ later) earlier read is =
+      read-behind later earlier read is
 
-declared-first : (test : List ℕ → List ℕ → Bool) (past : List Statement) (name identifier : List ℕ)
-    → FirstDeclaration test past name
-    identifier → identifier_of test past name ≡ Some identifier
-declared-first test past name identifier found =
-    ap (λ (p : List Statement). identifier_of test p name) found.parts
-    ∙ declared-behind test found.later (var found.tokens ∷ found.earlier) name identifier
-    (ap (λ (o : Option (List ℕ)). option_or o (identifier_in test (scopes_at found.earlier) name
-    found.tokens))
-    (declared-none test found.earlier name found.first) ∙ found.declares)
+  read-first : (past : List Statement) (read : X) → FirstRead reads past read
+      → first_read reads past ≡ Some read
+  read-first past read found =
+      ap (λ (p : List Statement). first_read reads p) found.parts
+      ∙ read-behind found.later (var found.tokens ∷ found.earlier) read
+      (ap (λ (o : Option X). option_or o (reads (scopes_at found.earlier) found.tokens))
+      (read-none found.earlier found.first) ∙ found.declares)
 
-first-later : (test : List ℕ → List ℕ → Bool) (statement : Statement) (past : List Statement)
-    (name identifier : List ℕ)
-    → FirstDeclaration test past name identifier
-    → FirstDeclaration test (statement ∷ past) name identifier
-first-later test statement past name identifier found = record {
-  later = statement ∷ found.later;
-  earlier = found.earlier;
-  tokens = found.tokens;
-  parts = ap (λ (p : List Statement). statement ∷ p) found.parts;
-  declares = found.declares;
-  first = found.first;
-}
+  first-later : (statement : Statement) (past : List Statement) (read : X)
+      → FirstRead reads past read → FirstRead reads (statement ∷ past) read
+  first-later statement past read found = record {
+    later = statement ∷ found.later;
+    earlier = found.earlier;
+    tokens = found.tokens;
+    parts = ap (λ (p : List Statement). statement ∷ p) found.parts;
+    declares = found.declares;
+    first = found.first;
+  }
 
-leaves-var : (test : List ℕ → List ℕ → Bool) (past : List Statement) (name : List ℕ)
-    (tokens : List (List ℕ))
-    (before : Option (List ℕ)) → identifier_of test past name ≡ before
-    → (identifier_of test past name ≡ None → Leaves test name past)
-    → option_or before (identifier_in test (scopes_at past) name tokens) ≡ None
-    → Leaves test name (var tokens ∷ past)
-leaves-var test past name tokens None e leaves is = (is, leaves e)
-leaves-var test past name tokens (Some own) e leaves is = cc (is)
+  leaves-var : (past : List Statement) (tokens : List (List ℕ)) (before : Option X)
+      → first_read reads past ≡ before → (first_read reads past ≡ None → Leaves reads past)
+      → option_or before (reads (scopes_at past) tokens) ≡ None
+      → Leaves reads (var tokens ∷ past)
+  leaves-var past tokens None e leaves is = (is, leaves e)
+  leaves-var past tokens (Some own) e leaves is = absurd (cc (is))
 
-leaves-none : (test : List ℕ → List ℕ → Bool) (past : List Statement) (name : List ℕ)
-    → identifier_of test past name ≡ None
-    → Leaves test name past
-leaves-none test [] name is = tt
-leaves-none test (scope other ∷ past) name is = leaves-none test past name is
-leaves-none test (upscope ∷ past) name is = leaves-none test past name is
-leaves-none test (var tokens ∷ past) name is = leaves-var test past name tokens
-    (identifier_of test past name) refl
-    (leaves-none test past name) is
-leaves-none test (definitions ∷ past) name is = leaves-none test past name is
-leaves-none test (time ticks ∷ past) name is = leaves-none test past name is
-leaves-none test (change form other value ∷ past) name is = leaves-none test past name is
-leaves-none test (dump ∷ past) name is = leaves-none test past name is
-leaves-none test (dump_end ∷ past) name is = leaves-none test past name is
+  leaves-none : (past : List Statement) → first_read reads past ≡ None → Leaves reads past
+  leaves-none [] is = tt
+  leaves-none (scope other ∷ past) is = leaves-none past is
+  leaves-none (upscope ∷ past) is = leaves-none past is
+  leaves-none (var tokens ∷ past) is =
+      leaves-var past tokens (first_read reads past) refl (leaves-none past) is
+  leaves-none (definitions ∷ past) is = leaves-none past is
+  leaves-none (time ticks ∷ past) is = leaves-none past is
+  leaves-none (change form other letters ∷ past) is = leaves-none past is
+  leaves-none (dump ∷ past) is = leaves-none past is
+  leaves-none (dump_end ∷ past) is = leaves-none past is
 
-first-var : (test : List ℕ → List ℕ → Bool) (past : List Statement) (name identifier : List ℕ)
-    (tokens : List (List ℕ))
-    (before : Option (List ℕ)) → identifier_of test past name ≡ before
-    → (identifier_of test past name ≡ Some identifier → FirstDeclaration test past name identifier)
-    → option_or before (identifier_in test (scopes_at past) name tokens) ≡ Some identifier
-    → FirstDeclaration test (var tokens ∷ past) name identifier
-first-var test past name identifier tokens None e more is = record {
-  later = [];
-  earlier = past;
-  tokens = tokens;
-  parts = refl;
-  declares = is;
-  first = leaves-none test past name e;
-}
-first-var test past name identifier tokens (Some own) e more is = first-later test
-    (var tokens) past name
-    identifier (more (e ∙ is))
+  first-var : (past : List Statement) (read : X) (tokens : List (List ℕ)) (before : Option X)
+      → first_read reads past ≡ before
+      → (first_read reads past ≡ Some read → FirstRead reads past read)
+      → option_or before (reads (scopes_at past) tokens) ≡ Some read
+      → FirstRead reads (var tokens ∷ past) read
+  first-var past read tokens None e more is = record {
+    later = [];
+    earlier = past;
+    tokens = tokens;
+    parts = refl;
+    declares = is;
+    first = leaves-none past e;
+  }
+  first-var past read tokens (Some own) e more is =
+      first-later (var tokens) past read (more (e ∙ is))
 
-first-of : (test : List ℕ → List ℕ → Bool) (past : List Statement) (name identifier : List ℕ)
-    → identifier_of test past name ≡ Some identifier → FirstDeclaration test past name identifier
-first-of test [] name identifier is = cc (is)
-first-of test (scope other ∷ past) name identifier is = first-later test
-    (scope other) past name identifier
-    (first-of test past name identifier is)
-first-of test (upscope ∷ past) name identifier is = first-later test upscope past name identifier
-    (first-of test past name identifier is)
-first-of test (var tokens ∷ past) name identifier is = first-var test past name identifier tokens
-    (identifier_of test past name) refl (first-of test past name identifier) is
-first-of test (definitions ∷ past) name identifier is = first-later test
-    definitions past name identifier
-    (first-of test past name identifier is)
-first-of test (time ticks ∷ past) name identifier is = first-later test
-    (time ticks) past name identifier
-    (first-of test past name identifier is)
-first-of test (change form other value ∷ past) name identifier is = first-later test
-    (change form other value) past name
-    identifier (first-of test past name identifier is)
-first-of test (dump ∷ past) name identifier is = first-later test dump past name identifier
-    (first-of test past name identifier is)
-first-of test (dump_end ∷ past) name identifier is = first-later test dump_end past name identifier
-    (first-of test past name identifier is)
+  first-of : (past : List Statement) (read : X) → first_read reads past ≡ Some read
+      → FirstRead reads past read
+  first-of [] read is = absurd (cc (is))
+  first-of (scope other ∷ past) read is = first-later (scope other) past read (first-of past read is)
+  first-of (upscope ∷ past) read is = first-later upscope past read (first-of past read is)
+  first-of (var tokens ∷ past) read is =
+      first-var past read tokens (first_read reads past) refl (first-of past read) is
+  first-of (definitions ∷ past) read is =
+      first-later definitions past read (first-of past read is)
+  first-of (time ticks ∷ past) read is =
+      first-later (time ticks) past read (first-of past read is)
+  first-of (change form other letters ∷ past) read is =
+      first-later (change form other letters) past read (first-of past read is)
+  first-of (dump ∷ past) read is =
+      first-later dump past read (first-of past read is)
+  first-of (dump_end ∷ past) read is =
+      first-later dump_end past read (first-of past read is)
 
-pub declared-is : (test : List ℕ → List ℕ → Bool) (past : List Statement) (name identifier : List ℕ)
-    → FirstDeclaration test past name
-    identifier ↔ (identifier_of test past name ≡ Some identifier)
-declared-is test past name identifier = (
-  declared-first test past name identifier,
-  first-of test past name identifier,
-)
+  pub read-is : (past : List Statement) (read : X)
+      → FirstRead reads past read ↔ (first_read reads past ≡ Some read)
+  read-is past read = (read-first past read, first-of past read)
 
 -- ---- masks
 
@@ -457,39 +439,79 @@ module _ (identified : List ℕ → Option (List ℕ)) (test : List ℕ → Bool
 
 -- ---- names
 
--- a test that holds of an identifier, where the name has one
-passes-is : (test : List ℕ → Bool) (own : Option (List ℕ))
-    → passes test own ≡ true → (identifier : List ℕ) × (own ≡ Some identifier)
-    × (test identifier ≡ true)
-passes-is test None is = cc (is)
-passes-is test (Some identifier) is = (identifier, refl, is)
+-- a test that holds of what there is
+some-is : {X : Type 0} (test : X → Bool) (own : Option X) → option_map_or test own false ≡ true
+    → (one : X) × (own ≡ Some one) × (test one ≡ true)
+some-is test None is = absurd (cc (is))
+some-is test (Some one) is = (one, refl, is)
 
-pub true-is : (past : List Statement) (name : List ℕ)
-    → IsHigh past name ↔ (true_at past name ≡ true)
-true-is past name = (
-  λ high.
-      ap (passes (value_at past)) (declared-first is_signal past name high.identifier high.declared)
-      ∙ value-last past high.identifier true high.high,
-  λ is.
-      let at = passes-is (value_at past) (identifier_of is_signal past name) is in
-      record {
-        identifier = at.0;
-        declared = first-of is_signal past name at.0 at.1;
-        high = last-of past at.0 at.2;
-      },
-)
+both-differ : (part : Part) (before now : Option (List ℕ)) → differs part before now ≡ true
+    → (old : List ℕ) × (new : List ℕ) × (before ≡ Some old) × (now ≡ Some new)
+    × (differ part old new ≡ true)
+both-differ part None None is = absurd (cc (is))
+both-differ part None (Some new) is = absurd (cc (is))
+both-differ part (Some old) None is = absurd (cc (is))
+both-differ part (Some old) (Some new) is = (old, new, refl, refl, is)
 
-pub happens-is : (past : List Statement) (name : List ℕ)
-    → HasHappened past name ↔ (happens_at past name ≡ true)
-happens-is past name = (
+changed-is : (past : List Statement) (identifier : List ℕ) (part : Part)
+    → HasChanged past identifier part ↔ (has_come past identifier (bits_changed part) ≡ true)
+changed-is past identifier part = (
   λ has.
-      ap (passes (happened_at past)) (declared-first is_event past name has.identifier has.declared)
-      ∙ happened-is past has.identifier has.happened,
+      ap₂ (differs part) (letters-last (before_now past) identifier has.old has.before)
+      (letters-last past identifier has.new has.now)
+      ∙ has.differ,
   λ is.
-      let at = passes-is (happened_at past) (identifier_of is_event past name) is in
+      let at = both-differ part (letters_at (before_now past) identifier)
+      (letters_at past identifier) is in
       record {
-        identifier = at.0;
-        declared = first-of is_event past name at.0 at.1;
-        happened = happened-of past at.0 at.2;
+        old = at.0;
+        before = last-of (before_now past) identifier at.0 at.2;
+        new = at.1;
+        now = last-of past identifier at.1 at.3;
+        differ = at.4;
       },
 )
+
+come-is : (past : List Statement) (identifier : List ℕ) (occasion : Occasion)
+    → HasCome past identifier occasion ↔ (has_come past identifier occasion ≡ true)
+come-is past identifier scalar_said = happening-is past identifier
+come-is past identifier (bits_changed part) = changed-is past identifier part
+
+pub true-is : (defined : List SignalDefined) (past : List Statement) (name : List ℕ)
+    → IsHigh defined past name ↔ (true_at defined past name ≡ true)
+true-is defined past name =
+    let reads = signal_in (signal_definition_of defined name) name in (
+      λ high.
+          ap (λ own. option_map_or (is_passed past) own false)
+          (read-first reads past high.asked high.declared)
+          ∙ ap (λ own. option_map_or (values.passes high.asked.asks) own false)
+          (letters-last past high.asked.identifier high.letters high.last)
+          ∙ high.passed,
+      λ is.
+          let at = some-is (is_passed past) (first_read reads past) is in
+          let said = some-is (values.passes at.0.asks) (letters_at past at.0.identifier) at.2 in
+          record {
+            asked = at.0;
+            declared = first-of reads past at.0 at.1;
+            letters = said.0;
+            last = last-of past at.0.identifier said.0 said.1;
+            passed = said.2;
+          },
+    )
+
+pub happens-is : (defined : List SignalDefined) (past : List Statement) (name : List ℕ)
+    → HasHappened defined past name ↔ (happens_at defined past name ≡ true)
+happens-is defined past name =
+    let reads = event_in (signal_definition_of (of_changes defined) name) name in (
+      λ has.
+          ap (λ own. option_map_or (is_come past) own false)
+          (read-first reads past has.asked has.declared)
+          ∙ (come-is past has.asked.identifier has.asked.asks).0 has.come,
+      λ is.
+          let at = some-is (is_come past) (first_read reads past) is in
+          record {
+            asked = at.0;
+            declared = first-of reads past at.0 at.1;
+            come = (come-is past at.0.identifier at.0.asks).1 at.2;
+          },
+    )

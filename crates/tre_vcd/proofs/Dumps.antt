@@ -16,7 +16,7 @@ use Rattle.tre_vcd.proofs.TokenRuns.{with_front, then_run, run, run-append, toke
 -- the end of the input behind a complete dump
 end_none : (terms : Terms) (past : List Statement) (spot : Spot) → IsComplete past
     → recording_from (vcd_format terms) true (at past vcd.nothing) spot []
-    ≡ record { stretches = []; last = happens_at past; fault = None }
+    ≡ record { stretches = []; last = happens_at terms.definitions past; fault = None }
 unfolding token_says end_says
 end_none terms past spot complete =
     reading-last (vcd_format terms) true (at past vcd.nothing) spot []
@@ -25,7 +25,7 @@ end_none terms past spot complete =
 
 pub read_trace : (terms : Terms) (groups : List (List (List ℕ))) (bytes : List ℕ)
     (stretches : List Stretch) (last : List ℕ → Bool) → Spaced (tokens_in groups) bytes
-    → Say terms [] groups stretches (CompletesWith last)
+    → Say terms [] groups stretches (CompletesWith terms.definitions last)
     → vcd_recording terms true bytes ≡ record { stretches = stretches; last = last; fault = None }
 read_trace terms groups bytes stretches last spaced say =
     let leads = groups_run terms [] groups stretches _ say in
@@ -37,7 +37,7 @@ read_trace terms groups bytes stretches last spaced say =
     ∙ ap (behind stretches) (end_none terms leads.now read.at leads.ends.complete)
     ∙ ap (λ all. record {
       stretches = all;
-      last = happens_at leads.now;
+      last = happens_at terms.definitions leads.now;
       fault = None;
     }) (append-nil stretches)
     ∙ ap (λ n. record { stretches = stretches; last = n; fault = None }) (sym leads.ends.happened)

@@ -7,11 +7,10 @@ use Rattle.std.specs.Str.{bytes_eq}
 use Rattle.std.proofs.Math.Path.{fun_ext}
 use Rattle.std.proofs.lemmas.Bool.{cases_eq}
 use Rattle.std.proofs.lemmas.List.Folds.{list_all-map}
-use Rattle.std.proofs.lemmas.Simd.{splat_is_map}
 use Rattle.std.proofs.lemmas.List.{ext_get_or, length-map, length-set, get_or-map, get_or-set_same, get_or-set_other}
 use Rattle.tre_state.specs.Names.{place_of}
-use Rattle.tre_vcd.specs.VcdReading.{Statement, var, scopes_at, identifier_in, identifier_of}
-use Rattle.tre_vcd.specs.Kept.{Declares, DeclaresNone, DeclaresNoneWithin, flags_of}
+use Rattle.tre_vcd.specs.VcdReading.{Statement, var, scopes_at, identifier_in}
+use Rattle.tre_vcd.specs.Kept.{identifier_of, Declares, DeclaresNone, DeclaresNoneWithin, flags_of}
 use Rattle.tre_vcd.proofs.Knowing.{option_or-none}
 use Rattle.tre_vcd.proofs.Naming.{named-at, named-none}
 
@@ -156,11 +155,9 @@ take-none zero [] is = refl
 take-none (suc n) [] is = refl
 take-none n (flag ∷ flags) is = cc (is)
 
--- as many as there are names, and all false
-pub flags-none : (names : List (List ℕ)) (n m : ℕ) (old : List Bool) → old ≡ []
-    → length names ≡ n → m ≡ 0
-    → take n old ++ replicate (n - m) false ≡ map (λ name. false) names
-flags-none names n m old none long zero_ =
+-- as many as that, and all false
+pub all-false : (n m : ℕ) (old : List Bool) → old ≡ [] → m ≡ 0
+    → take n old ++ replicate (n - m) false ≡ replicate n false
+all-false n m old none zero_ =
     ap (λ (front : List Bool). front ++ replicate (n - m) false) (take-none n old none)
     ∙ ap (λ k. replicate k false) (omega (arith, zero_))
-    ∙ splat_is_map names n false long

@@ -1,5 +1,5 @@
 -- Names that are gathered in a set.
-use Rattle.std.proofs.Common.{◌≡◌, ◌≢◌, ◌≤◌, ℕ, ◌+◌, Bool, true, false, ◌&&◌, ◌||◌, List, [], ◌∷◌, ◌++◌, length, map, get_or, take, Some, refl, sym, ap, ◌∙◌, subst, arith}
+use Rattle.std.proofs.Common.{◌≡◌, ◌≢◌, ◌≤◌, ◌⊎◌, inl, inr, ℕ, ◌+◌, Bool, true, false, not, ◌&&◌, ◌||◌, List, [], ◌∷◌, ◌++◌, length, map, get_or, take, Option, None, Some, if◌then◌else◌, refl, sym, ap, ◌∙◌, subst, arith}
 use Rattle.std.specs.Prelude.{All, AllPairs, slice_get}
 use Rattle.std.specs.List.{AllByRecursion, IsDistinct, list_all, list_any}
 use Rattle.std.specs.Str.{bytes_eq}
@@ -7,10 +7,12 @@ use Rattle.std.proofs.lemmas.Slice.Eq.{bytes_eq-Decides}
 use Rattle.std.proofs.lemmas.List.{take_more, take_all}
 use Rattle.std.proofs.lemmas.Map.Keys.{IsDistinct-head, IsDistinct-tail}
 use Rattle.std.proofs.lemmas.Bool.{false≢true}
-use Rattle.std.proofs.lemmas.List.Elements.{All-cons, All-nil}
+use Rattle.std.proofs.lemmas.List.Elements.{All-cons, All-nil, All-push}
 use Rattle.std.proofs.lemmas.List.Kept.{AllPairs-cons}
 use Rattle.std.proofs.lemmas.Option.{get_or_from_slice_get, slice_get_within}
-use Rattle.tre_vcd.specs.Needs.{JoinsNames}
+use Rattle.std.specs.Option.{is_some, option_map}
+use Rattle.tre_define.specs.Signals.{SignalDefined, signal_definition_of}
+use Rattle.tre_vcd.specs.Sorted.{AreSorted, JoinsNames, is_undefined, wanted}
 
 and-true : (b : Bool) → (b && true) ≡ b
 and-true true = refl
@@ -110,3 +112,130 @@ module _ {X : Type 0} (f : X → List ℕ) where
       (IsDistinct-head (λ one other. bytes_eq (f one) (f other)) key keys distinct))
       (keys-differ keys
       (IsDistinct-tail (λ one other. bytes_eq (f one) (f other)) key keys distinct))
+
+-- ---- definitions
+
+-- what is found for a name is of that name
+named-step : (name : List ℕ) (first one : SignalDefined) (all : List SignalDefined) (same : Bool)
+    → bytes_eq first.name name ≡ same
+    → (signal_definition_of all name ≡ Some one → one.name ≡ name)
+    → (if same then Some first else signal_definition_of all name) ≡ Some one → one.name ≡ name
+named-step name first one all true same more is =
+    let own : first ≡ one = cc (is) in
+    ap (λ (it : SignalDefined). it.name) (sym own) ∙ (bytes_eq-Decides first.name name).0 same
+named-step name first one all false same more is = more is
+
+pub named-is : (name : List ℕ) (one : SignalDefined) (all : List SignalDefined)
+    → signal_definition_of all name ≡ Some one → one.name ≡ name
+named-is name one [] is = absurd (cc (is))
+named-is name one (first ∷ all) is =
+    named-step name first one all (bytes_eq first.name name) refl (named-is name one all) is
+
+pub mapped-some : {X Y : Type 0} (f : X → Y) (o : Option X)
+    → is_some (option_map f o) ≡ is_some o
+mapped-some f None = refl
+mapped-some f (Some x) = refl
+
+-- a test that all names pass is passed by the name of one of them
+among-step : (test : List ℕ → Bool) (name own : List ℕ) (rest : Bool) (here : Bool)
+    → bytes_eq own name ≡ here
+    → (here ≡ false → (rest && test name) ≡ rest)
+    → ((test own && rest) && test name) ≡ (test own && rest)
+among-step test name own rest true is more =
+    ap (λ text. (test own && rest) && test text) (sym ((bytes_eq-Decides own name).0 is))
+    ∙ absorbed (test own) rest
+among-step test name own rest false is more =
+    and-assoc (test own) rest (test name) ∙ ap (λ b. test own && b) (more refl)
+
+found-later : (name : List ℕ) (first : SignalDefined) (all : List SignalDefined) (here : Bool)
+    → bytes_eq first.name name ≡ here
+    → is_some (if here then Some first else signal_definition_of all name) ≡ true
+    → here ≡ false → is_some (signal_definition_of all name) ≡ true
+found-later name first all true is some none = absurd (cc (none))
+found-later name first all false is some none = some
+
+pub among-all : (test : List ℕ → Bool) (name : List ℕ) (all : List SignalDefined)
+    → is_some (signal_definition_of all name) ≡ true
+    → (list_all test (map (λ one. one.name) all) && test name)
+    ≡ list_all test (map (λ one. one.name) all)
+among-all test name [] some = absurd (cc (some))
+among-all test name (first ∷ all) some =
+    among-step test name first.name (list_all test (map (λ one. one.name) all))
+    (bytes_eq first.name name) refl
+    (λ none. among-all test name all
+    (found-later name first all (bytes_eq first.name name) refl some none))
+
+-- ---- names, some of which are defined
+
+wanted-parts : (test : List ℕ → Bool) (names : List (List ℕ)) (own : List SignalDefined)
+    → list_all test (wanted names own)
+    ≡ (list_all test names && list_all test (map (λ one. one.name) own))
+wanted-parts test [] own = refl
+wanted-parts test (first ∷ names) own =
+    ap (λ b. test first && b) (wanted-parts test names own)
+    ∙ sym (and-assoc (test first) (list_all test names)
+    (list_all test (map (λ one. one.name) own)))
+
+pub wanted-defined : (names : List (List ℕ)) (old new : List SignalDefined) (name own : List ℕ)
+    → own ≡ name
+    → ((test : List ℕ → Bool) → list_all test (map (λ one. one.name) new)
+    ≡ (list_all test (map (λ one. one.name) old) && test own))
+    → (test : List ℕ → Bool) → list_all test (wanted names new)
+    ≡ (list_all test (wanted names old) && test name)
+wanted-defined names old new name own is joins test =
+    wanted-parts test names new
+    ∙ ap (λ b. list_all test names && b) (joins test)
+    ∙ sym (and-assoc (list_all test names) (list_all test (map (λ one. one.name) old)) (test own))
+    ∙ ap (λ b. b && test own) (sym (wanted-parts test names old))
+    ∙ ap (λ text. list_all test (wanted names old) && test text) is
+
+swapped : (a b c : Bool) → ((a && c) && b) ≡ ((a && b) && c)
+swapped true true true = refl
+swapped true true false = refl
+swapped true false true = refl
+swapped true false false = refl
+swapped false b c = refl
+
+pub wanted-plain : (old new : List (List ℕ)) (own : List SignalDefined) (name : List ℕ)
+    → ((test : List ℕ → Bool) → list_all test new ≡ (list_all test old && test name))
+    → (test : List ℕ → Bool) → list_all test (wanted new own)
+    ≡ (list_all test (wanted old own) && test name)
+wanted-plain old new own name joins test =
+    let rest = list_all test (map (λ one. one.name) own) in
+    wanted-parts test new own
+    ∙ ap (λ b. b && rest) (joins test)
+    ∙ swapped (list_all test old) rest (test name)
+    ∙ ap (λ b. b && test name) (sym (wanted-parts test old own))
+
+-- one more of the definitions, or one more of the other names
+pub sorted-defined : (all : List SignalDefined) (names : List (List ℕ))
+    (old new : List SignalDefined) (one : SignalDefined) (name : List ℕ)
+    → signal_definition_of all name ≡ Some one
+    → (new ≡ old) ⊎ (new ≡ old ++ one ∷ []) → AreSorted all names old → AreSorted all names new
+sorted-defined all names old new one name is (inl same) sorted =
+    subst (AreSorted all names) (sym same) sorted
+sorted-defined all names old new one name is (inr more) sorted =
+    subst (AreSorted all names) (sym more) (record {
+      plain = sorted.plain;
+      defined = All-push (λ it. signal_definition_of all it.name ≡ Some it) old one sorted.defined
+          (ap (signal_definition_of all) (named-is name one all is) ∙ is);
+    })
+
+pub sorted-plain : (all : List SignalDefined) (old new : List (List ℕ))
+    (own : List SignalDefined) (name : List ℕ) → signal_definition_of all name ≡ None
+    → ((test : List ℕ → Bool) → list_all test new ≡ (list_all test old && test name))
+    → AreSorted all old own → AreSorted all new own
+sorted-plain all old new own name none joins sorted = record {
+  plain = joins (is_undefined all)
+      ∙ ap (λ b. b && is_undefined all name) sorted.plain
+      ∙ ap (λ (d : Option SignalDefined). not (is_some d)) none;
+  defined = sorted.defined;
+}
+
+pub sorted-none : (all : List SignalDefined) (names : List (List ℕ)) (own : List SignalDefined)
+    → names ≡ [] → own ≡ [] → AreSorted all names own
+sorted-none all names own empty none =
+    rw (empty, none) (record {
+      plain = refl;
+      defined = All-nil (λ one. signal_definition_of all one.name ≡ Some one);
+    })

@@ -9,8 +9,9 @@ use Rattle.tre_pairs.specs.declared.TheConstants.{TIME_MAX}
 use Rattle.tre_parts.specs.Format.{Step}
 use Rattle.tre_trace.specs.Reading.{Stretch}
 use Rattle.tre_trace.specs.declared.fault.TraceKind.{TraceKind}
+use Rattle.tre_define.specs.Signals.{SignalDefined}
 use Rattle.tre_vcd.specs.Dumps.{AreInner, section_of, IsScalar, is_vector, is_number, IsVector, Write, AreSilent, Belongs, Fits, Bring, SayNext, Say, tokens_in}
-use Rattle.tre_vcd.specs.VcdReading.{is_end, is_dump, is_scalar, ends_true, is_defined, scopes_at, time_at, stretch_until, Terms, scalar, wide, Statement, scope, upscope, var, definitions, time, change, dump, dump_end, Open, nothing, section, comment, vector, number, Place, goes_to, scope_says, section_says, command_says, time_says, scalar_says, vector_says, value_says, happens_at, true_at}
+use Rattle.tre_vcd.specs.VcdReading.{is_end, is_dump, is_scalar, is_defined, scopes_at, time_at, stretch_until, Terms, scalar, wide, Statement, scope, upscope, var, definitions, time, change, dump, dump_end, Open, nothing, section, comment, vector, number, Place, goes_to, scope_says, section_says, command_says, time_says, scalar_says, vector_says, value_says, happens_at, true_at}
 use Rattle.tre_vcd.specs.Sections.{dump_says}
 use Rattle.tre_vcd.proofs.TokenRuns.{with_front, with_front-none, then_run, stay, run, run-append}
 
@@ -125,10 +126,10 @@ other_time a b c ends some = grind (arith, nat_tests)
 -- ---- what one group says
 
 -- the stretches that a statement brings
-abbrev pub brought : List Statement → Statement → List Stretch
-brought past (time ticks) =
-    if ticks == time_at past then [] else stretch_until past ticks ∷ []
-brought past _ = []
+abbrev pub brought : List SignalDefined → List Statement → Statement → List Stretch
+brought defined past (time ticks) =
+    if ticks == time_at past then [] else stretch_until defined past ticks ∷ []
+brought defined past _ = []
 
 -- these stretches are said, and nothing is open behind them
 abbrev pub tells : List Stretch → List Statement → Result (Step Place) TraceKind
@@ -155,12 +156,13 @@ if_later : (same : Bool) (stretch : Stretch) (now : List Statement)
 if_later true stretch now = refl
 if_later false stretch now = refl
 
-time_tells : (past : List Statement) (ticks : ℕ) → time_at past ≤ ticks
-    → ticks ≤ TIME_MAX
-    → time_says past ticks ≡ tells (brought past (time ticks)) (time ticks ∷ past)
-time_tells past ticks late in_time =
+time_tells : (defined : List SignalDefined) (past : List Statement) (ticks : ℕ)
+    → time_at past ≤ ticks → ticks ≤ TIME_MAX
+    → time_says defined past ticks
+    ≡ tells (brought defined past (time ticks)) (time ticks ∷ past)
+time_tells defined past ticks late in_time =
     rw (not_below ticks (time_at past) late, not_below TIME_MAX ticks in_time)
-    (if_later (ticks == time_at past) (stretch_until past ticks) (time ticks ∷ past))
+    (if_later (ticks == time_at past) (stretch_until defined past ticks) (time ticks ∷ past))
 
 pub scalar_value : (terms : Terms) (past : List Statement) (letter : ℕ) (identifier : List ℕ)
     → is_scalar letter ≡ true
@@ -176,7 +178,7 @@ scalar_value terms past letter identifier is =
 
 some_scalar : (past : List Statement) (letter : ℕ) (identifier : List ℕ) → 0 < length identifier
     → scalar_says past letter identifier ≡ goes_to
-    (change scalar identifier (letter == 49) ∷ past) nothing
+    (change scalar identifier (letter ∷ []) ∷ past) nothing
 some_scalar past letter [] some = absurd (omega (arith, some))
 some_scalar past letter (byte ∷ bytes) some = refl
 
@@ -187,7 +189,7 @@ vector_value terms past letter bits is =
     rw (vector_hash letter is, vector_dollar letter is, is) refl
 
 some_vector : (past : List Statement) (bits : List ℕ) → 0 < length bits
-    → vector_says past bits ≡ goes_to past (vector (ends_true bits))
+    → vector_says past bits ≡ goes_to past (vector bits)
 some_vector past [] some = absurd (omega (arith, some))
 some_vector past (byte ∷ bytes) some = refl
 
@@ -215,31 +217,31 @@ dump_value terms past token opens =
     (or_cases (bytes_eq token (codes "$dumpall") || bytes_eq token (codes "$dumpoff")
     || bytes_eq token (codes "$dumpon")) (bytes_eq token (codes "$dumpvars")) opens)
 
-scalar_run : (terms : Terms) (past : List Statement) (identifier : List ℕ) (value : Bool)
-    (tokens : List (List ℕ)) → IsScalar identifier value tokens → is_defined past ≡ true
-    → run terms (at past nothing) tokens ≡ tells [] (change scalar identifier value ∷ past)
-scalar_run terms past identifier value tokens one defined =
-    rw (one.is, one.value_is)
+scalar_run : (terms : Terms) (past : List Statement) (identifier letters : List ℕ)
+    (tokens : List (List ℕ)) → IsScalar identifier letters tokens → is_defined past ≡ true
+    → run terms (at past nothing) tokens ≡ tells [] (change scalar identifier letters ∷ past)
+scalar_run terms past identifier letters tokens one defined =
+    rw (one.is, one.value)
     (one_run terms past (one.letter ∷ identifier)
-    (goes_to (change scalar identifier (one.letter == 49) ∷ past) nothing) defined
+    (goes_to (change scalar identifier (one.letter ∷ []) ∷ past) nothing) defined
     (scalar_value terms past one.letter identifier one.scalar
     ∙ some_scalar past one.letter identifier one.some))
 
-vector_run : (terms : Terms) (past : List Statement) (identifier : List ℕ) (value : Bool)
-    (tokens : List (List ℕ)) → IsVector identifier value tokens → is_defined past ≡ true
-    → run terms (at past nothing) tokens ≡ tells [] (change wide identifier value ∷ past)
-vector_run terms past identifier value tokens one defined =
-    rw (one.is, one.value_is)
-    (value_run terms past (one.letter ∷ one.bits) (identifier ∷ [])
-    (at past (vector (ends_true one.bits))) defined
-    (vector_value terms past one.letter one.bits one.vector
-    ∙ some_vector past one.bits one.some))
+vector_run : (terms : Terms) (past : List Statement) (identifier letters : List ℕ)
+    (tokens : List (List ℕ)) → IsVector identifier letters tokens → is_defined past ≡ true
+    → run terms (at past nothing) tokens ≡ tells [] (change wide identifier letters ∷ past)
+vector_run terms past identifier letters tokens one defined =
+    rw one.is
+    (value_run terms past (one.letter ∷ letters) (identifier ∷ [])
+    (at past (vector letters)) defined
+    (vector_value terms past one.letter letters one.vector
+    ∙ some_vector past letters one.some))
 
 -- what says something goes on behind it
 pub writes_run : (terms : Terms) (past : List Statement) (statement : Statement)
     (tokens : List (List ℕ)) → Write terms.scale statement tokens → Belongs past statement
     → Fits terms past statement
-    → run terms (at past nothing) tokens ≡ tells (brought past statement) (statement ∷ past)
+    → run terms (at past nothing) tokens ≡ tells (brought terms.definitions past statement) (statement ∷ past)
 writes_run terms past (scope name) tokens writes belongs fits =
     rw writes.is
     (section_run terms past (codes "$scope") writes.inner (scope name ∷ past) belongs refl
@@ -260,13 +262,13 @@ writes_run terms past definitions tokens writes belongs fits =
     (rw fits refl) writes.closed refl)
 writes_run terms past (time ticks) tokens writes belongs fits =
     rw writes.is
-    (one_run terms past (35 ∷ writes.digits) (tells (brought past (time ticks))
+    (one_run terms past (35 ∷ writes.digits) (tells (brought terms.definitions past (time ticks))
     (time ticks ∷ past)) belongs
-    (rw (writes.numeral, ← writes.value) (time_tells past ticks fits.0 fits.1)))
-writes_run terms past (change scalar identifier value) tokens writes belongs fits =
-    scalar_run terms past identifier value tokens writes belongs
-writes_run terms past (change wide identifier value) tokens writes belongs fits =
-    vector_run terms past identifier value tokens writes belongs
+    (rw (writes.numeral, ← writes.value) (time_tells terms.definitions past ticks fits.0 fits.1)))
+writes_run terms past (change scalar identifier letters) tokens writes belongs fits =
+    scalar_run terms past identifier letters tokens writes belongs
+writes_run terms past (change wide identifier letters) tokens writes belongs fits =
+    vector_run terms past identifier letters tokens writes belongs
 writes_run terms past dump tokens writes belongs fits =
     rw writes.is
     (one_run terms past writes.token (tells [] (dump ∷ past)) belongs.0
@@ -309,30 +311,30 @@ same_stretch stretch len is_true happens is_len is_val is_ev =
     ap (λ n. stretch_of n stretch.is_true stretch.happens) is_len
     ∙ ap (λ n. stretch_of len n stretch.happens) is_val ∙ ap (stretch_of len is_true) is_ev
 
-time_brings : (past : List Statement) (ticks : ℕ)
-    (stretches rest : List Stretch) → Bring past (time ticks) stretches rest
-    → stretches ≡ brought past (time ticks) ++ rest
-time_brings past ticks stretches rest (inl none) =
+time_brings : (defined : List SignalDefined) (past : List Statement) (ticks : ℕ)
+    (stretches rest : List Stretch) → Bring defined past (time ticks) stretches rest
+    → stretches ≡ brought defined past (time ticks) ++ rest
+time_brings defined past ticks stretches rest (inl none) =
     rw (same_time ticks (time_at past) none.0) none.1
-time_brings past ticks stretches rest (inr one) =
+time_brings defined past ticks stretches rest (inr one) =
     rw (other_time ticks (time_at past) one.stretch.len one.reaches one.some)
     (one.is
     ∙ ap (λ first. first ∷ rest)
-    (same_stretch one.stretch (ticks - time_at past) (true_at past)
-    (happens_at past) (omega (arith, one.reaches)) one.held one.happened))
+    (same_stretch one.stretch (ticks - time_at past) (true_at defined past)
+    (happens_at defined past) (omega (arith, one.reaches)) one.held one.happened))
 
-brings : (past : List Statement) (statement : Statement)
-    (stretches rest : List Stretch) → Bring past statement stretches rest
-    → stretches ≡ brought past statement ++ rest
-brings past (scope name) stretches rest bring = bring
-brings past upscope stretches rest bring = bring
-brings past (var tokens) stretches rest bring = bring
-brings past definitions stretches rest bring = bring
-brings past (time ticks) stretches rest bring =
-    time_brings past ticks stretches rest bring
-brings past (change form identifier value) stretches rest bring = bring
-brings past dump stretches rest bring = bring
-brings past dump_end stretches rest bring = bring
+brings : (defined : List SignalDefined) (past : List Statement) (statement : Statement)
+    (stretches rest : List Stretch) → Bring defined past statement stretches rest
+    → stretches ≡ brought defined past statement ++ rest
+brings defined past (scope name) stretches rest bring = bring
+brings defined past upscope stretches rest bring = bring
+brings defined past (var tokens) stretches rest bring = bring
+brings defined past definitions stretches rest bring = bring
+brings defined past (time ticks) stretches rest bring =
+    time_brings defined past ticks stretches rest bring
+brings defined past (change form identifier letters) stretches rest bring = bring
+brings defined past dump stretches rest bring = bring
+brings defined past dump_end stretches rest bring = bring
 
 -- The tokens of groups lead to a past of which this holds.
 pub record LeadsTo (terms : Terms) (past : List Statement) (groups : List (List (List ℕ)))
@@ -370,8 +372,8 @@ groups_run terms past (tokens ∷ groups) stretches End say =
           run-append terms (at past nothing) tokens (tokens_in groups)
           ∙ ap (λ said. then_run said (λ place. run terms place (tokens_in groups)))
           (writes_run terms past next.statement tokens next.writes next.belongs next.fits)
-          ∙ ap (with_front (brought past next.statement)) later.runs
+          ∙ ap (with_front (brought terms.definitions past next.statement)) later.runs
           ∙ ap (λ all. tells all later.now)
-          (sym (brings past next.statement stretches next.rest next.brings));
+          (sym (brings terms.definitions past next.statement stretches next.rest next.brings));
     })
     say

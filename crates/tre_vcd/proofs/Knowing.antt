@@ -1,8 +1,7 @@
 -- What is kept of the identifiers of names, one declaration later.
 use Rattle.std.proofs.Common.{◌≡◌, ◌≢◌, ◌⊎◌, ℕ, zero, suc, ◌<◌, ◌≤◌, Bool, true, false, ◌&&◌, List, [], ◌∷◌, ◌++◌, length, get_or, set, Option, None, Some, refl, sym, ap, ◌∙◌, inl, inr, arith, if◌then◌else◌}
-use Rattle.std.specs.List.{list_all}
 use Rattle.std.specs.Prelude.{All}
-use Rattle.std.specs.Option.{is_some, option_map, option_or}
+use Rattle.std.specs.Option.{option_or}
 use Rattle.std.specs.Str.{bytes_eq}
 use Rattle.std.proofs.lemmas.Bool.{cases_lt}
 use Rattle.tre_vcd.specs.Kept.{AreKnown, IsSieveOf, KeepsNames, and_declared, identifier_kept}
@@ -72,39 +71,9 @@ known-few identified (name ∷ names) [] known = omega arith
 known-few identified (name ∷ names) (variable ∷ variables) known =
     omega (arith, known-few identified names variables known.1)
 
-some-kept : (variable : Variable) → is_some variable.identifier
-    ≡ is_some (identifier_kept variable)
-some-kept variable = elim variable.identifier as (λ o. is_some o ≡ is_some (option_map (λ bytes.
-    bytes.items) o)) [ None ↦ refl | Some bytes ↦ refl ]
-
-pub known-declared : (identified : List ℕ → Option (List ℕ)) (names : List (List ℕ))
-    (variables : List Variable) → length variables ≡ length names
-    → AreKnown identified names variables
-    → list_all (λ variable. is_some variable.identifier) variables
-    ≡ list_all (λ name. is_some (identified name)) names
-known-declared identified [] variables same known = ap (list_all _) known
-known-declared identified (name ∷ names) [] same known = absurd (omega (arith, same))
-known-declared identified (name ∷ names) (variable ∷ variables) same known =
-    let head : is_some variable.identifier ≡ is_some (identified name) =
-    some-kept variable ∙ ap is_some known.0 in
-    rw (head, known-declared identified names variables (omega (arith, same)) known.1) refl
-
 pub not-both : (a : Bool) → (a && false) ≡ false
 not-both true = refl
 not-both false = refl
-
--- where there are fewer variables than names, a name is undeclared
-pub known-undeclared : (identified : List ℕ → Option (List ℕ)) (names : List (List ℕ))
-    (variables : List Variable) → length variables ≢ length names
-    → AreKnown identified names variables
-    → list_all (λ name. is_some (identified name)) names ≡ false
-known-undeclared identified [] variables other known = absurd (other (ap length known))
-known-undeclared identified (name ∷ names) [] other known =
-    let none : is_some (identified name) ≡ false = ap is_some known.0 in
-    rw none refl
-known-undeclared identified (name ∷ names) (variable ∷ variables) other known =
-    rw (known-undeclared identified names variables (λ same. other (ap suc same)) known.1)
-    (not-both (is_some (identified name)))
 
 -- ---- a declaration
 

@@ -3,17 +3,18 @@ use Rattle.std.proofs.Common.{◌≡◌, ℕ, ◌==◌, Bool, not, ◌||◌, ◌
 use Rattle.std.proofs.Math.Path.{fun_ext}
 use Rattle.std.specs.List.{list_all}
 use Rattle.std.specs.Str.{bytes_eq}
+use Rattle.tre_define.specs.Signals.{SignalDefined}
 use Rattle.tre_parts.specs.Format.{Step, recording_of}
 use Rattle.tre_trace.specs.Reading.{Vocabulary}
 use Rattle.tre_trace.specs.declared.fault.TraceKind.{TraceKind}
 use Rattle.tre_trace.specs.declared.fault.TraceKind.TheVariants.{BadToken, UnknownName}
 use Rattle.tre_vcd.specs.VcdReading.{Terms, Statement, Open, Place, nothing, section, comment, vector, number, scopes_at, is_defined, are_declared, goes_to, is_command, is_end, is_dump, command_says, value_says, token_at, token_says, vcd_format, vcd_recording}
 
-module _ (one other : List Vocabulary) (scale : ℕ)
-    (same : (past : List Statement) → list_all (are_declared past) one
-    ≡ list_all (are_declared past) other) where
+module _ (one other : List Vocabulary) (scale : ℕ) (defined : List SignalDefined)
+    (same : (past : List Statement) → list_all (are_declared defined past) one
+    ≡ list_all (are_declared defined past) other) where
   abbrev pub terms : List Vocabulary → Terms
-  terms declared = record { declared = declared; scale = scale }
+  terms declared = record { declared = declared; scale = scale; definitions = defined }
 
   command-alike : (past : List Statement) (token : List ℕ)
       → command_says (terms one) past token ≡ command_says (terms other) past token
@@ -39,7 +40,7 @@ module _ (one other : List Vocabulary) (scale : ℕ)
       (value-alike past token)
   token-alike past (section command tokens) token = refl
   token-alike past comment token = refl
-  token-alike past (vector value) token = refl
+  token-alike past (vector letters) token = refl
   token-alike past number token = refl
 
   says-alike : (place : Place) (token : List ℕ)

@@ -2,8 +2,7 @@
 use Rattle.std.proofs.Common.{◌≡◌, ℕ, Bool, List, [], ◌∷◌, Option, refl, ap, ap₂, ◌∙◌, arith}
 use Rattle.tre_trace.specs.Reading.{bits_of}
 use Rattle.tre_trace.specs.Segments.{segment_with}
-use Rattle.tre_vcd.specs.VcdReading.{is_of}
-use Rattle.tre_vcd.specs.Kept.{mask_from}
+use Rattle.tre_vcd.specs.Kept.{is_of, mask_from}
 use Rattle.tre_vcd.proofs.Deciding.{split-bits}
 
 pub mask-bits : (identified : List ℕ → Option (List ℕ)) (test : List ℕ → Bool)

@@ -1,11 +1,13 @@
 -- What is known of the names that must be declared.
-use Rattle.std.proofs.Common.{◌≡◌, ◌≤◌, ℕ, Bool, List, [], ◌∷◌, ◌++◌, length, map, take, drop, sym, ap, ◌∙◌, subst, arith}
+use Rattle.std.proofs.Common.{◌≡◌, ◌≤◌, ℕ, Bool, refl, List, [], ◌∷◌, ◌++◌, length, map, take, drop, sym, ap, ◌∙◌, subst, arith}
 use Rattle.std.specs.Prelude.{All}
 use Rattle.std.proofs.Math.Seq.{take-append_seam}
 use Rattle.std.proofs.lemmas.List.{map-append}
 use Rattle.tre_trace.specs.Reading.{Vocabulary}
-use Rattle.tre_vcd.specs.VcdReading.{Statement, var, scopes_at, is_signal, is_event, identifier_of}
-use Rattle.tre_vcd.specs.Kept.{KnowsNeeded, KnowsAll, IsWithin, AreWithin, DeclaresNoneWithin, vocabulary_of}
+use Rattle.tre_vcd.specs.VcdReading.{Statement, var, scopes_at, is_signal, is_event}
+use Rattle.tre_vcd.specs.Kept.{identifier_of, KnowsNeeded, KnowsAll, IsWithin, AreWithin, DeclaresNoneWithin, plain_of, vocabulary_of}
+use Rattle.tre_define.specs.Signals.{SignalDefined}
+use Rattle.tre_vcd.specs.Offers.{KnowsOffers, KnowOffers}
 use Rattle.tre_vcd.specs.declared.found.Found.{Found}
 use Rattle.tre_vcd.proofs.Flagging.{flags-same, flags-within}
 
@@ -17,9 +19,9 @@ pub needed-same : (past now : List Statement) (all : List Found)
 needed-same past now [] same knows = tt
 needed-same past now (found ∷ others) same knows = (
   record {
-    names = flags-same is_signal past now (vocabulary_of found).names found.names.items
+    names = flags-same is_signal past now (plain_of found).names found.names.items
         (same is_signal) knows.0.names;
-    events = flags-same is_event past now (vocabulary_of found).events found.events.items
+    events = flags-same is_event past now (plain_of found).events found.events.items
         (same is_event) knows.0.events;
   },
   needed-same past now others same knows.1,
@@ -30,14 +32,14 @@ pub needed-within : (past : List Statement) (longest : ℕ) (tokens : List (List
     (all : List Found)
     → DeclaresNoneWithin longest is_signal (scopes_at past) tokens
     → DeclaresNoneWithin longest is_event (scopes_at past) tokens
-    → AreWithin longest (map vocabulary_of all) → KnowsAll past all
+    → AreWithin longest (map plain_of all) → KnowsAll past all
     → KnowsAll (var tokens ∷ past) all
 needed-within past longest tokens [] signals said within knows = tt
 needed-within past longest tokens (found ∷ others) signals said within knows = (
   record {
-    names = flags-within is_signal past longest tokens (vocabulary_of found).names
+    names = flags-within is_signal past longest tokens (plain_of found).names
         found.names.items signals within.0.names knows.0.names;
-    events = flags-within is_event past longest tokens (vocabulary_of found).events
+    events = flags-within is_event past longest tokens (plain_of found).events
         found.events.items said within.0.events knows.0.events;
   },
   needed-within past longest tokens others signals said within.1 knows.1,
@@ -49,15 +51,31 @@ needed-more past [] found knows more = (more, tt)
 needed-more past (first ∷ others) found knows more =
     (knows.0, needed-more past others found knows.1 more)
 
+pub offers-more : (all : List SignalDefined) (past : List Statement) (own : List Found)
+    (found : Found) → KnowOffers all past own → KnowsOffers all past found
+    → KnowOffers all past (own ++ found ∷ [])
+offers-more all past [] found knows more = (more, tt)
+offers-more all past (first ∷ others) found knows more =
+    (knows.0, offers-more all past others found knows.1 more)
+
+pub offers-none : (all : List SignalDefined) (past : List Statement) (own : List Found)
+    → own ≡ [] → KnowOffers all past own
+offers-none all past [] none = tt
+offers-none all past (first ∷ others) none = absurd (cc (none))
+
+pub no-needed : (all : List Found) → map vocabulary_of all ≡ [] → all ≡ []
+no-needed [] none = refl
+no-needed (found ∷ others) none = absurd (cc (none))
+
 pub needed-none : (past : List Statement) (all : List Found) → all ≡ [] → KnowsAll past all
 needed-none past [] none = tt
 needed-none past (first ∷ others) none = cc (none)
 
 -- where all are written back into the vector that they came from
-pub written-back : (past : List Statement) (now all : List Found) (len : ℕ) → length now ≡ len
-    → KnowsAll past now → KnowsAll past (take len (now ++ drop (length now) all))
-written-back past now all len same knows =
-    subst (KnowsAll past)
+pub written-back : (P : List Found → Type 0) (now all : List Found) (len : ℕ)
+    → length now ≡ len → P now → P (take len (now ++ drop (length now) all))
+written-back P now all len same knows =
+    subst P
     (sym (ap (λ n. take n (now ++ drop (length now) all)) (sym same)
     ∙ take-append_seam now (drop (length now) all))) knows
 
@@ -89,12 +107,12 @@ within-same longest now asked own all others same names needed is =
     (subst (λ (rest : List Vocabulary). AreWithin longest (asked ∷ rest)) (sym needed) is))
 
 pub within-push : (a b : ℕ) (all new : List Found) (found : Found) → a ≤ b
-    → new ≡ all ++ found ∷ [] → AreWithin a (map vocabulary_of all)
-    → IsWithin b (vocabulary_of found) → AreWithin b (map vocabulary_of new)
+    → new ≡ all ++ found ∷ [] → AreWithin a (map plain_of all)
+    → IsWithin b (plain_of found) → AreWithin b (map plain_of new)
 within-push a b all new found more is are also =
     subst (AreWithin b)
-    (sym (ap (map vocabulary_of) is ∙ map-append vocabulary_of all (found ∷ [])))
-    (all-within a b (map vocabulary_of all) (vocabulary_of found) more are also)
+    (sym (ap (map plain_of) is ∙ map-append plain_of all (found ∷ [])))
+    (all-within a b (map plain_of all) (plain_of found) more are also)
 
 -- the longer of two is the longest of all
 pub within-both : (names events : List (List ℕ)) (a b n : ℕ) → a ≤ n → b ≤ n

@@ -11,7 +11,7 @@ use Rattle.tre_decimal.specs.Decimal.{is_numeral}
 use Rattle.tre_trace.specs.declared.fault.TraceKind.{TraceKind}
 use Rattle.tre_trace.specs.declared.fault.TraceKind.TheVariants.{LineTooLong, BadNumber, Zero, TooLate, BadName, BadToken, UnknownName, TimeBack, CutShort, Spent, Memory}
 use Rattle.tre_vcd.specs.Dumps.{AreInner, IsTime, is_vector, is_number, AreSilent, FitsNoRule, EndsEarly, LacksName, HasFault}
-use Rattle.tre_vcd.specs.VcdReading.{is_end, is_dump, is_command, is_scalar, ends_true, is_defined, in_dump, scopes_at, time_at, Terms, scalar, wide, Statement, scope, upscope, var, definitions, time, change, dump, dump_end, Open, nothing, section, Place, goes_to, scope_says, section_says, command_says, time_says, ticks_say, keyword_says, scalar_says, vector_says, value_says, token_at}
+use Rattle.tre_vcd.specs.VcdReading.{is_end, is_dump, is_command, is_scalar, is_defined, in_dump, scopes_at, time_at, Terms, scalar, wide, Statement, scope, upscope, var, definitions, time, change, dump, dump_end, Open, nothing, section, Place, goes_to, scope_says, section_says, command_says, time_says, ticks_say, keyword_says, scalar_says, vector_says, value_says, token_at}
 use Rattle.tre_vcd.specs.Sections.{dump_says, dump_end_says}
 use Rattle.tre_vcd.proofs.Groups.{at, is_word}
 use Rattle.tre_vcd.proofs.TokenRuns.{with_front-none, then_run, stay, run}
@@ -178,13 +178,11 @@ module _ (terms : Terms) (past : List Statement) (byte : ℕ) (bytes : List ℕ)
       → vector_says past bits ≡ Err BadToken
   no_vector letter [] same = refl
   no_vector letter (bit ∷ bits) same =
-      absurd (none.says_nothing ([] ∷ []) (change wide [] (ends_true bytes)) (record {
+      absurd (none.says_nothing ([] ∷ []) (change wide [] bytes) (record {
         letter = byte;
-        bits = bytes;
         is = refl;
         vector = letter;
         some = subst (λ all. 0 < length all) same (omega arith);
-        value_is = refl;
       }) defined)
 
   no_number : is_number byte ≡ true → ⊥
@@ -201,12 +199,12 @@ module _ (terms : Terms) (past : List Statement) (byte : ℕ) (bytes : List ℕ)
       → scalar_says past byte identifier ≡ Err BadToken
   no_scalar letter [] same = refl
   no_scalar letter (first ∷ identifier) same =
-      absurd (none.says_nothing [] (change scalar bytes (byte == 49)) (record {
+      absurd (none.says_nothing [] (change scalar bytes (byte ∷ [])) (record {
         letter = byte;
         is = refl;
         scalar = letter;
         some = subst (λ all. 0 < length all) same (omega arith);
-        value_is = refl;
+        value = refl;
       }) defined)
 
   pub says_no_value : value_says terms past (byte ∷ bytes) ≡ Err BadToken
@@ -302,7 +300,7 @@ early_stops terms past begun token early =
     early.short
 
 lacks_name : (terms : Terms) (past : List Statement) (token : List ℕ)
-    → LacksName terms.declared past token → token_at terms past nothing token ≡ Err UnknownName
+    → LacksName terms past token → token_at terms past nothing token ≡ Err UnknownName
 lacks_name terms past token lacks = rw (lacks.defined, lacks.ends, lacks.lacks) refl
 
 below : (a b : ℕ) → a < b → nat_lt a b ≡ true
@@ -314,7 +312,7 @@ not_below a b le = grind (arith, nat_tests)
 timed : (terms : Terms) (past : List Statement) (token : List ℕ) (ticks : ℕ)
     (said : Result (Step Place) TraceKind) → is_defined past ≡ true
     → IsTime terms.scale ticks (token ∷ [])
-    → time_says past ticks ≡ said → token_at terms past nothing token ≡ said
+    → time_says terms.definitions past ticks ≡ said → token_at terms past nothing token ≡ said
 timed terms past token ticks said defined one says =
     let token_is : token ≡ 35 ∷ one.digits = cc (one.is) in
     rw (defined, token_is, one.numeral, ← one.value) says

@@ -1,32 +1,36 @@
 -- What is known of the past, one statement later.
-use Rattle.std.proofs.Common.{◌≡◌, ◌≢◌, ℕ, ◌==◌, ◌≤◌, ◌||◌, ◌&&◌, not, Bool, true, false, None, List, ◌∷◌, [], length, get_or, refl, sym, ap, ◌∙◌, arith, if◌then◌else◌}
+use Rattle.std.proofs.Common.{◌≡◌, ◌≢◌, ℕ, ◌==◌, ◌≤◌, ◌||◌, ◌&&◌, not, Bool, true, false, None, List, ◌∷◌, [], Option, Some, length, get_or, refl, sym, ap, ◌∙◌, arith, if◌then◌else◌}
 use Rattle.std.specs.Int.{bit_at}
 use Rattle.std.specs.Str.{bytes_eq}
 use Rattle.std.proofs.lemmas.Slice.Eq.{bytes_eq-Decides}
 use Rattle.std.proofs.lemmas.Bool.Decides.{nat_tests}
-use Rattle.std.specs.Option.{option_or}
+use Rattle.std.specs.Option.{option_or, option_map_or}
 use Rattle.std.specs.Prelude.{All}
 use Rattle.tre_trace.specs.Reading.{Vocabulary}
-use Rattle.tre_vcd.specs.VcdReading.{Form, Statement, var, time, change, scalar, is_defined, time_at, scopes_at, in_dump, value_at, happened_at, is_signal, is_event, identifier_of, path}
-use Rattle.tre_vcd.specs.Kept.{Knows, IsQuiet, AreScopes, AreKnown, KeepsNames, AreHaving, IsWithin, Declares, DeclaresNone, DeclaresNoneWithin, and_declared, valuation_at, events_at}
+use Rattle.tre_vcd.specs.VcdReading.{Form, Statement, var, time, change, scalar, is_defined, time_at, scopes_at, in_dump, letters_at, happened_at, is_signal, is_event, path}
+use Rattle.tre_vcd.specs.Kept.{ends_true, identifier_of, value_at, Knows, IsQuiet, AreScopes, AreKnown, KeepsNames, AreHaving, IsWithin, Declares, DeclaresNone, DeclaresNoneWithin, and_declared, valuation_at, events_at}
 use Rattle.tre_vcd.specs.declared.scopes.Scopes.{Scopes}
 use Rattle.tre_vcd.specs.declared.past.Past.{Past}
 use Rattle.tre_vcd.specs.declared.variables.Variables.{Variables}
 use Rattle.tre_vcd.proofs.Knowing.{keeps-among, keeps-same, option_or-none, false_of}
 use Rattle.tre_vcd.proofs.Valuing.{mask-same, mask-quiet, mask-empty, mask-changed}
 
+abbrev value_of : Option (List ℕ) → Bool
+value_of letters = option_map_or ends_true letters false
+
 -- Looking back from two pasts, the same is found.
 pub record LooksSame (past now : List Statement) : Type 0 where
   pub identifiers : (test : List ℕ → List ℕ → Bool) (name : List ℕ) → identifier_of test now name
       ≡ identifier_of test past name
-  pub values : (identifier : List ℕ) → value_at now identifier ≡ value_at past identifier
+  pub values : (identifier : List ℕ) → letters_at now identifier ≡ letters_at past identifier
   pub events : (identifier : List ℕ) → happened_at now identifier ≡ happened_at past identifier
 
 values-same : (past now : List Statement) (names : List (List ℕ)) → LooksSame past now
     → valuation_at past names ≡ valuation_at now names
 values-same past now names same =
     mask-same (identifier_of is_signal past) (identifier_of is_signal now) (value_at past)
-    (value_at now) 0 names (same.identifiers is_signal) same.values
+    (value_at now) 0 names (same.identifiers is_signal)
+    (λ identifier. ap value_of (same.values identifier))
 
 events-same : (past now : List Statement) (names : List (List ℕ)) → LooksSame past now
     → events_at past names ≡ events_at now names
@@ -185,35 +189,35 @@ knows-same_time names event_names kept past ticks is known =
 
 -- ---- changes
 
-value-own : (past : List Statement) (form : Form) (identifier : List ℕ) (value : Bool)
-    → value_at (change form identifier value ∷ past) identifier ≡ value
-value-own past form identifier value =
-    ap (λ (b : Bool). if b then value else value_at past identifier)
+value-own : (past : List Statement) (form : Form) (identifier letters : List ℕ)
+    → value_at (change form identifier letters ∷ past) identifier ≡ ends_true letters
+value-own past form identifier letters =
+    ap (λ (b : Bool). value_of (if b then Some letters else letters_at past identifier))
     ((bytes_eq-Decides identifier identifier).1 refl)
 
-value-others : (past : List Statement) (form : Form) (identifier : List ℕ) (value : Bool)
-    (other : List ℕ) → other ≢ identifier
-    → value_at (change form identifier value ∷ past) other ≡ value_at past other
-value-others past form identifier value other apart =
-    ap (λ (b : Bool). if b then value else value_at past other)
+value-others : (past : List Statement) (form : Form) (identifier letters other : List ℕ)
+    → other ≢ identifier
+    → value_at (change form identifier letters ∷ past) other ≡ value_at past other
+value-others past form identifier letters other apart =
+    ap (λ (b : Bool). value_of (if b then Some letters else letters_at past other))
     (false_of (bytes_eq other identifier)
     (λ same. apart ((bytes_eq-Decides other identifier).0 same)))
 
 -- what is known of a change but for the events
 pub knows-change : (names event_names : List (List ℕ)) (kept : Past) (past : List Statement)
     (form : Form)
-    (identifier : List ℕ) (value : Bool) (values happened bits : ℕ) → is_defined past ≡ true
-    → AreHaving kept.propositions.list.items identifier bits
+    (identifier letters : List ℕ) (value : Bool) (values happened bits : ℕ) → is_defined past ≡ true
+    → value ≡ ends_true letters → AreHaving kept.propositions.list.items identifier bits
     → ((k : ℕ) → bit_at bits k ≡ 1 → bit_at values k ≡ (if value then 1 else 0))
     → ((k : ℕ) → bit_at bits k ≢ 1 → bit_at values k ≡ bit_at kept.values k)
-    → happened ≡ events_at (change form identifier value ∷ past) event_names
+    → happened ≡ events_at (change form identifier letters ∷ past) event_names
     → Knows names event_names kept past
     → Knows names event_names (record kept { values = values; happened = happened })
-    (change form identifier value ∷ past)
-knows-change names event_names kept past form identifier value values
-    happened bits defined having changed
+    (change form identifier letters ∷ past)
+knows-change names event_names kept past form identifier letters value values
+    happened bits defined value_is having changed
     stays events known =
-    let now : List Statement = change form identifier value ∷ past in
+    let now : List Statement = change form identifier letters ∷ past in
     record {
       defined = known.defined;
       dump = known.dump;
@@ -227,7 +231,8 @@ knows-change names event_names kept past form identifier value values
           kept.events (λ name. refl) known.events;
       values =
           mask-changed (identifier_of is_signal past) (value_at past) (value_at now) identifier
-          value (value-own past form identifier value) (value-others past form identifier value)
+          value (value-own past form identifier letters ∙ sym value_is)
+          (value-others past form identifier letters)
           names kept.propositions.list.items kept.values values bits
           known.propositions.known known.values having changed stays
           ∙ mask-same (identifier_of is_signal past) (identifier_of is_signal now) (value_at now)
@@ -241,35 +246,35 @@ knows-change names event_names kept past form identifier value values
 -- the events stay where a change says none
 pub events-stay : (names event_names : List (List ℕ)) (kept : Past) (past : List Statement)
     (form : Form)
-    (identifier : List ℕ) (value : Bool)
-    → ((other : List ℕ) → happened_at (change form identifier value ∷ past) other
+    (identifier letters : List ℕ)
+    → ((other : List ℕ) → happened_at (change form identifier letters ∷ past) other
     ≡ happened_at past other)
     → Knows names event_names kept past
-    → kept.happened ≡ events_at (change form identifier value ∷ past) event_names
-events-stay names event_names kept past form identifier value same known =
+    → kept.happened ≡ events_at (change form identifier letters ∷ past) event_names
+events-stay names event_names kept past form identifier letters same known =
     known.happened
     ∙ mask-same (identifier_of is_event past)
-    (identifier_of is_event (change form identifier value ∷ past)) (happened_at past)
-    (happened_at (change form identifier value ∷ past)) 0 event_names (λ name. refl) same
+    (identifier_of is_event (change form identifier letters ∷ past)) (happened_at past)
+    (happened_at (change form identifier letters ∷ past)) 0 event_names (λ name. refl) same
 
-said-inside : (past : List Statement) (identifier : List ℕ) (value : Bool) → in_dump past ≡ true
-    → (other : List ℕ) → happened_at (change scalar identifier value ∷ past) other
+said-inside : (past : List Statement) (identifier letters : List ℕ) → in_dump past ≡ true
+    → (other : List ℕ) → happened_at (change scalar identifier letters ∷ past) other
     ≡ happened_at past other
-said-inside past identifier value inside other =
+said-inside past identifier letters inside other =
     ap (λ (b : Bool). (not b && bytes_eq other identifier) || happened_at past other) inside
 
-said-own : (past : List Statement) (identifier : List ℕ) (value : Bool) → in_dump past ≡ false
-    → happened_at (change scalar identifier value ∷ past) identifier ≡ true
-said-own past identifier value outside =
+said-own : (past : List Statement) (identifier letters : List ℕ) → in_dump past ≡ false
+    → happened_at (change scalar identifier letters ∷ past) identifier ≡ true
+said-own past identifier letters outside =
     ap (λ (b : Bool). (not b && bytes_eq identifier identifier) || happened_at past identifier)
     outside
     ∙ ap (λ (b : Bool). b || happened_at past identifier)
     ((bytes_eq-Decides identifier identifier).1 refl)
 
-said-others : (past : List Statement) (identifier : List ℕ) (value : Bool)
+said-others : (past : List Statement) (identifier letters : List ℕ)
     → in_dump past ≡ false → (other : List ℕ) → other ≢ identifier
-    → happened_at (change scalar identifier value ∷ past) other ≡ happened_at past other
-said-others past identifier value outside other apart =
+    → happened_at (change scalar identifier letters ∷ past) other ≡ happened_at past other
+said-others past identifier letters outside other apart =
     ap (λ (b : Bool). (not b && bytes_eq other identifier) || happened_at past other) outside
     ∙ ap (λ (b : Bool). b || happened_at past other)
     (false_of (bytes_eq other identifier)
@@ -277,11 +282,11 @@ said-others past identifier value outside other apart =
 
 -- in a dump section
 pub events-inside : (names event_names : List (List ℕ)) (kept : Past) (past : List Statement)
-    (identifier : List ℕ) (value : Bool) → in_dump past ≡ true → Knows names event_names kept past
-    → kept.happened ≡ events_at (change scalar identifier value ∷ past) event_names
-events-inside names event_names kept past identifier value inside known =
-    events-stay names event_names kept past scalar identifier value
-    (said-inside past identifier value inside) known
+    (identifier letters : List ℕ) → in_dump past ≡ true → Knows names event_names kept past
+    → kept.happened ≡ events_at (change scalar identifier letters ∷ past) event_names
+events-inside names event_names kept past identifier letters inside known =
+    events-stay names event_names kept past scalar identifier letters
+    (said-inside past identifier letters inside) known
 
 pub no_items : {X : Type 0} (items : List X) → (length items == 0) ≡ true → items ≡ []
 no_items [] is = refl
@@ -289,11 +294,11 @@ no_items (item ∷ items) is = absurd (grind (arith, nat_tests))
 
 -- where no event is declared
 pub events-none : (names event_names : List (List ℕ)) (kept : Past) (past : List Statement)
-    (identifier : List ℕ) (value : Bool) → kept.events.list.items ≡ []
+    (identifier letters : List ℕ) → kept.events.list.items ≡ []
     → Knows names event_names kept past
-    → kept.happened ≡ events_at (change scalar identifier value ∷ past) event_names
-events-none names event_names kept past identifier value empty known =
-    let now : List Statement = change scalar identifier value ∷ past in
+    → kept.happened ≡ events_at (change scalar identifier letters ∷ past) event_names
+events-none names event_names kept past identifier letters empty known =
+    let now : List Statement = change scalar identifier letters ∷ past in
     let none : AreKnown (identifier_of is_event past) event_names [] =
     rw (← empty) known.events.known in
     known.happened
@@ -304,16 +309,16 @@ events-none names event_names kept past identifier value empty known =
 
 -- where a scalar change says no event now
 pub events-unread : (names event_names : List (List ℕ)) (kept : Past) (past : List Statement)
-    (identifier : List ℕ) (value inside none : Bool) → kept.in_dump ≡ inside
+    (identifier letters : List ℕ) (inside none : Bool) → kept.in_dump ≡ inside
     → (length kept.events.list.items == 0) ≡ none → (not inside && not none) ≡ false
     → Knows names event_names kept past
-    → kept.happened ≡ events_at (change scalar identifier value ∷ past) event_names
-events-unread names event_names kept past identifier value true none is e unread known =
-    events-inside names event_names kept past identifier value (sym known.dump ∙ is) known
-events-unread names event_names kept past identifier value false true is e unread known =
-    events-none names event_names kept past identifier value
+    → kept.happened ≡ events_at (change scalar identifier letters ∷ past) event_names
+events-unread names event_names kept past identifier letters true none is e unread known =
+    events-inside names event_names kept past identifier letters (sym known.dump ∙ is) known
+events-unread names event_names kept past identifier letters false true is e unread known =
+    events-none names event_names kept past identifier letters
     (no_items kept.events.list.items e) known
-events-unread names event_names kept past identifier value false false is e unread known =
+events-unread names event_names kept past identifier letters false false is e unread known =
     absurd (cc (unread))
 
 outside-of : (inside none : Bool) → (not inside && not none) ≡ true → inside ≡ false
@@ -327,17 +332,17 @@ outside-read kept is = outside-of kept.in_dump (length kept.events.list.items ==
 
 -- outside a dump section
 pub events-said : (names event_names : List (List ℕ)) (kept : Past) (past : List Statement)
-    (identifier : List ℕ) (value : Bool) (happened bits : ℕ) → in_dump past ≡ false
+    (identifier letters : List ℕ) (happened bits : ℕ) → in_dump past ≡ false
     → AreHaving kept.events.list.items identifier bits
     → ((k : ℕ) → bit_at bits k ≡ 1 → bit_at happened k ≡ 1)
     → ((k : ℕ) → bit_at bits k ≢ 1 → bit_at happened k ≡ bit_at kept.happened k)
     → Knows names event_names kept past
-    → happened ≡ events_at (change scalar identifier value ∷ past) event_names
-events-said names event_names kept past identifier value happened bits outside having changed stays
+    → happened ≡ events_at (change scalar identifier letters ∷ past) event_names
+events-said names event_names kept past identifier letters happened bits outside having changed stays
     known =
-    let now : List Statement = change scalar identifier value ∷ past in
+    let now : List Statement = change scalar identifier letters ∷ past in
     mask-changed (identifier_of is_event past) (happened_at past) (happened_at now) identifier true
-    (said-own past identifier value outside) (said-others past identifier value outside)
+    (said-own past identifier letters outside) (said-others past identifier letters outside)
     event_names kept.events.list.items kept.happened happened bits known.events.known
     known.happened having changed stays
     ∙ mask-same (identifier_of is_event past) (identifier_of is_event now) (happened_at now)
@@ -375,6 +380,8 @@ pub knows-declared : (names event_names : List (List ℕ)) (kept : Past) (past :
 knows-declared names event_names kept past tokens propositions events before signals said known =
     let quiet = known.quiet before in
     let now : List Statement = var tokens ∷ past in
+    let none : (identifier : List ℕ) → value_at past identifier ≡ false =
+    λ identifier. ap value_of (quiet.values identifier) in
     record {
       defined = known.defined;
       dump = known.dump;
@@ -384,9 +391,8 @@ knows-declared names event_names kept past tokens propositions events before sig
       events = said;
       values =
           known.values
-          ∙ mask-quiet (identifier_of is_signal past) (value_at past) 0 names quiet.values
-          ∙ sym (mask-quiet (identifier_of is_signal now) (value_at now) 0 names
-          quiet.values);
+          ∙ mask-quiet (identifier_of is_signal past) (value_at past) 0 names none
+          ∙ sym (mask-quiet (identifier_of is_signal now) (value_at now) 0 names none);
       happened =
           known.happened
           ∙ mask-quiet (identifier_of is_event past) (happened_at past) 0 event_names

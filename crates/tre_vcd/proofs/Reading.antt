@@ -6,6 +6,7 @@ use Rattle.tre_decimal.specs.Decimal.{is_numeral}
 use Rattle.tre_pairs.specs.declared.TheConstants.{TIME_MAX}
 use Rattle.tre_trace.specs.declared.fault.TraceKind.TheVariants.{CutShort}
 use Rattle.tre_vcd.specs.VcdReading.{Terms, scalar, Statement, time, change, Open, nothing, section, comment, vector, number, Place, time_at, stretch_until, goes_to, ticks_say, scalar_says, token_at, token_says, end_says, is_whole}
+use Rattle.tre_vcd.specs.Kept.{ends_true}
 use Rattle.tre_vcd.specs.Sections.{Holds, inside_of, is_nothing, command_of}
 use Rattle.tre_vcd.specs.declared.command.Command.{Command}
 use Rattle.tre_vcd.specs.declared.inside.Inside.TheVariants.{Nothing, Section, Comment, Vector, Number}
@@ -33,7 +34,7 @@ pub is-nothing : (inside : Open) → inside_of inside ≡ Nothing → inside ≡
 is-nothing nothing e = refl
 is-nothing (section word tokens) e = cc
 is-nothing comment e = cc
-is-nothing (vector value) e = cc
+is-nothing (vector letters) e = cc
 is-nothing number e = cc
 
 pub record IsSection (inside : Open) (command : Command) : Type 0 where
@@ -52,36 +53,42 @@ is-section (section word tokens) command e = record {
   command_is = cc;
 }
 is-section comment command e = absurd (cc)
-is-section (vector value) command e = absurd (cc)
+is-section (vector letters) command e = absurd (cc)
 is-section number command e = absurd (cc)
 
 pub is-comment : (inside : Open) → inside_of inside ≡ Comment → inside ≡ comment
 is-comment nothing e = cc
 is-comment (section word tokens) e = cc
 is-comment comment e = refl
-is-comment (vector value) e = cc
+is-comment (vector letters) e = cc
 is-comment number e = cc
 
-pub is-vector : (inside : Open) (value : Bool) → inside_of inside ≡ Vector value → inside
-    ≡ vector value
-is-vector nothing value e = cc
-is-vector (section word tokens) value e = cc
-is-vector comment value e = cc
-is-vector (vector other) value e = cc
-is-vector number value e = cc
+-- a vector is open, whose lowest bit has this value
+pub record IsVector (inside : Open) (value : Bool) : Type 0 where
+  pub letters : List ℕ
+  pub is : inside ≡ vector letters
+  pub value_is : value ≡ ends_true letters
+
+pub is-vector : (inside : Open) (value : Bool) → inside_of inside ≡ Vector value
+    → IsVector inside value
+is-vector nothing value e = absurd (cc)
+is-vector (section word tokens) value e = absurd (cc)
+is-vector comment value e = absurd (cc)
+is-vector (vector letters) value e = record { letters = letters; is = refl; value_is = cc }
+is-vector number value e = absurd (cc)
 
 pub is-number : (inside : Open) → inside_of inside ≡ Number → inside ≡ number
 is-number nothing e = cc
 is-number (section word tokens) e = cc
 is-number comment e = cc
-is-number (vector value) e = cc
+is-number (vector letters) e = cc
 is-number number e = refl
 
 whole-kept : (inside : Open) → is_nothing (inside_of inside) ≡ is_whole inside
 whole-kept nothing = refl
 whole-kept (section word tokens) = refl
 whole-kept comment = refl
-whole-kept (vector value) = refl
+whole-kept (vector letters) = refl
 whole-kept number = refl
 
 pub end-held : (reader : TokenReader) (place : Place) (whole : Bool) → Holds reader place
@@ -89,12 +96,12 @@ pub end-held : (reader : TokenReader) (place : Place) (whole : Bool) → Holds r
     → end_says place ≡ (if whole then None else Some CutShort)
 unfolding end_says
 end-held reader place whole holds is =
-    rw (is, holds.past.defined, holds.past.dump, holds.inside, whole-kept place.inside) refl
+    rw (is, holds.knows.past.defined, holds.knows.past.dump, holds.inside, whole-kept place.inside) refl
 
 pub scalar-says : (past : List Statement) (letter : ℕ) (identifier : List ℕ)
     → (length identifier == 0) ≡ false
     → scalar_says past letter identifier
-    ≡ goes_to (change scalar identifier (letter == 49) ∷ past) nothing
+    ≡ goes_to (change scalar identifier (letter ∷ []) ∷ past) nothing
 scalar-says past letter [] some = absurd (grind (arith, nat_tests))
 scalar-says past letter (byte ∷ bytes) some = refl
 
@@ -114,7 +121,7 @@ pub time-says : (terms : Terms) (past : List Statement) (digits : List ℕ) (tic
     → ticks_say terms past digits
     ≡ (if same then goes_to (time ticks ∷ past) nothing
     else Ok (record {
-      stretches = stretch_until past ticks ∷ [];
+      stretches = stretch_until terms.definitions past ticks ∷ [];
       state = record { past = time ticks ∷ past; inside = nothing };
     }))
 time-says terms past digits ticks same numeral value late in_time is =

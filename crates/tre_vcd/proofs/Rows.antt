@@ -14,7 +14,11 @@ lines (line ∷ rest) = line ++ 10 ∷ lines rest
 abbrev said_for : List (List ℕ) → List ℕ → Reading
 said_for names bytes =
     let asked : Vocabulary = record { names = names; events = [] } in
-    reading_for asked (vcd_recording (record { declared = asked ∷ []; scale = 0 }) true bytes)
+    reading_for asked (vcd_recording (record {
+      declared = asked ∷ [];
+      scale = 0;
+      definitions = [];
+    }) true bytes)
 
 abbrev worked : List ℕ
 worked =
@@ -67,7 +71,11 @@ abbrev asking_event : Vocabulary
 asking_event = record { names = []; events = codes "top.e" ∷ [] }
 
 -- at a time, in a dump section, and at the last time, of a thousand units each
-events_say : reading_for asking_event (vcd_recording (record { declared = []; scale = 3 }) true
+events_say : reading_for asking_event (vcd_recording (record {
+  declared = [];
+  scale = 3;
+  definitions = [];
+}) true
     (with_events (codes "#4 1% #6 $dumpall 1% $end #7 #7 0% ")))
     ≡ record {
       segments = plain_segment 4000 0 ∷ segment_with 2000 0 1 ∷ plain_segment 1000 0 ∷ [];

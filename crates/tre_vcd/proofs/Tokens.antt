@@ -13,7 +13,7 @@ use Rattle.tre_vcd.specs.Kept.{Declares, DeclaresNone, DeclaresNoneWithin}
 use Rattle.std.proofs.lemmas.Slice.Eq.{bytes_eq-Decides}
 use Rattle.tre_vcd.proofs.Knowing.{false_of, not-both}
 
--- ---- sections, by their first five tokens
+-- ---- sections, by their first six tokens
 
 less : (a b : ℕ) → a < b → nat_lt a b ≡ true
 less a b h = grind (arith, nat_tests)
@@ -22,13 +22,13 @@ more : (a b : ℕ) → b ≤ a → nat_lt a b ≡ false
 more a b h = grind (arith, nat_tests)
 
 pub declaration-long : (past : List Statement) (tokens : List (List ℕ))
-    → 4 ≤ length (take 5 tokens)
+    → 4 ≤ length (take 6 tokens)
     → declaration_says past tokens ≡ goes_to (var tokens ∷ past) nothing
 declaration-long past tokens long =
-    rw (more (length tokens) 4 (omega (arith, long, length-take 5 tokens))) refl
+    rw (more (length tokens) 4 (omega (arith, long, length-take 6 tokens))) refl
 
 pub scope-long : (past : List Statement) (tokens : List (List ℕ)) (name : List ℕ)
-    → 2 ≤ length (take 5 tokens) → name ≡ get_or (take 5 tokens) 1 []
+    → 2 ≤ length (take 6 tokens) → name ≡ get_or (take 6 tokens) 1 []
     → scope_says past tokens ≡ goes_to (scope name ∷ past) nothing
 scope-long past [] name long is = absurd (omega (arith, long))
 scope-long past (kind ∷ []) name long is = absurd (omega (arith, long))
@@ -37,10 +37,10 @@ scope-long past (kind ∷ own ∷ tokens) name long is =
 
 -- four tokens declare a name, where their type and size pass the test
 declares-four : (test : List ℕ → List ℕ → Bool) (scopes tokens : List (List ℕ))
-    → length (take 5 tokens) ≡ 4
-    → test (get_or (take 5 tokens) 0 []) (get_or (take 5 tokens) 1 []) ≡ true
-    → Declares test scopes tokens (get_or (take 5 tokens) 2 [])
-    (path scopes (get_or (take 5 tokens) 3 []))
+    → length (take 6 tokens) ≡ 4
+    → test (get_or (take 6 tokens) 0 []) (get_or (take 6 tokens) 1 []) ≡ true
+    → Declares test scopes tokens (get_or (take 6 tokens) 2 [])
+    (path scopes (get_or (take 6 tokens) 3 []))
 declares-four test scopes [] four passed = absurd (omega (arith, four))
 declares-four test scopes (a ∷ []) four passed = absurd (omega (arith, four))
 declares-four test scopes (a ∷ b ∷ []) four passed = absurd (omega (arith, four))
@@ -53,8 +53,8 @@ declares-four test scopes (a ∷ b ∷ c ∷ d ∷ e ∷ tokens) four passed = a
 
 -- other tokens declare none
 declares-no_name : (test : List ℕ → List ℕ → Bool) (scopes tokens : List (List ℕ))
-    → (length (take 5 tokens) ≡ 4
-    → test (get_or (take 5 tokens) 0 []) (get_or (take 5 tokens) 1 []) ≡ false)
+    → (length (take 6 tokens) ≡ 4
+    → test (get_or (take 6 tokens) 0 []) (get_or (take 6 tokens) 1 []) ≡ false)
     → (name : List ℕ) → identifier_in test scopes name tokens ≡ None
 declares-no_name test scopes [] other name = refl
 declares-no_name test scopes (a ∷ []) other name = refl
@@ -65,16 +65,16 @@ declares-no_name test scopes (a ∷ b ∷ c ∷ d ∷ []) other name =
 declares-no_name test scopes (a ∷ b ∷ c ∷ d ∷ e ∷ tokens) other name = refl
 
 pub declares-none : (test : List ℕ → List ℕ → Bool) (scopes tokens : List (List ℕ))
-    → (length (take 5 tokens) ≡ 4
-    → test (get_or (take 5 tokens) 0 []) (get_or (take 5 tokens) 1 []) ≡ false)
+    → (length (take 6 tokens) ≡ 4
+    → test (get_or (take 6 tokens) 0 []) (get_or (take 6 tokens) 1 []) ≡ false)
     → DeclaresNone test scopes tokens
 declares-none test scopes tokens other =
     record { is = declares-no_name test scopes tokens other }
 
 -- nor do four tokens whose path is longer
 pub declares-longer : (longest : ℕ) (test : List ℕ → List ℕ → Bool)
-    (scopes tokens : List (List ℕ)) (reference : List ℕ) → length (take 5 tokens) ≡ 4
-    → reference ≡ get_or (take 5 tokens) 3 [] → longest < length (path scopes reference)
+    (scopes tokens : List (List ℕ)) (reference : List ℕ) → length (take 6 tokens) ≡ 4
+    → reference ≡ get_or (take 6 tokens) 3 [] → longest < length (path scopes reference)
     → DeclaresNoneWithin longest test scopes tokens
 declares-longer longest test scopes [] reference four is long = absurd (omega (arith, four))
 declares-longer longest test scopes (a ∷ []) reference four is long =
@@ -160,13 +160,13 @@ same-test test kept kind size value first second is =
     sym (ap (λ k. test k size) first ∙ ap (λ s. test (get_or kept 0 []) s) second) ∙ is
 
 pub declares-kept : (test : List ℕ → List ℕ → Bool) (scopes tokens : List (List ℕ))
-    (identifier reference name : List ℕ) → identifier ≡ get_or (take 5 tokens) 2 []
-    → reference ≡ get_or (take 5 tokens) 3 [] → name ≡ path scopes reference
-    → length (take 5 tokens) ≡ 4
-    → test (get_or (take 5 tokens) 0 []) (get_or (take 5 tokens) 1 []) ≡ true
+    (identifier reference name : List ℕ) → identifier ≡ get_or (take 6 tokens) 2 []
+    → reference ≡ get_or (take 6 tokens) 3 [] → name ≡ path scopes reference
+    → length (take 6 tokens) ≡ 4
+    → test (get_or (take 6 tokens) 0 []) (get_or (take 6 tokens) 1 []) ≡ true
     → Declares test scopes tokens identifier name
 declares-kept test scopes tokens identifier reference name third fourth named four passed =
     subst (λ one. Declares test scopes tokens one name) (sym third)
-    (subst (λ other. Declares test scopes tokens (get_or (take 5 tokens) 2 []) other)
+    (subst (λ other. Declares test scopes tokens (get_or (take 6 tokens) 2 []) other)
     (sym (named ∙ ap (path scopes) fourth))
     (declares-four test scopes tokens four passed))

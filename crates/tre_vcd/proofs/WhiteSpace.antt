@@ -112,11 +112,11 @@ module _ (terms : Terms) where
   later_parts closed from state spot next [] le is = refl
   later_parts true from state spot next (part ∷ []) le is =
       read_on-moves from spot.offset next.offset (part_says (vcd_format terms) state part)
-      (λ now. ending (spot.offset + length part) (happens_at now.past) (end_says now))
-      (λ now. ending (next.offset + length part) (happens_at now.past) (end_says now))
+      (λ now. ending (spot.offset + length part) (happens_at terms.definitions now.past) (end_says now))
+      (λ now. ending (next.offset + length part) (happens_at terms.definitions now.past) (end_says now))
       (λ kind _. fault_moves from spot.offset next.offset kind le is)
       (λ now. ending_moves from (spot.offset + length part) (next.offset + length part)
-      (happens_at now.past) (end_says now) (omega (arith, le)) (omega (arith, is)))
+      (happens_at terms.definitions now.past) (end_says now) (omega (arith, le)) (omega (arith, is)))
   later_parts false from state spot next (part ∷ []) le is =
       long_moves from spot.offset next.offset (nat_le (length part) PART_MAX) _ le is
   later_parts closed from state spot next (part ∷ more ∷ parts) le is =
@@ -190,9 +190,9 @@ module _ (terms : Terms) where
   -- the last part, behind which the input ends or one more part of no bytes follows
   end_blank : (state : Place) (spot : Spot)
       → last_part (vcd_format terms) true state spot [] ≡ ending (spot.offset + 0)
-      (happens_at state.past) (end_says state)
+      (happens_at terms.definitions state.past) (end_says state)
   end_blank state spot =
-      ap (λ said. read_on spot.offset said (λ now. ending (spot.offset + 0) (happens_at now.past)
+      ap (λ said. read_on spot.offset said (λ now. ending (spot.offset + 0) (happens_at terms.definitions now.past)
       (end_says now)))
       (no_token terms state)
 
@@ -210,12 +210,12 @@ module _ (terms : Terms) where
   blank_last state spot [] from has is = absurd (cc (has.is))
   blank_last state spot (part ∷ []) from has is =
       read_on-moves from spot.offset spot.offset (part_says (vcd_format terms) state part)
-      (λ now. ending (spot.offset + length part) (happens_at now.past) (end_says now))
+      (λ now. ending (spot.offset + length part) (happens_at terms.definitions now.past) (end_says now))
       (λ now. last_part (vcd_format terms) true now (after_part spot (length part)) [])
       (λ kind said. no_fault state from spot.offset part kind (omega (arith, is)) said)
       (λ now. end_blank now (after_part spot (length part))
       ∙ ending_moves from (spot.offset + length part) (spot.offset + length part + 1 + 0)
-      (happens_at now.past) (end_says now) (omega (arith, is)) (omega arith))
+      (happens_at terms.definitions now.past) (end_says now) (omega (arith, is)) (omega arith))
   blank_last state spot (part ∷ next ∷ parts) from has is =
       read_on-moves from spot.offset spot.offset (part_says (vcd_format terms) state part)
       (λ now. parts_recording (vcd_format terms) true now (after_part spot (length part))

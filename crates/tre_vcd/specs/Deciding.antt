@@ -1,19 +1,24 @@
 -- Which statement of a past decides, said without looking back.
-use Rattle.std.specs.Prelude.{◌≡◌, ◌≢◌, ℕ, Bool, true, false, List, [], ◌∷◌, ◌++◌, None, Some}
-use Rattle.tre_vcd.specs.VcdReading.{Form, scalar, Statement, var, time, change, time_at, scopes_at, in_dump, is_signal, is_event, identifier_in}
+use Rattle.std.specs.Prelude.{◌≡◌, ◌≢◌, ℕ, true, false, List, [], ◌∷◌, ◌++◌, Option, None, Some}
+use Rattle.tre_define.specs.Signals.{SignalDefined, signal_definition_of}
+use Rattle.tre_define.specs.Values.{differ, passes}
+use Rattle.tre_define.specs.declared.part.Part.{Part}
+use Rattle.tre_define.specs.declared.test.Test.{Test}
+use Rattle.tre_vcd.specs.VcdReading.{Form, scalar, Statement, var, time, change, time_at, scopes_at, in_dump, before_now, Asked, Occasion, scalar_said, bits_changed, signal_in, event_in, of_changes}
 
 -- none of the statements changes this identifier
 abbrev pub Keeps : List ℕ → List Statement → Type 0
 Keeps identifier [] = Unit {0}
-Keeps identifier (change form other value ∷ past) = (identifier ≢ other) × Keeps identifier past
+Keeps identifier (change form other letters ∷ past) = (identifier ≢ other) × Keeps identifier past
 Keeps identifier (_ ∷ past) = Keeps identifier past
 
--- The last change of the identifier is to this value: what was read behind it changes others alone.
-pub record LastChange (past : List Statement) (identifier : List ℕ) (value : Bool) : Type 0 where
+-- The last change of the identifier is to these letters: what was read behind it changes others
+-- alone.
+pub record LastChange (past : List Statement) (identifier letters : List ℕ) : Type 0 where
   pub later : List Statement
   pub form : Form
   pub earlier : List Statement
-  pub parts : past ≡ later ++ change form identifier value ∷ earlier
+  pub parts : past ≡ later ++ change form identifier letters ∷ earlier
   pub last : Keeps identifier later
 
 -- The statements reach no time that is another than the one before it, behind the earlier ones.
@@ -26,38 +31,56 @@ StaysInTime (_ ∷ later) earlier = StaysInTime later earlier
 -- A scalar change of the identifier was read at the last time, outside a dump section.
 pub record Happened (past : List Statement) (identifier : List ℕ) : Type 0 where
   pub later : List Statement
-  pub value : Bool
+  pub letters : List ℕ
   pub earlier : List Statement
-  pub parts : past ≡ later ++ change scalar identifier value ∷ earlier
+  pub parts : past ≡ later ++ change scalar identifier letters ∷ earlier
   pub outside : in_dump earlier ≡ false
-  pub now : StaysInTime later (change scalar identifier value ∷ earlier)
+  pub now : StaysInTime later (change scalar identifier letters ∷ earlier)
 
--- none of the statements declares this name by a variable that passes the test
-abbrev pub Leaves : (List ℕ → List ℕ → Bool) → List ℕ → List Statement → Type 0
-Leaves test name [] = Unit {0}
-Leaves test name (var tokens ∷ past) =
-    (identifier_in test (scopes_at past) name tokens ≡ None) × Leaves test name past
-Leaves test name (_ ∷ past) = Leaves test name past
+-- Some of the bits of the identifier have other letters than before the last time.
+pub record HasChanged (past : List Statement) (identifier : List ℕ) (part : Part) : Type 0 where
+  pub old : List ℕ
+  pub before : LastChange (before_now past) identifier old
+  pub new : List ℕ
+  pub now : LastChange past identifier new
+  pub differ : differ part old new ≡ true
 
--- The first declaration of the name by a variable that passes the test has this identifier: what
--- was read before it declares others alone.
-pub record FirstDeclaration (test : List ℕ → List ℕ → Bool) (past : List Statement)
-    (name identifier : List ℕ) : Type 0 where
+abbrev pub HasCome : List Statement → List ℕ → Occasion → Type 0
+HasCome past identifier scalar_said = Happened past identifier
+HasCome past identifier (bits_changed part) = HasChanged past identifier part
+
+-- none of the statements is a declaration of which something is read
+abbrev pub Leaves : {X : Type 0} → (List (List ℕ) → List (List ℕ) → Option X) → List Statement
+    → Type 0
+Leaves reads [] = Unit {0}
+Leaves reads (var tokens ∷ past) = (reads (scopes_at past) tokens ≡ None) × Leaves reads past
+Leaves reads (_ ∷ past) = Leaves reads past
+
+-- This is read of the first declaration of which something is: of what was read before it nothing
+-- is.
+pub record FirstRead {X : Type 0} (reads : List (List ℕ) → List (List ℕ) → Option X)
+    (past : List Statement) (read : X) : Type 0 where
   pub later : List Statement
   pub earlier : List Statement
   pub tokens : List (List ℕ)
   pub parts : past ≡ later ++ var tokens ∷ earlier
-  pub declares : identifier_in test (scopes_at earlier) name tokens ≡ Some identifier
-  pub first : Leaves test name earlier
+  pub declares : reads (scopes_at earlier) tokens ≡ Some read
+  pub first : Leaves reads earlier
 
--- The name is declared as a proposition, and the last change of its identifier is to true.
-pub record IsHigh (past : List Statement) (name : List ℕ) : Type 0 where
-  pub identifier : List ℕ
-  pub declared : FirstDeclaration is_signal past name identifier
-  pub high : LastChange past identifier true
+-- The name reads a signal as a proposition, whose last letters pass what it asks.
+pub record IsHigh (definitions : List SignalDefined) (past : List Statement) (name : List ℕ) :
+    Type 0 where
+  pub asked : Asked Test
+  pub declared :
+      FirstRead (signal_in (signal_definition_of definitions name) name) past asked
+  pub letters : List ℕ
+  pub last : LastChange past asked.identifier letters
+  pub passed : passes asked.asks letters ≡ true
 
--- The name is declared as an event, which happened at the last time.
-pub record HasHappened (past : List Statement) (name : List ℕ) : Type 0 where
-  pub identifier : List ℕ
-  pub declared : FirstDeclaration is_event past name identifier
-  pub happened : Happened past identifier
+-- The name reads a signal as an event, and what it asks has come at the last time.
+pub record HasHappened (definitions : List SignalDefined) (past : List Statement)
+    (name : List ℕ) : Type 0 where
+  pub asked : Asked Occasion
+  pub declared :
+      FirstRead (event_in (signal_definition_of (of_changes definitions) name) name) past asked
+  pub come : HasCome past asked.identifier asked.asks

@@ -6,11 +6,12 @@ use Rattle.std.specs.Str.{bytes_eq}
 use Rattle.std.specs.Str.Parse.{digits_value}
 use Rattle.tre_pairs.specs.declared.TheConstants.{TIME_MAX}
 use Rattle.tre_decimal.specs.Decimal.{is_numeral}
+use Rattle.tre_define.specs.Signals.{SignalDefined}
 use Rattle.tre_parts.specs.declared.TheConstants.{PART_MAX}
-use Rattle.tre_trace.specs.Reading.{Recording, Vocabulary, Stretch}
+use Rattle.tre_trace.specs.Reading.{Recording, Stretch}
 use Rattle.tre_trace.specs.declared.fault.TraceKind.{TraceKind}
 use Rattle.tre_trace.specs.declared.fault.TraceKind.TheVariants.{TooLate, BadToken, UnknownName, TimeBack}
-use Rattle.tre_vcd.specs.VcdReading.{is_white, is_end, is_dump, is_command, is_scalar, ends_true, are_declared, is_defined, in_dump, scopes_at, time_at, Terms, scalar, wide, Statement, scope, upscope, var, definitions, time, change, dump, dump_end, happens_at, true_at}
+use Rattle.tre_vcd.specs.VcdReading.{is_white, is_end, is_dump, is_command, is_scalar, are_declared, is_defined, in_dump, scopes_at, time_at, Terms, scalar, wide, Statement, scope, upscope, var, definitions, time, change, dump, dump_end, happens_at, true_at}
 
 -- ---- tokens and white space
 
@@ -78,13 +79,13 @@ pub record IsTime (scale ticks : ℕ) (tokens : List (List ℕ)) : Type 0 where
   pub numeral : is_numeral digits ≡ true
   pub value : ticks ≡ digits_value 10 digits * 10 ^ scale
 
--- One token: the letter of the value, and the identifier. `1` (49) alone is true.
-pub record IsScalar (identifier : List ℕ) (value : Bool) (tokens : List (List ℕ)) : Type 0 where
+-- One token: the letter of the value, and the identifier.
+pub record IsScalar (identifier letters : List ℕ) (tokens : List (List ℕ)) : Type 0 where
   pub letter : ℕ
   pub is : tokens ≡ (letter ∷ identifier) ∷ []
   pub scalar : is_scalar letter ≡ true
   pub some : 0 < length identifier
-  pub value_is : value ≡ (letter == 49)
+  pub value : letters ≡ letter ∷ []
 
 -- `b` (98) or `B` (66)
 abbrev pub is_vector : ℕ → Bool
@@ -94,14 +95,12 @@ is_vector letter = letter == 98 || letter == 66
 abbrev pub is_number : ℕ → Bool
 is_number letter = list_any (λ other. letter == other) (codes "rRsS")
 
--- Two tokens: a vector, which is true where its last byte is `1`, and the identifier.
-pub record IsVector (identifier : List ℕ) (value : Bool) (tokens : List (List ℕ)) : Type 0 where
+-- Two tokens: a vector, which is its letter and those of its bits, and the identifier.
+pub record IsVector (identifier letters : List ℕ) (tokens : List (List ℕ)) : Type 0 where
   pub letter : ℕ
-  pub bits : List ℕ
-  pub is : tokens ≡ (letter ∷ bits) ∷ identifier ∷ []
+  pub is : tokens ≡ (letter ∷ letters) ∷ identifier ∷ []
   pub vector : is_vector letter ≡ true
-  pub some : 0 < length bits
-  pub value_is : value ≡ ends_true bits
+  pub some : 0 < length letters
 
 -- Two tokens: a real or a string, and an identifier.
 pub record IsNumber (tokens : List (List ℕ)) : Type 0 where
@@ -124,8 +123,8 @@ Write scale upscope tokens = IsSection (codes "$upscope") IsAnything tokens
 Write scale (var inner) tokens = IsSection (codes "$var") (AreDeclaring inner) tokens
 Write scale definitions tokens = IsSection (codes "$enddefinitions") IsAnything tokens
 Write scale (time ticks) tokens = IsTime scale ticks tokens
-Write scale (change scalar identifier value) tokens = IsScalar identifier value tokens
-Write scale (change wide identifier value) tokens = IsVector identifier value tokens
+Write scale (change scalar identifier letters) tokens = IsScalar identifier letters tokens
+Write scale (change wide identifier letters) tokens = IsVector identifier letters tokens
 Write scale dump tokens = IsDump tokens
 Write scale dump_end tokens = tokens ≡ codes "$end" ∷ []
 
@@ -159,32 +158,33 @@ Belongs past upscope = (is_defined past ≡ false) × (0 < length (scopes_at pas
 Belongs past (var tokens) = is_defined past ≡ false
 Belongs past definitions = is_defined past ≡ false
 Belongs past (time ticks) = is_defined past ≡ true
-Belongs past (change form identifier value) = is_defined past ≡ true
+Belongs past (change form identifier letters) = is_defined past ≡ true
 Belongs past dump = (is_defined past ≡ true) × (in_dump past ≡ false)
 Belongs past dump_end = (is_defined past ≡ true) × (in_dump past ≡ true)
 
 -- The declarations end once all names that are needed are declared, and time doesn't run back.
 abbrev pub Fits : Terms → List Statement → Statement → Type 0
-Fits terms past definitions = list_all (are_declared past) terms.declared ≡ true
+Fits terms past definitions = list_all (are_declared terms.definitions past) terms.declared ≡ true
 Fits terms past (time ticks) = (time_at past ≤ ticks) × (ticks ≤ TIME_MAX)
 Fits terms past _ = Unit {0}
 
 -- The first of the stretches reaches from the last time to this one, with the values held until
 -- then, and the events that happened at the last time.
-pub record IsReached (past : List Statement) (ticks : ℕ)
+pub record IsReached (defined : List SignalDefined) (past : List Statement) (ticks : ℕ)
     (stretches rest : List Stretch) : Type 0 where
   pub stretch : Stretch
   pub is : stretches ≡ stretch ∷ rest
   pub some : 1 ≤ stretch.len
   pub reaches : time_at past + stretch.len ≡ ticks
-  pub held : stretch.is_true ≡ true_at past
-  pub happened : stretch.happens ≡ happens_at past
+  pub held : stretch.is_true ≡ true_at defined past
+  pub happened : stretch.happens ≡ happens_at defined past
 
 -- A later time brings a segment, and nothing else does.
-abbrev pub Bring : List Statement → Statement → List Stretch → List Stretch → Type 0
-Bring past (time ticks) stretches rest =
-    ((ticks ≡ time_at past) × (stretches ≡ rest)) ⊎ IsReached past ticks stretches rest
-Bring past _ stretches rest = stretches ≡ rest
+abbrev pub Bring : List SignalDefined → List Statement → Statement → List Stretch → List Stretch
+    → Type 0
+Bring defined past (time ticks) stretches rest =
+    ((ticks ≡ time_at past) × (stretches ≡ rest)) ⊎ IsReached defined past ticks stretches rest
+Bring defined past _ stretches rest = stretches ≡ rest
 
 -- The tokens say something that belongs and fits here, and this holds of what was read then and of
 -- the later stretches.
@@ -195,7 +195,7 @@ pub record SayNext (terms : Terms) (past : List Statement) (tokens : List (List 
   pub belongs : Belongs past statement
   pub fits : Fits terms past statement
   pub rest : List Stretch
-  pub brings : Bring past statement stretches rest
+  pub brings : Bring terms.definitions past statement stretches rest
   pub later : Later (statement ∷ past) rest
 
 -- Each group of tokens says nothing, or something that belongs and fits where it stands, these are
@@ -218,9 +218,10 @@ pub record IsComplete (past : List Statement) : Type 0 where
   pub closed : in_dump past ≡ false
 
 -- The same, with these events at the last time.
-pub record CompletesWith (last : List ℕ → Bool) (past : List Statement) : Type 0 where
+pub record CompletesWith (defined : List SignalDefined) (last : List ℕ → Bool)
+    (past : List Statement) : Type 0 where
   pub complete : IsComplete past
-  pub happened : last ≡ happens_at past
+  pub happened : last ≡ happens_at defined past
 
 -- ---- faults
 
@@ -244,11 +245,10 @@ pub record EndsEarly (past : List Statement) (begun : List (List ℕ)) (token : 
   pub short : IsShort (codes "$scope") 2 begun ⊎ IsShort (codes "$var") 4 begun
 
 -- The declarations would end, and one of the names that are needed isn't declared.
-pub record LacksName (needed : List Vocabulary) (past : List Statement) (token : List ℕ) : Type 0
-  where
-    pub defined : is_defined past ≡ false
-    pub ends : token ≡ codes "$enddefinitions"
-    pub lacks : list_all (are_declared past) needed ≡ false
+pub record LacksName (terms : Terms) (past : List Statement) (token : List ℕ) : Type 0 where
+  pub defined : is_defined past ≡ false
+  pub ends : token ≡ codes "$enddefinitions"
+  pub lacks : list_all (are_declared terms.definitions past) terms.declared ≡ false
 
 -- The token is a time behind the declarations, and this holds of it.
 pub record HasTime (scale : ℕ) (past : List Statement) (token : List ℕ) (P : ℕ → Type 0) : Type 0
@@ -262,7 +262,7 @@ pub record HasTime (scale : ℕ) (past : List Statement) (token : List ℕ) (P :
 abbrev pub HasFault : Terms → List Statement → List (List ℕ) → List ℕ → TraceKind → Type 0
 HasFault terms past begun token BadToken =
     ((begun ≡ []) × FitsNoRule terms.scale past token) ⊎ EndsEarly past begun token
-HasFault terms past begun token UnknownName = (begun ≡ []) × LacksName terms.declared past token
+HasFault terms past begun token UnknownName = (begun ≡ []) × LacksName terms past token
 HasFault terms past begun token TimeBack =
     (begun ≡ []) × HasTime terms.scale past token (λ ticks. ticks < time_at past)
 HasFault terms past begun token TooLate =

@@ -1,16 +1,37 @@
 -- What the reader keeps of the past: each field is what a look back over it finds.
-use Rattle.std.specs.Prelude.{◌≡◌, ◌≤◌, ℕ, zero, suc, ◌+◌, ◌^◌, Bool, false, List, [], ◌∷◌, ◌++◌, length, map, All, Option, None, Some, if◌then◌else◌}
+use Rattle.std.specs.Prelude.{◌≡◌, ◌≤◌, ℕ, zero, suc, ◌+◌, ◌-◌, ◌^◌, Bool, false, ◌==◌, List, [], ◌∷◌, ◌++◌, length, map, All, Option, None, Some, slice_index, if◌then◌else◌}
 use Rattle.std.specs.Option.{is_some, option_map, option_map_or, option_or}
 use Rattle.std.specs.Str.{bytes_eq}
 use Rattle.std.specs.Int.{bit_at}
 use Rattle.tre_state.specs.Sieve.{MayBe}
 use Rattle.tre_trace.specs.Reading.{Vocabulary}
-use Rattle.tre_vcd.specs.VcdReading.{Statement, is_defined, time_at, scopes_at, in_dump, value_at, happened_at, is_signal, is_event, identifier_of, identifier_in}
+use Rattle.tre_vcd.specs.VcdReading.{Statement, var, is_defined, time_at, scopes_at, in_dump, letters_at, happened_at, is_signal, is_event, identifier_in}
 use Rattle.tre_vcd.specs.declared.variable.Variable.{Variable}
 use Rattle.tre_vcd.specs.declared.variables.Variables.{Variables}
 use Rattle.tre_vcd.specs.declared.past.Past.{Past}
 use Rattle.tre_vcd.specs.declared.found.Found.{Found}
 use Rattle.tre_vcd.specs.Needs.{needs}
+
+-- ---- names that have no definition
+
+-- the identifier of this name among the variables that pass the test: that of its first declaration
+abbrev pub identifier_of : (List ℕ → List ℕ → Bool) → List Statement → List ℕ → Option (List ℕ)
+identifier_of test [] name = None
+identifier_of test (var tokens ∷ past) name =
+    option_or (identifier_of test past name) (identifier_in test (scopes_at past) name tokens)
+identifier_of test (_ ∷ past) name = identifier_of test past name
+
+-- whether the last letter is `1` (49)
+abbrev pub ends_true : List ℕ → Bool
+ends_true letters = slice_index letters (length letters - 1) == 49
+
+-- the value of the last change of this identifier; false where there is none
+abbrev pub value_at : List Statement → List ℕ → Bool
+value_at past identifier = option_map_or ends_true (letters_at past identifier) false
+
+-- the name is that of a variable which passes a test, and this holds of its identifier
+abbrev pub is_of : (List ℕ → Option (List ℕ)) → (List ℕ → Bool) → List ℕ → Bool
+is_of identified test name = option_map_or test (identified name) false
 
 -- The names that have an identifier which passes the test, the first of which has bit i.
 abbrev pub mask_from : (List ℕ → Option (List ℕ)) → (List ℕ → Bool) → ℕ → List (List ℕ) → ℕ
@@ -92,7 +113,7 @@ pub record AreHaving (variables : List Variable) (identifier : List ℕ) (bits :
 
 -- Nothing has changed, and no event has happened.
 pub record IsQuiet (past : List Statement) : Type 0 where
-  pub values : (identifier : List ℕ) → value_at past identifier ≡ false
+  pub values : (identifier : List ℕ) → letters_at past identifier ≡ None
   pub events : (identifier : List ℕ) → happened_at past identifier ≡ false
 
 -- Each field is its look-back, for propositions and events of these names. Before the declarations
@@ -114,14 +135,21 @@ pub record Knows (names event_names : List (List ℕ)) (kept : Past) (past : Lis
 abbrev pub vocabulary_of : Found → Vocabulary
 vocabulary_of found = needs found.needed.value
 
+-- the names that have no definition
+abbrev pub plain_of : Found → Vocabulary
+plain_of found = record {
+  names = map (λ name. name.items) found.needed.value.names.keys;
+  events = map (λ name. name.items) found.needed.value.events.keys;
+}
+
 -- which of the names have been declared by variables that pass the test
 abbrev pub flags_of : (List ℕ → List ℕ → Bool) → List Statement → List (List ℕ) → List Bool
 flags_of test past names = map (λ name. is_some (identifier_of test past name)) names
 
--- It is kept which of the names that are needed were declared.
+-- It is kept which of the names that are needed and have no definition were declared.
 pub record KnowsNeeded (past : List Statement) (found : Found) : Type 0 where
-  pub names : found.names.items ≡ flags_of is_signal past (vocabulary_of found).names
-  pub events : found.events.items ≡ flags_of is_event past (vocabulary_of found).events
+  pub names : found.names.items ≡ flags_of is_signal past (plain_of found).names
+  pub events : found.events.items ≡ flags_of is_event past (plain_of found).events
 
 -- It is kept of each of them.
 abbrev pub KnowsAll : List Statement → List Found → Type 0

@@ -1,10 +1,13 @@
 -- What a reader must believe.
 pub mod VcdReading
+pub mod Sorted
 pub mod Needs
 pub mod Deciding
 pub mod Dumps
 -- What the functions inside promise each other.
 pub mod Kept
+pub mod Signals
+pub mod Offers
 pub mod Letters
 pub mod Sections
 -- Why the law of the format holds, which its impl cites.

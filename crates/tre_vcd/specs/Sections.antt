@@ -1,12 +1,14 @@
 -- What the reader keeps of what is open.
-use Rattle.std.specs.Prelude.{◌≡◌, ℕ, Bool, true, false, List, [], ◌∷◌, codes, map, take, Result, Err, if◌then◌else◌}
+use Rattle.std.specs.Prelude.{◌≡◌, ℕ, Bool, true, false, List, [], ◌∷◌, ◌==◌, codes, length, map, take, Result, Err, if◌then◌else◌}
 use Rattle.std.specs.Str.{bytes_eq}
 use Rattle.tre_parts.specs.Format.{Step}
 use Rattle.tre_trace.specs.Reading.{Vocabulary}
 use Rattle.tre_trace.specs.declared.fault.TraceKind.{TraceKind}
 use Rattle.tre_trace.specs.declared.fault.TraceKind.TheVariants.{BadToken}
 use Rattle.tre_vcd.specs.VcdReading.{Terms, Statement, dump, dump_end, Open, nothing, section, comment, vector, number, Place, is_defined, in_dump, goes_to}
-use Rattle.tre_vcd.specs.Kept.{Knows, KnowsAll, AreWithin, vocabulary_of}
+use Rattle.tre_vcd.specs.Kept.{Knows, KnowsAll, AreWithin, ends_true, plain_of, vocabulary_of}
+use Rattle.tre_vcd.specs.Offers.{KnowOffers}
+use Rattle.tre_vcd.specs.Signals.{KnowsSignals}
 use Rattle.tre_vcd.specs.declared.command.Command.{Command}
 use Rattle.tre_vcd.specs.declared.command.Command.TheVariants.{Scope, Upscope, Var, EndDefinitions, Other}
 use Rattle.tre_vcd.specs.declared.inside.Inside.{Inside}
@@ -32,7 +34,7 @@ abbrev pub inside_of : Open → Inside
 inside_of nothing = Nothing
 inside_of (section command tokens) = Section (command_of command)
 inside_of comment = Comment
-inside_of (vector value) = Vector value
+inside_of (vector letters) = Vector (ends_true letters)
 inside_of number = Number
 
 abbrev pub is_nothing : Inside → Bool
@@ -52,7 +54,7 @@ abbrev pub Suits : Open → Bool → Type 0
 Suits nothing defined = Unit {0}
 Suits (section command tokens) defined = defined ≡ false
 Suits comment defined = defined ≡ true
-Suits (vector value) defined = defined ≡ true
+Suits (vector letters) defined = defined ≡ true
 Suits number defined = defined ≡ true
 
 -- what is asked of the reader
@@ -63,15 +65,29 @@ abbrev pub terms_kept : TokenReader → Terms
 terms_kept reader = record {
   declared = map vocabulary_of reader.needed.items;
   scale = reader.scale.exponent;
+  definitions = reader.signals.definitions.items;
 }
+
+-- Where there are definitions, the letters of a vector are kept.
+abbrev pub KeepsLetters : TokenReader → Open → Type 0
+KeepsLetters reader (vector letters) =
+    ((length reader.signals.definitions.items == 0) ≡ false) → reader.letters.items ≡ letters
+KeepsLetters reader _ = Unit {0}
+
+-- The reader knows the past: for its names, for those that must be declared, and by definitions.
+pub record KnowsPast (reader : TokenReader) (read : List Statement) : Type 0 where
+  pub past : Knows reader.names reader.events reader.past read
+  pub needed : KnowsAll read reader.needed.items
+  pub signals : KnowsSignals reader.names reader.events reader.signals read
+  pub offers : KnowOffers reader.signals.definitions.items read reader.needed.items
+  pub within : AreWithin reader.longest (asked_of reader ∷ map plain_of reader.needed.items)
 
 -- The reader is at this place: it knows the past, and of what is open it keeps what counts. Of a
 -- section the first `KEPT_MAX` tokens do.
 pub record Holds (reader : TokenReader) (place : Place) : Type 0 where
-  pub past : Knows reader.names reader.events reader.past place.past
-  pub needed : KnowsAll place.past reader.needed.items
-  pub within : AreWithin reader.longest (asked_of reader ∷ (terms_kept reader).declared)
+  pub knows : KnowsPast reader place.past
   pub inside : reader.inside ≡ inside_of place.inside
   pub tokens : map (λ token. token.items) reader.tokens.items
       ≡ take KEPT_MAX (tokens_of place.inside)
   pub suits : Suits place.inside (is_defined place.past)
+  pub letters : KeepsLetters reader place.inside

@@ -6,11 +6,12 @@ use Rattle.std.specs.Str.{bytes_eq}
 use Rattle.std.specs.Str.Parse.{digits_value}
 use Rattle.tre_pairs.specs.declared.TheConstants.{TIME_MAX}
 use Rattle.tre_decimal.specs.Decimal.{is_numeral}
+use Rattle.tre_define.specs.Signals.{SignalDefined}
 use Rattle.tre_parts.specs.Format.{Step, Leads, KeepsTime}
 use Rattle.tre_trace.specs.declared.fault.TraceKind.{TraceKind}
 use Rattle.tre_trace.specs.declared.fault.TraceKind.TheVariants.{TooLate, BadToken, UnknownName, TimeBack}
 use Rattle.tre_trace.specs.Reading.{Vocabulary, Stretch, segment_for}
-use Rattle.tre_vcd.specs.VcdReading.{is_command, is_dump, is_scalar, are_declared, is_defined, in_dump, scopes_at, Terms, scalar, wide, Statement, scope, upscope, var, definitions, time, change, dump, dump_end, Open, nothing, section, comment, vector, number, Place, time_at, stretch_until, goes_to, is_end, is_whole, scope_says, section_says, command_says, ticks_say, keyword_says, scalar_says, ends_true, vector_says, value_says, token_at, token_says, vcd_format}
+use Rattle.tre_vcd.specs.VcdReading.{is_command, is_dump, is_scalar, are_declared, is_defined, in_dump, scopes_at, Terms, scalar, wide, Statement, scope, upscope, var, definitions, time, change, dump, dump_end, Open, nothing, section, comment, vector, number, Place, time_at, stretch_until, goes_to, is_end, is_whole, scope_says, section_says, command_says, ticks_say, keyword_says, scalar_says, vector_says, value_says, token_at, token_says, vcd_format}
 
 -- No segment is said, and no other time is reached.
 pub record IsSilent (past : List Statement) (said : Result (Step Place) TraceKind) : Type 0 where
@@ -62,7 +63,7 @@ silent-command terms past token =
     (silent-err past BadToken)
     (silent-if past
     (bytes_eq token (codes "$enddefinitions")
-    && not (list_all (are_declared past) terms.declared))
+    && not (list_all (are_declared terms.definitions past) terms.declared))
     _ _ (silent-err past UnknownName) (silent-goes past past (section token []) refl)))
 
 silent-keyword : (past : List Statement) (token : List ℕ) → IsSilent past (keyword_says past token)
@@ -78,11 +79,11 @@ silent-scalar : (past : List Statement) (letter : ℕ) (identifier : List ℕ) �
     (scalar_says past letter identifier)
 silent-scalar past letter [] = silent-err past BadToken
 silent-scalar past letter (byte ∷ bytes) =
-    silent-goes past (change scalar (byte ∷ bytes) (letter == 49) ∷ past) nothing refl
+    silent-goes past (change scalar (byte ∷ bytes) (letter ∷ []) ∷ past) nothing refl
 
 silent-vector : (past : List Statement) (value : List ℕ) → IsSilent past (vector_says past value)
 silent-vector past [] = silent-err past BadToken
-silent-vector past (byte ∷ bytes) = silent-goes past past (vector (ends_true (byte ∷ bytes))) refl
+silent-vector past (byte ∷ bytes) = silent-goes past past (vector (byte ∷ bytes)) refl
 
 -- a token where something is open
 pub silent-open : (terms : Terms) (past : List Statement) (inside : Open)
@@ -94,8 +95,8 @@ silent-open terms past (section command tokens) is token =
     (silent-goes past past (section command (tokens ++ token ∷ [])) refl)
 silent-open terms past comment is token =
     silent-goes past past (if is_end token then nothing else comment) refl
-silent-open terms past (vector value) is token =
-    silent-goes past (change wide token value ∷ past) nothing refl
+silent-open terms past (vector letters) is token =
+    silent-goes past (change wide token letters ∷ past) nothing refl
 silent-open terms past number is token = silent-goes past past nothing refl
 
 -- a token among the values that is no time
@@ -134,16 +135,17 @@ keeps-if : (past : List Statement) (test : Bool) (one two : Result (Step Place) 
 keeps-if past true one two keeps other = keeps
 keeps-if past false one two keeps other = other
 
-keeps-later : (past : List Statement) (ticks : ℕ) → time_at past < ticks
+keeps-later : (defined : List SignalDefined) (past : List Statement) (ticks : ℕ)
+    → time_at past < ticks
     → ticks ≤ TIME_MAX
     → KeepsOrder past (Ok (record {
-      stretches = stretch_until past ticks ∷ [];
+      stretches = stretch_until defined past ticks ∷ [];
       state = record { past = time ticks ∷ past; inside = nothing };
     }))
-keeps-later past ticks later fits = record {
+keeps-later defined past ticks later fits = record {
   leads = λ asked step is.
       let said : Step Place = record {
-        stretches = stretch_until past ticks ∷ [];
+        stretches = stretch_until defined past ticks ∷ [];
         state = record { past = time ticks ∷ past; inside = nothing };
       } in
       let e : said ≡ step = cc (is) in
@@ -152,7 +154,8 @@ keeps-later past ticks later fits = record {
       (record { long = (omega arith, tt); ends = omega (arith, later); in_time = λ h. fits });
 }
 
-keeps-ticks : (past : List Statement) (ticks : ℕ) (back late same : Bool)
+keeps-ticks : (defined : List SignalDefined) (past : List Statement) (ticks : ℕ)
+    (back late same : Bool)
     → nat_lt ticks (time_at past) ≡ back → nat_lt TIME_MAX ticks ≡ late → (ticks == time_at past)
     ≡ same
     → KeepsOrder past
@@ -160,25 +163,26 @@ keeps-ticks : (past : List Statement) (ticks : ℕ) (back late same : Bool)
     else (if late then Err TooLate
     else (if same then goes_to (time ticks ∷ past) nothing
     else Ok (record {
-      stretches = stretch_until past ticks ∷ [];
+      stretches = stretch_until defined past ticks ∷ [];
       state = record { past = time ticks ∷ past; inside = nothing };
     }))))
-keeps-ticks past ticks true late same e l s = keeps-silent past _ (silent-err past TimeBack)
-keeps-ticks past ticks false true same e l s = keeps-silent past _ (silent-err past TooLate)
-keeps-ticks past ticks false false true e l s =
+keeps-ticks defined past ticks true late same e l s = keeps-silent past _ (silent-err past TimeBack)
+keeps-ticks defined past ticks false true same e l s = keeps-silent past _ (silent-err past TooLate)
+keeps-ticks defined past ticks false false true e l s =
     let same : ticks ≡ time_at past = grind (arith, nat_tests) in
     keeps-silent past _ (silent-goes past (time ticks ∷ past) nothing same)
-keeps-ticks past ticks false false false e l s =
+keeps-ticks defined past ticks false false false e l s =
     let not_before : time_at past ≤ ticks = grind (arith, nat_tests) in
     let other : ¬ (ticks ≡ time_at past) = grind (arith, nat_tests) in
     let fits : ticks ≤ TIME_MAX = grind (arith, nat_tests) in
-    keeps-later past ticks (omega (arith, not_before, other)) fits
+    keeps-later defined past ticks (omega (arith, not_before, other)) fits
 
 keeps-number : (terms : Terms) (past : List Statement) (digits : List ℕ) → KeepsOrder past
     (ticks_say terms past digits)
 keeps-number terms past digits =
     keeps-if past (is_numeral digits) _ _
-    (keeps-ticks past (digits_value 10 digits * 10 ^ terms.scale) _ _ _ refl refl refl)
+    (keeps-ticks terms.definitions past (digits_value 10 digits * 10 ^ terms.scale) _ _ _ refl refl
+    refl)
     (keeps-silent past _ (silent-err past BadToken))
 
 keeps-value : (terms : Terms) (past : List Statement) (token : List ℕ) → KeepsOrder past
@@ -196,8 +200,8 @@ keeps-token terms past (section command tokens) token =
     keeps-silent past _ (silent-open terms past (section command tokens) refl token)
 keeps-token terms past comment token =
     keeps-silent past _ (silent-open terms past comment refl token)
-keeps-token terms past (vector value) token =
-    keeps-silent past _ (silent-open terms past (vector value) refl token)
+keeps-token terms past (vector letters) token =
+    keeps-silent past _ (silent-open terms past (vector letters) refl token)
 keeps-token terms past number token =
     keeps-silent past _ (silent-open terms past number refl token)
 

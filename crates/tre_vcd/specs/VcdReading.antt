@@ -1,11 +1,17 @@
 -- What the tokens of a value change dump say (IEEE Std 1364-2005, clause 18).
-use Rattle.std.specs.Prelude.{ℕ, ◌-◌, ◌*◌, ◌^◌, nat_le, nat_lt, Bool, true, false, not, ◌&&◌, ◌||◌, ◌==◌, List, [], ◌∷◌, ◌++◌, drop, length, Option, None, Some, Result, Ok, Err, codes, slice_index, if◌then◌else◌}
+use Rattle.std.specs.Prelude.{ℕ, ◌-◌, ◌*◌, ◌^◌, min, nat_le, nat_lt, Bool, true, false, not, ◌&&◌, ◌||◌, ◌==◌, List, [], ◌∷◌, ◌++◌, drop, length, filter, Option, None, Some, Result, Ok, Err, codes, slice_index, if◌then◌else◌}
 use Rattle.std.specs.List.{list_all, list_any}
 use Rattle.std.specs.Str.{bytes_eq}
 use Rattle.std.specs.Str.Parse.{digits_value}
-use Rattle.std.specs.Option.{is_some, option_or, option_map_or}
+use Rattle.std.specs.Option.{is_some, option_map, option_map_or, option_and_then, option_or}
 use Rattle.tre_pairs.specs.declared.TheConstants.{TIME_MAX}
 use Rattle.tre_decimal.specs.Decimal.{is_numeral}
+use Rattle.tre_define.specs.Signals.{SignalDefined, signal_definition_of, test_in, changes_in}
+use Rattle.tre_define.specs.Values.{passes, plain_test, differ}
+use Rattle.tre_define.specs.declared.part.Part.{Part}
+use Rattle.tre_define.specs.declared.reads.Reads.{Reads}
+use Rattle.tre_define.specs.declared.reads.Reads.TheVariants.{Changes}
+use Rattle.tre_define.specs.declared.test.Test.{Test}
 use Rattle.tre_parts.specs.Format.{Format, Step, recording_of}
 use Rattle.tre_trace.specs.Reading.{Recording, Stretch, Vocabulary}
 use Rattle.tre_trace.specs.declared.fault.TraceKind.{TraceKind}
@@ -15,17 +21,27 @@ use Rattle.tre_trace.specs.declared.fault.TraceKind.TheVariants.{TooLate, BadTok
 abbrev pub is_white : ℕ → Bool
 is_white byte = byte == 32 || (nat_le 9 byte && nat_le byte 13)
 
--- What is asked of a dump: the names that it must declare. A time of the dump is 10^scale units of
--- time.
+-- What is asked of a dump: the names that it must declare, and what names are defined to read. A
+-- time of the dump is 10^scale units of time.
 pub record Terms : Type 0 where
   pub declared : List Vocabulary
   pub scale : ℕ
+  pub definitions : List SignalDefined
 
 -- The same, and the dump must declare these names too.
 abbrev pub requiring : Terms → Vocabulary → Terms
 requiring terms needed = record {
   declared = terms.declared ++ needed ∷ [];
   scale = terms.scale;
+  definitions = terms.definitions;
+}
+
+-- The same, with these definitions.
+abbrev pub defining : Terms → List SignalDefined → Terms
+defining terms defined = record {
+  declared = terms.declared;
+  scale = terms.scale;
+  definitions = defined;
 }
 
 -- How a change is written: as one letter and its identifier, or as a vector.
@@ -33,25 +49,25 @@ pub data Form : Type 0 where
   scalar : Form
   wide : Form
 
--- what was read whole
+-- What was read whole. A change has the letters of the value, the last of which is that of bit 0.
 pub data Statement : Type 0 where
   scope : List ℕ → Statement
   upscope : Statement
   var : List (List ℕ) → Statement
   definitions : Statement
   time : ℕ → Statement
-  change : Form → List ℕ → Bool → Statement
+  change : Form → List ℕ → List ℕ → Statement
   dump : Statement
   dump_end : Statement
 
 -- What is open behind a token: nothing; a section of the declarations, with its command and the
--- tokens in it; a comment among the values; a vector that waits for its identifier; a real or a
--- string that does.
+-- tokens in it; a comment among the values; the letters of a vector that waits for its identifier;
+-- a real or a string that does.
 pub data Open : Type 0 where
   nothing : Open
   section : List ℕ → List (List ℕ) → Open
   comment : Open
-  vector : Bool → Open
+  vector : List ℕ → Open
   number : Open
 
 -- A place among the tokens: what was read, the newest first, and what is open.
@@ -91,12 +107,18 @@ in_dump (dump ∷ past) = true
 in_dump (dump_end ∷ past) = false
 in_dump (_ ∷ past) = in_dump past
 
--- the value of the last change of this identifier; false where there is none
-abbrev pub value_at : List Statement → List ℕ → Bool
-value_at [] identifier = false
-value_at (change form other value ∷ past) identifier =
-    if bytes_eq identifier other then value else value_at past identifier
-value_at (_ ∷ past) identifier = value_at past identifier
+-- the letters of the last change of this identifier; none where there is no change
+abbrev pub letters_at : List Statement → List ℕ → Option (List ℕ)
+letters_at [] identifier = None
+letters_at (change form other letters ∷ past) identifier =
+    if bytes_eq identifier other then Some letters else letters_at past identifier
+letters_at (_ ∷ past) identifier = letters_at past identifier
+
+-- what had been read when the last time was reached
+abbrev pub before_now : List Statement → List Statement
+before_now [] = []
+before_now (time ticks ∷ past) = if ticks == time_at past then before_now past else past
+before_now (_ ∷ past) = before_now past
 
 -- The event of this identifier happened at the last time. A scalar change says it, whatever its
 -- value, but not in a dump section.
@@ -132,30 +154,144 @@ identifier_in test scopes name (kind ∷ size ∷ identifier ∷ reference ∷ [
     if test kind size && bytes_eq name (path scopes reference) then Some identifier else None
 identifier_in test scopes name _ = None
 
--- the identifier of this name among the variables that pass the test: that of its first declaration
-abbrev pub identifier_of : (List ℕ → List ℕ → Bool) → List Statement → List ℕ → Option (List ℕ)
-identifier_of test [] name = None
-identifier_of test (var tokens ∷ past) name =
-    option_or (identifier_of test past name) (identifier_in test (scopes_at past) name tokens)
-identifier_of test (_ ∷ past) name = identifier_of test past name
+-- ---- what definitions read
 
--- the name is that of a variable which passes a test, and this holds of its identifier
-abbrev pub is_of : (List ℕ → Option (List ℕ)) → (List ℕ → Bool) → List ℕ → Bool
-is_of identified test name = option_map_or test (identified name) false
+-- What a declaration offers to definitions: values of an identifier, of so many bits, by a full
+-- name.
+pub record Offer : Type 0 where
+  pub identifier : List ℕ
+  pub full_name : List ℕ
+  pub size : ℕ
+
+-- a variable whose values are bits
+abbrev pub has_bits : List ℕ → Bool
+has_bits kind =
+    not (bytes_eq kind (codes "real") || bytes_eq kind (codes "realtime")
+    || bytes_eq kind (codes "string") || bytes_eq kind (codes "event"))
+
+-- The size is digits, and at least 1; one above 2^64 - 1 counts as that.
+abbrev pub offer_of : List ℕ → List ℕ → List ℕ → List ℕ → Option Offer
+offer_of kind size identifier full_name =
+    if has_bits kind && is_numeral size && nat_lt 0 (digits_value 10 size)
+    then Some (record {
+      identifier = identifier;
+      full_name = full_name;
+      size = min (digits_value 10 size) (2 ^ 64 - 1);
+    })
+    else None
+
+-- What a declaration in these scopes offers. A range may stand behind the reference, as a token
+-- that begins with `[` (91).
+abbrev pub offer_in : List (List ℕ) → List (List ℕ) → Option Offer
+offer_in scopes (kind ∷ size ∷ identifier ∷ reference ∷ []) =
+    offer_of kind size identifier (path scopes reference)
+offer_in scopes (kind ∷ size ∷ identifier ∷ reference ∷ range ∷ []) =
+    if slice_index range 0 == 91
+    then offer_of kind size identifier (path scopes (reference ++ range)) else None
+offer_in scopes _ = None
+
+-- ---- what names read
+
+-- what a name asks of the values of an identifier
+pub record Asked (X : Type 0) : Type 0 where
+  pub identifier : List ℕ
+  pub asks : X
+
+-- this is asked of the identifier, if there is one
+abbrev pub asking : {X : Type 0} → X → Option (List ℕ) → Option (Asked X)
+asking asks identified = option_map (λ identifier. record { identifier = identifier; asks = asks })
+    identified
+
+-- what is asked of an offer, by its full name and size
+abbrev pub asked_in : {X : Type 0} → (List ℕ → ℕ → Option X) → Offer → Option (Asked X)
+asked_in asks offer =
+    option_map (λ it. record { identifier = offer.identifier; asks = it })
+    (asks offer.full_name offer.size)
+
+-- What a name reads as a proposition, of a declaration in these scopes: what its definition says
+-- where it has one, and else the lowest bit of the variable of one bit with this path.
+abbrev pub signal_in : Option SignalDefined → List ℕ
+    → (List (List ℕ) → List (List ℕ) → Option (Asked Test))
+signal_in None name =
+    λ scopes tokens. asking plain_test (identifier_in is_signal scopes name tokens)
+signal_in (Some one) name =
+    λ scopes tokens. option_and_then (asked_in (test_in one)) (offer_in scopes tokens)
+
+-- When an event happens: where a scalar change of the identifier says it, or where some of its bits
+-- change.
+pub data Occasion : Type 0 where
+  scalar_said : Occasion
+  bits_changed : Part → Occasion
+
+abbrev pub is_changes : Reads → Bool
+is_changes Changes = true
+is_changes _ = false
+
+-- the definitions of events
+abbrev pub of_changes : List SignalDefined → List SignalDefined
+of_changes defined = filter (λ one. is_changes one.reads) defined
+
+abbrev pub occasion_in : SignalDefined → List ℕ → ℕ → Option Occasion
+occasion_in one full_name size = option_map bits_changed (changes_in one full_name size)
+
+-- What a name reads as an event: the changes that it is defined by, or else the event of this path.
+abbrev pub event_in : Option SignalDefined → List ℕ
+    → (List (List ℕ) → List (List ℕ) → Option (Asked Occasion))
+event_in None name =
+    λ scopes tokens. asking scalar_said (identifier_in is_event scopes name tokens)
+event_in (Some one) name =
+    λ scopes tokens. option_and_then (asked_in (occasion_in one)) (offer_in scopes tokens)
+
+-- what is read of the first declaration of which something is, by its scopes and tokens
+abbrev pub first_read : {X : Type 0} → (List (List ℕ) → List (List ℕ) → Option X)
+    → List Statement → Option X
+first_read reads [] = None
+first_read reads (var tokens ∷ past) =
+    option_or (first_read reads past) (reads (scopes_at past) tokens)
+first_read reads (_ ∷ past) = first_read reads past
+
+abbrev pub signal_of : List SignalDefined → List Statement → List ℕ → Option (Asked Test)
+signal_of defined past name =
+    first_read (signal_in (signal_definition_of defined name) name) past
+
+abbrev pub event_of : List SignalDefined → List Statement → List ℕ → Option (Asked Occasion)
+event_of defined past name =
+    first_read (event_in (signal_definition_of (of_changes defined) name) name) past
+
+-- the last letters of the identifier pass the test; where there are none, they don't
+abbrev pub is_passed : List Statement → Asked Test → Bool
+is_passed past asked =
+    option_map_or (passes asked.asks) (letters_at past asked.identifier) false
+
+-- some of the bits have other letters than before, if there were any
+abbrev pub differs : Part → Option (List ℕ) → Option (List ℕ) → Bool
+differs part (Some old) (Some new) = differ part old new
+differs part _ _ = false
+
+-- the event happened at the last time
+abbrev pub has_come : List Statement → List ℕ → Occasion → Bool
+has_come past identifier scalar_said = happened_at past identifier
+has_come past identifier (bits_changed part) =
+    differs part (letters_at (before_now past) identifier) (letters_at past identifier)
+
+abbrev pub is_come : List Statement → Asked Occasion → Bool
+is_come past asked = has_come past asked.identifier asked.asks
 
 -- the proposition of this name is true
-abbrev pub true_at : List Statement → List ℕ → Bool
-true_at past name = is_of (identifier_of is_signal past) (value_at past) name
+abbrev pub true_at : List SignalDefined → List Statement → List ℕ → Bool
+true_at defined past name =
+    option_map_or (is_passed past) (signal_of defined past name) false
 
 -- the event of this name happened at the last time
-abbrev pub happens_at : List Statement → List ℕ → Bool
-happens_at past name = is_of (identifier_of is_event past) (happened_at past) name
+abbrev pub happens_at : List SignalDefined → List Statement → List ℕ → Bool
+happens_at defined past name =
+    option_map_or (is_come past) (event_of defined past name) false
 
--- each of the names is declared, as a proposition or as an event
-abbrev pub are_declared : List Statement → Vocabulary → Bool
-are_declared past needed =
-    list_all (λ name. is_some (identifier_of is_signal past name)) needed.names
-    && list_all (λ name. is_some (identifier_of is_event past name)) needed.events
+-- something is declared that each of the names reads, as a proposition or as an event
+abbrev pub are_declared : List SignalDefined → List Statement → Vocabulary → Bool
+are_declared defined past needed =
+    list_all (λ name. is_some (signal_of defined past name)) needed.names
+    && list_all (λ name. is_some (event_of defined past name)) needed.events
 
 -- ---- what a token says
 
@@ -203,25 +339,25 @@ command_says terms past token =
     if not (is_command token) || is_end token || is_dump token then Err BadToken
     else (if bytes_eq token (codes "$upscope") && length (scopes_at past) == 0 then Err BadToken
     else (if bytes_eq token (codes "$enddefinitions")
-    && not (list_all (are_declared past) terms.declared)
+    && not (list_all (are_declared terms.definitions past) terms.declared)
     then Err UnknownName else goes_to past (section token [])))
 
 -- the stretch from the last time to this one: its values, and the events at its begin
-abbrev pub stretch_until : List Statement → ℕ → Stretch
-stretch_until past ticks = record {
+abbrev pub stretch_until : List SignalDefined → List Statement → ℕ → Stretch
+stretch_until defined past ticks = record {
   len = ticks - time_at past;
-  is_true = true_at past;
-  happens = happens_at past;
+  is_true = true_at defined past;
+  happens = happens_at defined past;
 }
 
 -- a time, behind the time that was reached
-abbrev pub time_says : List Statement → ℕ → Result (Step Place) TraceKind
-time_says past ticks =
+abbrev pub time_says : List SignalDefined → List Statement → ℕ → Result (Step Place) TraceKind
+time_says defined past ticks =
     if nat_lt ticks (time_at past) then Err TimeBack
     else (if nat_lt TIME_MAX ticks then Err TooLate
     else (if ticks == time_at past then goes_to (time ticks ∷ past) nothing
     else Ok (record {
-      stretches = stretch_until past ticks ∷ [];
+      stretches = stretch_until defined past ticks ∷ [];
       state = record { past = time ticks ∷ past; inside = nothing };
     })))
 
@@ -233,7 +369,7 @@ keyword_says past token =
     then (if in_dump past then goes_to (dump_end ∷ past) nothing else Err BadToken)
     else (if bytes_eq token (codes "$comment") then goes_to past comment else Err BadToken))
 
--- the letters of scalar values, of which `1` alone is true
+-- the letters of scalar values
 abbrev pub is_scalar : ℕ → Bool
 is_scalar byte = list_any (λ letter. byte == letter) (codes "01xXzZuUwWlLhH-")
 
@@ -241,22 +377,18 @@ is_scalar byte = list_any (λ letter. byte == letter) (codes "01xXzZuUwWlLhH-")
 abbrev pub scalar_says : List Statement → ℕ → List ℕ → Result (Step Place) TraceKind
 scalar_says past letter [] = Err BadToken
 scalar_says past letter identifier =
-    goes_to (change scalar identifier (letter == 49) ∷ past) nothing
-
--- whether the last byte is `1` (49)
-abbrev pub ends_true : List ℕ → Bool
-ends_true bytes = slice_index bytes (length bytes - 1) == 49
+    goes_to (change scalar identifier (letter ∷ []) ∷ past) nothing
 
 -- a vector: its letter, and one byte at least
 abbrev pub vector_says : List Statement → List ℕ → Result (Step Place) TraceKind
 vector_says past [] = Err BadToken
-vector_says past value = goes_to past (vector (ends_true value))
+vector_says past letters = goes_to past (vector letters)
 
 -- `#` and decimal digits, one at least and no point: the time in units
 abbrev pub ticks_say : Terms → List Statement → List ℕ → Result (Step Place) TraceKind
 ticks_say terms past digits =
     if is_numeral digits
-    then time_says past (digits_value 10 digits * 10 ^ terms.scale)
+    then time_says terms.definitions past (digits_value 10 digits * 10 ^ terms.scale)
     else Err BadToken
 
 -- a token among the values, where nothing is open, by its first byte: `#`, `$`, the letters of
@@ -278,7 +410,7 @@ token_at terms past (section command tokens) token =
     if is_end token then section_says past command tokens
     else goes_to past (section command (tokens ++ token ∷ []))
 token_at terms past comment token = goes_to past (if is_end token then nothing else comment)
-token_at terms past (vector value) token = goes_to (change wide token value ∷ past) nothing
+token_at terms past (vector letters) token = goes_to (change wide token letters ∷ past) nothing
 token_at terms past number token = goes_to past nothing
 
 -- what stands between two separators: a token, or nothing where they are neighbours
@@ -304,7 +436,7 @@ vcd_format terms = record {
   place = λ spot. spot.offset;
   says = token_says terms;
   at_end = end_says;
-  last = λ place. happens_at place.past;
+  last = λ place. happens_at terms.definitions place.past;
   time = λ place. time_at place.past;
 }
 

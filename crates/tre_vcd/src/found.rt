@@ -1,16 +1,22 @@
 // Which of the names that a dump must declare it has declared.
-ghost use Rattle.std.specs.Prelude.{◌≡◌, ◌≢◌, ◌≤◌, ◌∷◌, ◌||◌, ℕ, List, Bool, [], false, length, map, All, AllPairs, IfOk};
+ghost use Rattle.std.specs.Prelude.{◌≡◌, ◌≢◌, ◌<◌, ◌≤◌, ◌∷◌, ◌||◌, ◌&&◌, ℕ, List, Bool, [], true, false, Some, length, map, set, replicate, if◌then◌else◌, All, AllPairs, IfOk};
 ghost use Rattle.std.specs.List.{list_all};
+ghost use Rattle.std.specs.Option.{is_some};
 ghost use Rattle.std.specs.Str.{bytes_eq};
 ghost use Rattle.tre_state.specs.Names.{place_of};
-ghost use Rattle.tre_vcd.specs.VcdReading.{Statement, var, scopes_at, is_signal, is_event, are_declared};
-ghost use Rattle.tre_vcd.specs.Needs.{needs};
-ghost use Rattle.tre_vcd.specs.Kept.{KnowsNeeded, KnowsAll, IsWithin, Declares, DeclaresNone, vocabulary_of};
+ghost use Rattle.tre_define.specs.Signals.{SignalDefined, changes_in, test_in};
+ghost use Rattle.tre_vcd.specs.VcdReading.{Statement, var, scopes_at, is_signal, is_event, offer_in, are_declared};
+ghost use Rattle.tre_vcd.specs.Needs.{definitions_of, needs};
+ghost use Rattle.tre_vcd.specs.Kept.{KnowsNeeded, KnowsAll, IsWithin, Declares, DeclaresNone, plain_of, vocabulary_of};
+ghost use Rattle.tre_vcd.specs.Offers.{KnowsOffers, KnowOffers};
+ghost use Rattle.tre_vcd.specs.Signals.{offer_kept};
 
 use crate::needed::Needed;
+use crate::offer::Offered;
 use indexmap::IndexSet;
 use std::alloc::{AllocError, Global};
 use std::rc::Rc;
+use tre_define::SignalDefinition;
 
 // The names that are needed, and for each of them whether it is declared.
 #[derive(Drop)]
@@ -18,6 +24,8 @@ pub struct Found {
     pub needed: Rc<Needed>,
     pub names: Vec<bool>,
     pub events: Vec<bool>,
+    pub tests: Vec<bool>,
+    pub changes: Vec<bool>,
 }
 
 impl Found {
@@ -25,20 +33,28 @@ impl Found {
     pub fn new(alloc: Global, needed: &Rc<Needed>) -> Result<Found, AllocError>
         ensures needs { IfOk result (λ found. vocabulary_of found ≡ needs needed.now.value) }
         ensures knows { IfOk result (KnowsNeeded []) }
+        ensures definitions { IfOk result (λ found. definitions_of found.needed.value
+            ≡ definitions_of needed.now.value) }
+        ensures offers { IfOk result (λ found.
+            KnowsOffers (definitions_of found.needed.value) [] found) }
     {
         let needed = needed.clone()?;
-        let names = undeclared(alloc, &needed.names)?;
-        let events = undeclared(alloc, &needed.events)?;
+        let names = undeclared(alloc, needed.names.len())?;
+        let events = undeclared(alloc, needed.events.len())?;
+        let tests = undeclared(alloc, needed.defined_names().len())?;
+        let changes = undeclared(alloc, needed.defined_events().len())?;
         Ok(Found {
             needed,
             names,
             events,
+            tests,
+            changes,
         })
     }
 
     // The length of the longest of the names.
     pub fn longest(&self) -> usize
-        ensures { IsWithin result (vocabulary_of self.now) }
+        ensures { IsWithin result (plain_of self.now) }
     {
         let names = longest_in(self.needed.names.as_slice());
         let events = longest_in(self.needed.events.as_slice());
@@ -52,7 +68,9 @@ impl Found {
             Declares is_signal (scopes_at past) tokens identifier path.now →
             DeclaresNone is_event (scopes_at past) tokens →
             KnowsNeeded (var tokens ∷ past) self.new }
-        ensures same_names { vocabulary_of self.new ≡ vocabulary_of self.old }
+        ensures offers { (all : List SignalDefined) (past : List Statement) →
+            KnowsOffers all past self.old → KnowsOffers all past self.new }
+        ensures same_names { self.new.needed ≡ self.old.needed }
     {
         flag(&self.needed.names, path, &mut self.names);
     }
@@ -64,27 +82,43 @@ impl Found {
             Declares is_event (scopes_at past) tokens identifier path.now →
             DeclaresNone is_signal (scopes_at past) tokens →
             KnowsNeeded (var tokens ∷ past) self.new }
-        ensures same_names { vocabulary_of self.new ≡ vocabulary_of self.old }
+        ensures offers { (all : List SignalDefined) (past : List Statement) →
+            KnowsOffers all past self.old → KnowsOffers all past self.new }
+        ensures same_names { self.new.needed ≡ self.old.needed }
     {
         flag(&self.needed.events, path, &mut self.events);
     }
 
+    // This is offered to definitions by these tokens of its declaration.
+    fn declare_offered(&mut self, offered: &Offered)
+        ensures offers { (all : List SignalDefined) (past : List Statement)
+            (tokens : List (List ℕ)) →
+            offer_in (scopes_at past) tokens ≡ Some (offer_kept offered.now) →
+            KnowsOffers all past self.old → KnowsOffers all (var tokens ∷ past) self.new }
+        ensures knows { (past : List Statement) → KnowsNeeded past self.old →
+            KnowsNeeded past self.new }
+        ensures same_names { self.new.needed ≡ self.old.needed }
+    {
+        flag_tests(&self.needed.tests, offered, &mut self.tests);
+        flag_changes(&self.needed.changes, offered, &mut self.changes);
+    }
+
     // Whether all of them are declared.
     fn is_declared(&self) -> bool
-        ensures { (past : List Statement) → KnowsNeeded past self.now →
-            result ≡ are_declared past (vocabulary_of self.now) }
+        ensures { (all : List SignalDefined) (past : List Statement) →
+            KnowsNeeded past self.now → KnowsOffers all past self.now →
+            result ≡ are_declared all past (vocabulary_of self.now) }
     {
-        are_set(&self.names) && are_set(&self.events)
+        are_set(&self.names, &self.tests) && are_set(&self.events, &self.changes)
     }
 }
 
-// None of the names is declared.
-fn undeclared(alloc: Global, names: &IndexSet<Vec<u8>>) -> Result<Vec<bool>, AllocError>
-    ensures { IfOk result (λ flags. flags.items
-        ≡ map (λ name. false) (map (λ name. name.items) names.now.keys)) }
+// None of so many names is declared.
+fn undeclared(alloc: Global, count: usize) -> Result<Vec<bool>, AllocError>
+    ensures { IfOk result (λ flags. flags.items ≡ replicate count false) }
 {
     let mut flags = Vec::new(alloc);
-    flags.resize(names.len(), false)?;
+    flags.resize(count, false)?;
     Ok(flags)
 }
 
@@ -103,6 +137,41 @@ fn flag(names: &IndexSet<Vec<u8>>, path: &[u8], flags: &mut Vec<bool>)
     }
 }
 
+// Those names are declared that have a test of what is offered.
+fn flag_tests(definitions: &[SignalDefinition], offered: &Offered, flags: &mut [bool])
+    ensures { (test : SignalDefined → Bool) → flags.old ≡ map test definitions.now →
+        flags.new ≡ map (λ one. test one || is_some (test_in one offered.now.full_name.items
+        offered.now.size)) definitions.now }
+{
+    for place in 0..definitions.len().min(flags.len()) {
+        let test = definitions[place].test_in(&offered.full_name, offered.size);
+        raise(flags, place, test.is_some());
+    }
+}
+
+// Those names are declared that are the changes of what is offered.
+fn flag_changes(definitions: &[SignalDefinition], offered: &Offered, flags: &mut [bool])
+    ensures { (test : SignalDefined → Bool) → flags.old ≡ map test definitions.now →
+        flags.new ≡ map (λ one. test one || is_some (changes_in one offered.now.full_name.items
+        offered.now.size)) definitions.now }
+{
+    for place in 0..definitions.len().min(flags.len()) {
+        let part = definitions[place].changes_in(&offered.full_name, offered.size);
+        raise(flags, place, part.is_some());
+    }
+}
+
+// The flag at this place is set, if it is raised.
+fn raise(flags: &mut [bool], place: usize, is_raised: bool)
+    requires { place < length flags.old }
+    ensures { flags.new ≡ (if is_raised then set flags.old place true else flags.old) }
+{
+    if !is_raised {
+        return;
+    }
+    flags[place] = true;
+}
+
 // The place of the name of this path, if it is one of the names.
 fn place_in(names: &IndexSet<Vec<u8>>, path: &[u8]) -> Option<usize>
     ensures place { result ≡ place_of (map (λ name. name.items) names.now.keys) path.now }
@@ -115,8 +184,15 @@ fn place_in(names: &IndexSet<Vec<u8>>, path: &[u8]) -> Option<usize>
     names.get_index_of(path)
 }
 
+// Whether each of both is true.
+fn are_set(plain: &[bool], defined: &[bool]) -> bool
+    ensures { result ≡ (list_all (λ flag. flag) plain.now && list_all (λ flag. flag) defined.now) }
+{
+    all_set(plain) && all_set(defined)
+}
+
 // Whether each of them is true.
-fn are_set(flags: &[bool]) -> bool
+fn all_set(flags: &[bool]) -> bool
     ensures { result ≡ list_all (λ flag. flag) flags.now }
 {
     flags.iter().all(|flag| *flag)
@@ -140,6 +216,9 @@ pub fn declare(all: &mut [Found], path: &[u8])
         Declares is_signal (scopes_at past) tokens identifier path.now →
         DeclaresNone is_event (scopes_at past) tokens →
         KnowsAll (var tokens ∷ past) all.new }
+    ensures offers { (definitions : List SignalDefined) (past : List Statement) →
+        KnowOffers definitions past all.old → KnowOffers definitions past all.new }
+    ensures plain { map plain_of all.new ≡ map plain_of all.old }
     ensures same_names { map vocabulary_of all.new ≡ map vocabulary_of all.old }
 {
     let Some((first, others)) = all.split_first_mut() else {
@@ -156,6 +235,9 @@ pub fn declare_event(all: &mut [Found], path: &[u8])
         Declares is_event (scopes_at past) tokens identifier path.now →
         DeclaresNone is_signal (scopes_at past) tokens →
         KnowsAll (var tokens ∷ past) all.new }
+    ensures offers { (definitions : List SignalDefined) (past : List Statement) →
+        KnowOffers definitions past all.old → KnowOffers definitions past all.new }
+    ensures plain { map plain_of all.new ≡ map plain_of all.old }
     ensures same_names { map vocabulary_of all.new ≡ map vocabulary_of all.old }
 {
     let Some((first, others)) = all.split_first_mut() else {
@@ -165,10 +247,28 @@ pub fn declare_event(all: &mut [Found], path: &[u8])
     declare_event(others, path);
 }
 
+// This is offered to definitions by a declaration.
+pub fn declare_offered(all: &mut [Found], offered: &Offered)
+    ensures offers { (definitions : List SignalDefined) (past : List Statement)
+        (tokens : List (List ℕ)) →
+        offer_in (scopes_at past) tokens ≡ Some (offer_kept offered.now) →
+        KnowOffers definitions past all.old → KnowOffers definitions (var tokens ∷ past) all.new }
+    ensures knows { (past : List Statement) → KnowsAll past all.old → KnowsAll past all.new }
+    ensures plain { map plain_of all.new ≡ map plain_of all.old }
+    ensures same_names { map vocabulary_of all.new ≡ map vocabulary_of all.old }
+{
+    let Some((first, others)) = all.split_first_mut() else {
+        return;
+    };
+    first.declare_offered(offered);
+    declare_offered(others, offered);
+}
+
 // Whether all that are needed are declared.
 pub fn are_declared(all: &[Found]) -> bool
-    ensures { (past : List Statement) → KnowsAll past all.now →
-        result ≡ list_all (are_declared past) (map vocabulary_of all.now) }
+    ensures { (definitions : List SignalDefined) (past : List Statement) →
+        KnowsAll past all.now → KnowOffers definitions past all.now →
+        result ≡ list_all (are_declared definitions past) (map vocabulary_of all.now) }
 {
     let Some((first, others)) = all.split_first() else {
         return true;

@@ -1,12 +1,15 @@
 //! Laws of the format, each as a function whose contract it is.
 
-ghost use Rattle.std.specs.Prelude.{◌≡◌, ◌↔◌, ℕ, ◌+◌, Bool, true, false, None, Some, List, [], ◌∷◌, ◌++◌, length};
+ghost use Rattle.std.specs.Prelude.{◌≡◌, ◌↔◌, ℕ, ◌+◌, ◌-◌, ◌==◌, Bool, true, false, Option, None, Some, List, [], ◌∷◌, ◌++◌, length, slice_index};
+ghost use Rattle.tre_define.specs.Signals.{SignalDefined};
+ghost use Rattle.tre_define.specs.Values.{passes, plain_test};
+ghost use Rattle.tre_define.specs.declared.test.Test.{Test};
 ghost use Rattle.tre_trace.specs.Reading.{Grows, Stretch, Vocabulary, reading_for};
 ghost use Rattle.tre_trace.specs.Trace.{IsTrace};
 ghost use Rattle.tre_trace.specs.declared.fault.TraceKind.{TraceKind};
-ghost use Rattle.tre_vcd.specs.Deciding.{Keeps, LastChange, Happened, Leaves, FirstDeclaration, IsHigh, HasHappened};
+ghost use Rattle.tre_vcd.specs.Deciding.{Keeps, LastChange, Happened, Leaves, FirstRead, IsHigh, HasHappened};
 ghost use Rattle.tre_vcd.specs.Dumps.{IsToken, Spaced, Say, tokens_in, CompletesWith, HasFault, moved_recording};
-ghost use Rattle.tre_vcd.specs.VcdReading.{vcd_recording, Terms, is_white, path, Statement, value_at, happened_at, identifier_of, true_at, happens_at};
+ghost use Rattle.tre_vcd.specs.VcdReading.{vcd_recording, Terms, is_white, path, Statement, letters_at, happened_at, Asked, Occasion, first_read, true_at, happens_at};
 
 /// What is read of a dump is a trace, and nothing is taken back when more bytes come.
 pub fn reading()
@@ -22,14 +25,12 @@ pub fn paths()
         path (name ∷ scopes) reference ≡ path scopes name ++ 46 ∷ reference }
 {}
 
-/// An identifier has the value of its last change, and is false where it has none.
+/// An identifier has the letters of its last change, and none where there is no change.
 pub fn changes()
-    ensures last { (past : List Statement) (identifier : List ℕ) (value : Bool) →
-        LastChange past identifier value → value_at past identifier ≡ value }
+    ensures last { (past : List Statement) (identifier letters : List ℕ) →
+        LastChange past identifier letters ↔ (letters_at past identifier ≡ Some letters) }
     ensures none { (past : List Statement) (identifier : List ℕ) →
-        Keeps identifier past → value_at past identifier ≡ false }
-    ensures high { (past : List Statement) (identifier : List ℕ) →
-        value_at past identifier ≡ true → LastChange past identifier true }
+        Keeps identifier past → letters_at past identifier ≡ None }
 {}
 
 /// An event happened exactly where a scalar change of its identifier was read at the last time,
@@ -39,23 +40,36 @@ pub fn happenings()
         Happened past identifier ↔ (happened_at past identifier ≡ true) }
 {}
 
-/// A name has the identifier of its first declaration among the variables that pass a test, such as
-/// those of propositions or of events, and none where there is no such declaration.
+/// A name reads what is read of the first declaration of which something is, and nothing where
+/// there is no such declaration.
 pub fn declarations()
-    ensures first { (test : List ℕ → List ℕ → Bool) (past : List Statement)
-        (name identifier : List ℕ) → FirstDeclaration test past name identifier
-        ↔ (identifier_of test past name ≡ Some identifier) }
-    ensures none { (test : List ℕ → List ℕ → Bool) (past : List Statement) (name : List ℕ) →
-        Leaves test name past → identifier_of test past name ≡ None }
+    ensures signals { (reads : List (List ℕ) → List (List ℕ) → Option (Asked Test))
+        (past : List Statement) (asked : Asked Test) →
+        FirstRead reads past asked ↔ (first_read reads past ≡ Some asked) }
+    ensures no_signal { (reads : List (List ℕ) → List (List ℕ) → Option (Asked Test))
+        (past : List Statement) → Leaves reads past → first_read reads past ≡ None }
+    ensures events { (reads : List (List ℕ) → List (List ℕ) → Option (Asked Occasion))
+        (past : List Statement) (asked : Asked Occasion) →
+        FirstRead reads past asked ↔ (first_read reads past ≡ Some asked) }
+    ensures no_event { (reads : List (List ℕ) → List (List ℕ) → Option (Asked Occasion))
+        (past : List Statement) → Leaves reads past → first_read reads past ≡ None }
 {}
 
-/// On a stretch exactly those propositions are true that are declared, and whose identifier changed
-/// last to true. Exactly those events happen that are declared, and that were said at that time.
+/// On a stretch exactly those propositions are true that read a signal whose last letters pass what
+/// is asked. Exactly those events happen that read a signal of which a scalar change was said at
+/// that time, or some bits of which have changed at it.
 pub fn valuations()
-    ensures values { (past : List Statement) (name : List ℕ) →
-        IsHigh past name ↔ (true_at past name ≡ true) }
-    ensures events { (past : List Statement) (name : List ℕ) →
-        HasHappened past name ↔ (happens_at past name ≡ true) }
+    ensures values { (definitions : List SignalDefined) (past : List Statement) (name : List ℕ) →
+        IsHigh definitions past name ↔ (true_at definitions past name ≡ true) }
+    ensures events { (definitions : List SignalDefined) (past : List Statement) (name : List ℕ) →
+        HasHappened definitions past name ↔ (happens_at definitions past name ≡ true) }
+{}
+
+/// Without a definition a proposition is true exactly where the last letter that its identifier was
+/// given is `1` (49).
+pub fn lowest_bits()
+    ensures { (letters : List ℕ) → passes plain_test letters
+        ≡ (slice_index letters (length letters - 1) == 49) }
 {}
 
 /// Groups of tokens, each of which says nothing, or something that belongs and fits where it
@@ -64,7 +78,7 @@ pub fn valuations()
 pub fn dump()
     ensures trace { (terms : Terms) (groups : List (List (List ℕ))) (bytes : List ℕ)
         (stretches : List Stretch) (last : List ℕ → Bool) → Spaced (tokens_in groups) bytes →
-        Say terms [] groups stretches (CompletesWith last) →
+        Say terms [] groups stretches (CompletesWith terms.definitions last) →
         vcd_recording terms true bytes
         ≡ record { stretches = stretches; last = last; fault = None } }
     ensures part { (terms : Terms) (groups : List (List (List ℕ))) (bytes : List ℕ)

@@ -5,8 +5,10 @@
 //!
 //! [`VcdReader`] reads them in pieces. It keeps the token that isn't ended yet, the open section
 //! and scopes, the time, the identifiers of its propositions and events, and which of them are true
-//! and have happened, and nothing else. The layers above rely on the definition and on the contract
-//! of a `TraceReader`.
+//! and have happened, and nothing else. A name may be defined by a test of a signal's value, or by
+//! its changes ([`TokenReader::define`]); of an event that is one of changes it keeps the last
+//! letters too, and those before this time. The layers above rely on the definition and on the
+//! contract of a `TraceReader`.
 //!
 //! ```text
 //! let mut reader = VcdReader::new(alloc, TokenReader::new(alloc, names, events, 0));
@@ -15,14 +17,20 @@
 //! ```
 #![tactic(auto)]
 
+mod changes;
 mod command;
+mod definitions;
 mod found;
 mod inside;
 pub mod laws;
+mod letters;
 mod needed;
+mod offer;
 mod past;
 mod scale;
 mod scopes;
+mod signals;
+mod tests;
 mod token;
 mod token_reader;
 mod variable;

@@ -1,7 +1,7 @@
 // What the reader keeps of the statements that it has read.
 ghost use Rattle.std.specs.Prelude.{◌≡◌, ◌==◌, ◌&&◌, not, length, ◌∷◌, ℕ, List, [], true, false, OnOk};
 ghost use Rattle.tre_vcd.specs.VcdReading.{Statement, scope, upscope, var, definitions, time, change, scalar, wide, dump, dump_end, is_defined, scopes_at, is_signal, is_event};
-ghost use Rattle.tre_vcd.specs.Kept.{Knows, Declares, DeclaresNone, valuation_at, events_at};
+ghost use Rattle.tre_vcd.specs.Kept.{Knows, ends_true, Declares, DeclaresNone, valuation_at, events_at};
 
 use crate::scopes::Scopes;
 use crate::variable::set_value;
@@ -117,13 +117,13 @@ impl Past {
         }
     }
 
-    // An identifier changes to this value, as a vector.
+    // An identifier changes to letters that end with this value, as a vector.
     #[inline(always)]
     pub fn change(&mut self, identifier: &[u8], value: bool)
         ensures { (names event_names : List (List ℕ)) (past : List Statement) →
             Knows names event_names self.old past →
-            is_defined past ≡ true →
-            Knows names event_names self.new (change wide identifier.now value ∷ past) }
+            is_defined past ≡ true → (letters : List ℕ) → value ≡ ends_true letters →
+            Knows names event_names self.new (change wide identifier.now letters ∷ past) }
     {
         let changed = self.propositions.having(identifier);
         set_value(&mut self.values, changed, value);
@@ -137,13 +137,13 @@ impl Past {
         !self.events.is_empty() && !self.in_dump
     }
 
-    // An identifier changes to this value, as a scalar, which says its event.
+    // An identifier changes to letters that end with this value, as a scalar, which says its event.
     #[inline(always)]
     pub fn change_scalar(&mut self, identifier: &[u8], value: bool)
         ensures { (names event_names : List (List ℕ)) (past : List Statement) →
             Knows names event_names self.old past →
-            is_defined past ≡ true →
-            Knows names event_names self.new (change scalar identifier.now value ∷ past) }
+            is_defined past ≡ true → (letters : List ℕ) → value ≡ ends_true letters →
+            Knows names event_names self.new (change scalar identifier.now letters ∷ past) }
     {
         let changed = self.propositions.having(identifier);
         set_value(&mut self.values, changed, value);

@@ -2,7 +2,8 @@
 ghost use Rattle.std.specs.Prelude.{◌≡◌, ◌==◌, ◌||◌, ℕ, List, not};
 ghost use Rattle.std.specs.Str.{bytes_eq};
 ghost use Rattle.tre_vcd.specs.Letters.{letter_of};
-ghost use Rattle.tre_vcd.specs.VcdReading.{is_end, is_dump, is_command, is_signal, is_event, ends_true};
+ghost use Rattle.tre_vcd.specs.VcdReading.{is_end, is_dump, is_command, is_signal, is_event, has_bits};
+ghost use Rattle.tre_vcd.specs.Kept.{ends_true};
 
 // Whether the token is this word.
 pub fn is(token: &[u8], word: &str) -> bool
@@ -91,6 +92,13 @@ pub fn is_signal(kind: &[u8], size: &[u8]) -> bool
     ensures { result ≡ is_signal kind.now size.now }
 {
     is(size, "1") && !(is(kind, "real") || is(kind, "realtime") || is(kind, "event"))
+}
+
+/// Whether the values of a variable of this type are bits.
+pub fn has_bits(kind: &[u8]) -> bool
+    ensures { result ≡ has_bits kind.now }
+{
+    !(is(kind, "real") || is(kind, "realtime") || is(kind, "string") || is(kind, "event"))
 }
 
 /// Whether a variable of this type is an event, whatever its size.

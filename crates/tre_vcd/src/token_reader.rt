@@ -1,35 +1,42 @@
 // The tokens of a dump, one after the other.
-ghost use Rattle.std.specs.Prelude.{◌≡◌, ◌≢◌, ◌≤◌, ℕ, List, [], ◌∷◌, ◌++◌, length, map, true, false, not, ◌&&◌, All, OnOk};
+ghost use Rattle.std.specs.Prelude.{◌≡◌, ◌≢◌, ◌≤◌, ℕ, List, [], ◌∷◌, ◌++◌, length, map, take, true, false, not, ◌&&◌, All, OnOk};
 ghost use Rattle.tre_decimal.specs.declared.TheConstants.{SCALE_MAX};
 ghost use Rattle.tre_parts.specs.Walk.{Tells};
 ghost use Rattle.tre_parts.specs.declared.said.Said.{Said};
 ghost use Rattle.tre_trace.specs.declared.fault.TraceKind.TheVariants.{Spent};
-ghost use Rattle.tre_vcd.specs.VcdReading.{Terms, requiring, first_place, wide, Statement, var, Place, nothing, section, comment, vector, number, is_defined, goes_to, vcd_format, command_says, section_says, ticks_say, keyword_says, scalar_says, vector_says, value_says, scope_says, declaration_says, change, token_at};
-ghost use Rattle.tre_vcd.specs.Sections.{Holds, asked_of, terms_kept, command_of, is_nothing, dump_says, dump_end_says};
-ghost use Rattle.tre_vcd.specs.Needs.{needs};
-ghost use Rattle.tre_vcd.specs.Kept.{Knows, KnowsAll, AreWithin};
+ghost use Rattle.tre_define.specs.Signals.{SignalDefined};
+ghost use Rattle.tre_vcd.specs.VcdReading.{Terms, requiring, defining, first_place, scalar, wide, scopes_at, Statement, var, Place, nothing, section, comment, vector, number, is_defined, goes_to, vcd_format, command_says, section_says, ticks_say, keyword_says, scalar_says, vector_says, value_says, scope_says, declaration_says, change, token_at};
+ghost use Rattle.tre_vcd.specs.Sections.{Holds, KnowsPast, asked_of, terms_kept, command_of, is_nothing, dump_says, dump_end_says};
+ghost use Rattle.tre_vcd.specs.Needs.{definitions_of, needs};
+ghost use Rattle.tre_vcd.specs.Offers.{KnowOffers};
+ghost use Rattle.tre_vcd.specs.Signals.{KnowsSignals};
+ghost use Rattle.tre_vcd.specs.Kept.{ends_true, plain_of, AreScopes, IsQuiet, Knows, KnowsAll};
 ghost use Rattle.tre_vcd.specs.Times.{vcd-keeps_time};
 
 use crate::command::{Command, command_of};
-use crate::found::{Found, are_declared, declare, declare_event};
+use crate::found::{Found, are_declared, declare, declare_event, declare_offered};
 use crate::inside::Inside;
+use crate::letters::copy_into;
 use crate::needed::Needed;
+use crate::offer::offer_in;
 use crate::past::Past;
 use crate::scale::Scale;
+use crate::signals::Signals;
 use crate::token::{
     Letter, ends_true, is, is_bit, is_dump, is_end, is_event, is_misplaced, is_signal, letter_of,
 };
 use crate::white::White;
 use std::alloc::{AllocError, Global};
 use std::rc::Rc;
+use tre_define::SignalDefinition;
 use tre_pairs::TIME_MAX;
 use tre_parts::{PartReader, Said, Skimmed, Spot, first_of};
 use tre_state::Names;
 use tre_trace::{Segment, TraceKind};
 
-/// How many tokens of an open section are kept. No command takes more than four, and the fifth says
+/// How many tokens of an open section are kept. No command takes more than five, and the sixth says
 /// that there are more.
-const KEPT_MAX: usize = 5;
+const KEPT_MAX: usize = 6;
 
 /// Reads the tokens of a dump for the propositions and the events of its names.
 ///
@@ -44,8 +51,12 @@ pub struct TokenReader {
     longest: usize,
     scale: Scale,
     past: Past,
+    // What names read by their definitions.
+    signals: Signals,
     inside: Inside,
     tokens: Vec<Vec<u8>>,
+    // Those of the vector that waits for its identifier, where there are definitions.
+    letters: Vec<u8>,
 }
 
 impl TokenReader {
@@ -54,7 +65,7 @@ impl TokenReader {
         requires { scale ≤ SCALE_MAX }
         ensures begins { ⟦<TokenReader as PartReader>⟧.holds result first_place }
         ensures terms { ⟦<TokenReader as PartReader>⟧.terms result
-            ≡ record { declared = []; scale = scale } }
+            ≡ record { declared = []; scale = scale; definitions = [] } }
         ensures names { ⟦<TokenReader as PartReader>⟧.names result
             ≡ record { names = names; events = events } }
     {
@@ -66,15 +77,36 @@ impl TokenReader {
             longest,
             scale: Scale::new(scale),
             past: Past::new(alloc),
+            signals: Signals::new(alloc),
             inside: Inside::Nothing,
             tokens: Vec::new(alloc),
+            letters: Vec::new(alloc),
         }
     }
 
-    /// The dump must declare these names and events too, whether they are read or not. To be called
+    /// Names are read as these definitions say. To be called before names must be declared, and
     /// before the first token.
+    pub fn define(&mut self, definitions: &[SignalDefinition]) -> Result<(), AllocError>
+        ensures begins { ⟦<TokenReader as PartReader>⟧.holds self.old first_place →
+            (⟦<TokenReader as PartReader>⟧.terms self.old).declared ≡ [] →
+            OnOk result (⟦<TokenReader as PartReader>⟧.holds self.new first_place) }
+        ensures terms { OnOk result (⟦<TokenReader as PartReader>⟧.terms self.new
+            ≡ defining (⟦<TokenReader as PartReader>⟧.terms self.old) definitions.now) }
+        ensures names { ⟦<TokenReader as PartReader>⟧.names self.new
+            ≡ ⟦<TokenReader as PartReader>⟧.names self.old }
+    {
+        let alloc = self.past.alloc;
+        self.signals
+            .define(alloc, &self.names, &self.events, definitions)?;
+        Ok(())
+    }
+
+    /// The dump must declare these names and events too, whether they are read or not. Their
+    /// definitions are those of the reader. To be called before the first token.
     pub fn must_declare(&mut self, needed: &Rc<Needed>) -> Result<(), AllocError>
         ensures begins { ⟦<TokenReader as PartReader>⟧.holds self.old first_place →
+            definitions_of needed.now.value
+            ≡ (⟦<TokenReader as PartReader>⟧.terms self.old).definitions →
             OnOk result (⟦<TokenReader as PartReader>⟧.holds self.new first_place) }
         ensures terms { OnOk result (⟦<TokenReader as PartReader>⟧.terms self.new
             ≡ requiring (⟦<TokenReader as PartReader>⟧.terms self.old) (needs needed.now.value)) }
@@ -173,9 +205,10 @@ impl TokenReader {
             return Said::Nothing;
         }
         let len = ticks - self.past.time;
-        let val = self.past.valuation();
-        let ev = self.past.events();
+        let val = self.signals.tests.valuation(self.past.valuation());
+        let ev = self.signals.changes.events(self.past.events());
         self.past.reach(ticks);
+        self.signals.changes.reach();
         Said::Says(Segment { len, val, ev })
     }
 
@@ -251,8 +284,30 @@ impl TokenReader {
         if identifier.is_empty() {
             return Said::Wrong(TraceKind::BadToken);
         }
+        self.change_scalar(letter, identifier)
+    }
+
+    // An identifier changes to this letter.
+    #[inline(always)]
+    fn change_scalar(&mut self, letter: u8, identifier: &[u8]) -> Said
+        ensures tells { (past : List Statement) →
+            Holds self.old (record { past = past; inside = nothing }) →
+            is_defined past ≡ true →
+            Tells (asked_of self.old)
+            (goes_to (change scalar identifier.now (letter ∷ []) ∷ past) nothing)
+            (Holds self.new) result }
+        ensures kinds { result ≢ Said.Wrong Spent }
+        ensures same_terms { terms_kept self.new ≡ terms_kept self.old }
+        ensures same_names { asked_of self.new ≡ asked_of self.old }
+    {
         self.past.change_scalar(identifier, letter == b'1');
-        Said::Nothing
+        if self.signals.is_empty() {
+            return Said::Nothing;
+        }
+        match self.signals.change(identifier, &[letter]) {
+            Ok(()) => Said::Nothing,
+            Err(_) => Said::Wrong(TraceKind::Memory),
+        }
     }
 
     // Reads a vector, whose identifier is the next token.
@@ -268,6 +323,9 @@ impl TokenReader {
     {
         if value.is_empty() {
             return Said::Wrong(TraceKind::BadToken);
+        }
+        if !self.signals.is_empty() && copy_into(&mut self.letters, value).is_err() {
+            return Said::Wrong(TraceKind::Memory);
         }
         self.inside = Inside::Vector(ends_true(value));
         Said::Nothing
@@ -305,10 +363,11 @@ impl TokenReader {
     // Reads the identifier that a vector waits for.
     #[inline(always)]
     fn read_identifier(&mut self, value: bool, identifier: &[u8]) -> Said
-        ensures tells { (past : List Statement) →
-            Holds self.old (record { past = past; inside = vector value }) →
-            Tells (asked_of self.old) (goes_to (change wide identifier.now value ∷ past) nothing)
-            (Holds self.new)
+        ensures tells { (past : List Statement) (letters : List ℕ) →
+            Holds self.old (record { past = past; inside = vector letters }) →
+            value ≡ ends_true letters →
+            Tells (asked_of self.old)
+            (goes_to (change wide identifier.now letters ∷ past) nothing) (Holds self.new)
             result }
         ensures kinds { result ≢ Said.Wrong Spent }
         ensures same_terms { terms_kept self.new ≡ terms_kept self.old }
@@ -316,15 +375,18 @@ impl TokenReader {
     {
         self.past.change(identifier, value);
         self.inside = Inside::Nothing;
-        Said::Nothing
+        if self.signals.is_empty() {
+            return Said::Nothing;
+        }
+        match self.signals.change(identifier, &self.letters) {
+            Ok(()) => Said::Nothing,
+            Err(_) => Said::Wrong(TraceKind::Memory),
+        }
     }
 
     // Nothing is open any more.
     fn close(&mut self)
-        ensures holds { (past : List Statement) →
-            Knows self.old.names self.old.events self.old.past past →
-            KnowsAll past self.old.needed.items →
-            AreWithin self.old.longest (asked_of self.old ∷ (terms_kept self.old).declared) →
+        ensures holds { (past : List Statement) → KnowsPast self.old past →
             Holds self.new (record { past = past; inside = nothing }) }
         ensures same_terms { terms_kept self.new ≡ terms_kept self.old }
         ensures same_names { asked_of self.new ≡ asked_of self.old }
@@ -354,6 +416,51 @@ impl TokenReader {
         }
     }
 
+    // What the tokens offer is read by definitions, and what they declare by names without one.
+    fn declare_all(&mut self) -> Result<(), AllocError>
+        ensures knows { (past : List Statement) (word : List ℕ) (tokens : List (List ℕ)) →
+            Holds self.old (record { past = past; inside = section word tokens }) →
+            OnOk result (KnowsPast self.new (var tokens ∷ past)) }
+        ensures same_terms { terms_kept self.new ≡ terms_kept self.old }
+        ensures same_names { asked_of self.new ≡ asked_of self.old }
+    {
+        self.declare()?;
+        if self.signals.is_empty() {
+            return Ok(());
+        }
+        self.declare_offered()?;
+        Ok(())
+    }
+
+    // What the tokens offer is read by definitions.
+    fn declare_offered(&mut self) -> Result<(), AllocError>
+        ensures knows { (past : List Statement) (tokens : List (List ℕ)) → IsQuiet past →
+            is_defined past ≡ false →
+            AreScopes (scopes_at past) self.old.past.scopes.prefix.items
+            self.old.past.scopes.lens.items →
+            map (λ token. token.items) self.old.tokens.items ≡ take KEPT_MAX tokens →
+            KnowsSignals self.old.names self.old.events self.old.signals past →
+            KnowOffers self.old.signals.definitions.items past self.old.needed.items →
+            OnOk result (KnowsSignals self.old.names self.old.events self.new.signals
+            (var tokens ∷ past) × KnowOffers self.old.signals.definitions.items
+            (var tokens ∷ past) self.new.needed.items) }
+        ensures needed { (past : List Statement) → KnowsAll past self.old.needed.items →
+            KnowsAll past self.new.needed.items }
+        ensures plain { map plain_of self.new.needed.items ≡ map plain_of self.old.needed.items }
+        ensures same_past { (self.new.past ≡ self.old.past)
+            × (self.new.longest ≡ self.old.longest) }
+        ensures same_terms { terms_kept self.new ≡ terms_kept self.old }
+        ensures same_names { asked_of self.new ≡ asked_of self.old }
+    {
+        let alloc = self.past.alloc;
+        let Some(offered) = offer_in(alloc, &self.past.scopes, &self.tokens)? else {
+            return Ok(());
+        };
+        self.signals.declare(alloc, &offered)?;
+        declare_offered(&mut self.needed, &offered);
+        Ok(())
+    }
+
     // Four tokens declare a proposition, an event or neither, and any other number declares none. A
     // path that is longer than each name is that of none, and isn't put together.
     fn declare(&mut self) -> Result<(), AllocError>
@@ -361,6 +468,11 @@ impl TokenReader {
             Holds self.old (record { past = past; inside = section word tokens }) →
             OnOk result (Knows self.new.names self.new.events self.new.past (var tokens ∷ past)
             × KnowsAll (var tokens ∷ past) self.new.needed.items) }
+        ensures offers { (all : List SignalDefined) (past : List Statement) →
+            KnowOffers all past self.old.needed.items → KnowOffers all past self.new.needed.items }
+        ensures plain { map plain_of self.new.needed.items ≡ map plain_of self.old.needed.items }
+        ensures same_signals { (self.new.signals ≡ self.old.signals)
+            × (self.new.tokens ≡ self.old.tokens) }
         ensures same_longest { self.new.longest ≡ self.old.longest }
         ensures same_terms { terms_kept self.new ≡ terms_kept self.old }
         ensures same_names { asked_of self.new ≡ asked_of self.old }
@@ -401,7 +513,7 @@ impl TokenReader {
         if self.tokens.as_slice().len() < 4 {
             return Said::Wrong(TraceKind::BadToken);
         }
-        match self.declare() {
+        match self.declare_all() {
             Ok(()) => {
                 self.close();
                 Said::Nothing
@@ -430,6 +542,7 @@ impl TokenReader {
             Command::Var => self.end_declaration(),
             Command::EndDefinitions => {
                 self.past.define();
+                self.signals.sift();
                 self.close();
                 Said::Nothing
             }
@@ -521,7 +634,7 @@ impl PartReader for TokenReader {
         let letter = *first;
         if self.reads_values() {
             // Most tokens are changes of one bit.
-            if is_bit(letter) && !rest.is_empty() {
+            if is_bit(letter) && !rest.is_empty() && self.signals.is_empty() {
                 self.past.change_scalar(rest, letter == b'1');
                 return Said::Nothing;
             }
@@ -544,7 +657,7 @@ impl PartReader for TokenReader {
     }
 
     fn last(&self) -> u64 {
-        self.past.events()
+        self.signals.changes.events(self.past.events())
     }
 
     fn place(&self, spot: Spot) -> u64 {

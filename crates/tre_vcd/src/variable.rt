@@ -1,7 +1,6 @@
 ghost use Rattle.std.specs.Prelude.{◌≡◌, ◌≢◌, ◌↔◌, ◌<◌, ℕ, Some, true, if◌then◌else◌, OnOk};
 ghost use Rattle.std.specs.Int.{bit_at};
-ghost use Rattle.std.specs.List.{list_all};
-ghost use Rattle.std.specs.Option.{is_some, option_or};
+ghost use Rattle.std.specs.Option.{option_or};
 ghost use Rattle.tre_vcd.specs.Kept.{identifier_kept, has_identifier, identifier_at};
 
 use std::alloc::{AllocError, Global};
@@ -103,11 +102,11 @@ pub fn set_value(values: &mut u64, bits: u64, value: bool)
     *values ^= *values & bits;
 }
 
-// Whether each of the variables is declared.
-pub fn are_declared(variables: &[Variable]) -> bool
-    ensures { result ≡ list_all (λ variable. is_some variable.identifier) variables.now }
+// Gives the bit of this number this value.
+pub fn set_bit(values: &mut u64, number: u8, value: bool)
+    requires { number < 64 }
+    ensures this { bit_at values.new number ≡ (if value then 1 else 0) }
+    ensures others { (k : ℕ) → k ≢ number → bit_at values.new k ≡ bit_at values.old k }
 {
-    variables
-        .iter()
-        .all(|variable| variable.identifier.is_some())
+    set_value(values, 1 << number, value);
 }

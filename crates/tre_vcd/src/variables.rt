@@ -1,10 +1,8 @@
 // The variables of some names.
 ghost use Rattle.std.specs.Prelude.{◌≡◌, ◌==◌, ℕ, List, length, Option, None, OnOk};
-ghost use Rattle.std.specs.List.{list_all};
-ghost use Rattle.std.specs.Option.{is_some};
 ghost use Rattle.tre_vcd.specs.Kept.{KeepsNames, IsSieveOf, AreHaving, and_declared};
 
-use crate::variable::{Variable, are_declared, having};
+use crate::variable::{Variable, having};
 use std::alloc::{AllocError, Global};
 use tre_parts::find_name;
 use tre_state::{Names, Sieve};
@@ -66,15 +64,6 @@ impl Variables {
             }
         }
         Ok(())
-    }
-
-    // Whether each of the names is declared.
-    pub fn is_all_declared(&self, names: &Names) -> bool
-        ensures { (identified : List ℕ → Option (List ℕ)) →
-            KeepsNames identified names.now self.now →
-            result ≡ list_all (λ name. is_some (identified name)) names.now }
-    {
-        self.list.as_slice().len() == names.len() && are_declared(&self.list)
     }
 
     // Whether no name is declared.

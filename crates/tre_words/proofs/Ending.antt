@@ -261,8 +261,10 @@ defaults_clean (rule ∷ rest) rows clean =
 
 rules_clean : AreClean rules
 unfolding command_line clap_on_literals
-rules_clean =
-    (refl, (refl, (refl, (refl, (refl, (refl, (refl, (refl, (refl, (refl, (refl, tt)))))))))))
+rules_clean = (
+  refl,
+  (refl, (refl, (refl, (refl, (refl, (refl, (refl, (refl, (refl, (refl, (refl, tt))))))))))),
+)
 
 check_clean : (rows : List Row) → is_given (codes "EXPR") rows ≡ true
     → check_fault shape rows false ≡ []

@@ -7,10 +7,10 @@ use Rattle.clap.specs.Words.{Row, Text, fault_of, first_of, matches_of}
 use Rattle.tre_decimal.specs.Decimal.{is_numeral}
 use Rattle.tre_decimal.specs.declared.TheConstants.{SCALE_MAX}
 use Rattle.tre_words.specs.CommandLine.{command_line}
-use Rattle.tre_words.specs.Job.{GivesJob, GivesPlain, GivesWatch, IsCount, IsJob, MayWatch, SaysJob, StandsTogether, begins_with, format_named, is_given, made_count, made_job, mode_in, number_written, watch_job}
+use Rattle.tre_words.specs.Job.{DefinesFor, GivesJob, GivesPlain, GivesWatch, IsCount, IsJob, MayWatch, SaysJob, StandsTogether, begins_with, format_named, is_given, made_count, made_job, mode_in, number_written, watch_job}
 use Rattle.tre_words.specs.declared.job.TheConstants.{COUNT_MAX, LIMIT_MAX}
 use Rattle.tre_words.specs.declared.job.Format.{Format}
-use Rattle.tre_words.specs.declared.job.Format.TheVariants.{Csv}
+use Rattle.tre_words.specs.declared.job.Format.TheVariants.{Csv, Vcd}
 use Rattle.tre_words.specs.declared.job.Job.{Job}
 use Rattle.tre_words.specs.declared.job.Mode.{Mode}
 use Rattle.tre_words.specs.declared.job.Mode.TheVariants.{Offline, Online, Show, Generate, Watch}
@@ -159,12 +159,14 @@ flags_never_watch false false file e = cc
 pub plain_from : (words : List Text) (rows : List Row) (job : Job) → rows ≡ rows_in words
     → fault_of command_line words ≡ [] → SaysJob rows job
     → StandsTogether job × (job.format ≡ Csv → is_given (codes "online") rows ≡ false)
+    × DefinesFor job.format rows
     → GivesPlain words job
 plain_from words rows job same faultless says stands = record {
   faultless = faultless;
   says = subst (λ (rows : List Row). SaysJob rows job) same says;
   together = stands.0;
   offline = λ csv. ap (is_given (codes "online")) (sym same) ∙ stands.1 csv;
+  defines = subst (DefinesFor job.format) same stands.2;
 }
 
 pub from_options : (words : List Text) (job : Job) → GivesPlain words job → IsJob job
@@ -292,7 +294,17 @@ pub apart-lets : (words : List Text) (job : Job) (format : Format) → GivesPlai
     → is_some (first_of (codes "let") (rows_in words)) ≡ true → Some format ≡ Some job.format
     → format ≢ Csv → ⊥
 apart-lets words job format gives given told other =
-    other (one_value told ∙ gives.together.lets (ap is_some (sym gives.says.lets) ∙ given))
+    let none = gives.defines.columns (λ csv. other (one_value told ∙ csv)) in
+    let false_true : true ≡ false = sym given ∙ ap is_some none in
+    cc
+
+pub apart-define : (words : List Text) (job : Job) (format : Format) → GivesPlain words job
+    → is_some (first_of (codes "define") (rows_in words)) ≡ true → Some format ≡ Some job.format
+    → format ≢ Vcd → ⊥
+apart-define words job format gives given told other =
+    let none = gives.defines.signals (λ dump. other (one_value told ∙ dump)) in
+    let false_true : true ≡ false = sym given ∙ ap is_some none in
+    cc
 
 pub apart-columns : (words : List Text) (job : Job) → GivesPlain words job
     → is_given (codes "online") (rows_in words) ≡ true → Some Csv ≡ Some job.format → ⊥

@@ -15,7 +15,7 @@ use Rattle.clap.proofs.OnLiterals.{clap_on_literals}
 use Rattle.tre_words.specs.CommandLine.{command_line}
 use Rattle.tre_words.specs.Settings.{Flag, Valued, flag_name, valued_name, IsPlain}
 use Rattle.tre_words.specs.Settings.{online_flag, show_flag, normal_flag}
-use Rattle.tre_words.specs.Settings.{format_option, input_option, limit_option, scale_option, zones_option, minus_option, let_option}
+use Rattle.tre_words.specs.Settings.{format_option, input_option, limit_option, scale_option, zones_option, minus_option, let_option, define_option}
 
 abbrev pub Pending : Type 0
 Pending = Option (Text × List Text)
@@ -58,9 +58,10 @@ valued_rule scale_option = rule_at 5
 valued_rule zones_option = rule_at 7
 valued_rule minus_option = rule_at 8
 valued_rule let_option = rule_at 9
+valued_rule define_option = rule_at 10
 
 abbrev pub text_rule : Rule
-text_rule = rule_at 10
+text_rule = rule_at 11
 
 -- ---- what a use of an option adds
 
@@ -115,6 +116,7 @@ valued_adds scale_option value rows none = adds _ _ _ rows none
 valued_adds zones_option value rows none = adds _ _ _ rows none
 valued_adds minus_option value rows none = adds _ _ _ rows none
 valued_adds let_option value rows none = adds _ _ _ rows none
+valued_adds define_option value rows none = adds _ _ _ rows none
 
 pub text_adds : (value : Text) (rows : List Row) → has_row (codes "EXPR") rows ≡ false
     → used text_rule (value ∷ []) rows
@@ -146,6 +148,7 @@ valued_faultless scale_option value rows none = once (has_row (valued_name scale
 valued_faultless zones_option value rows none = once (has_row (valued_name zones_option) rows) none
 valued_faultless minus_option value rows none = once (has_row (valued_name minus_option) rows) none
 valued_faultless let_option value rows none = once (has_row (valued_name let_option) rows) none
+valued_faultless define_option value rows none = once (has_row (valued_name define_option) rows) none
 
 pub text_faultless : (value : Text) (rows : List Row) → has_row (codes "EXPR") rows ≡ false
     → use_fault false text_rule (value ∷ []) rows ≡ []
@@ -182,6 +185,7 @@ joined_walks scale_option value rows pending position = refl
 joined_walks zones_option value rows pending position = refl
 joined_walks minus_option value rows pending position = refl
 joined_walks let_option value rows pending position = refl
+joined_walks define_option value rows pending position = refl
 
 pub apart_walks : (name : Valued) (rows : List Row) (pending : Pending) (position : ℕ)
     → walked rules names (state rows pending idle position) (codes "--" ++ valued_name name)
@@ -195,6 +199,7 @@ apart_walks scale_option rows pending position = refl
 apart_walks zones_option rows pending position = refl
 apart_walks minus_option rows pending position = refl
 apart_walks let_option rows pending position = refl
+apart_walks define_option rows pending position = refl
 
 -- a word that begins with no hyphen, or is one
 pub no_hyphen : (byte : ℕ) (rest : Text) → strip_byte 45 (byte ∷ rest) ≡ None → (byte == 45) ≡ false
@@ -215,6 +220,7 @@ hyphen_walks scale_option rows position = refl
 hyphen_walks zones_option rows position = refl
 hyphen_walks minus_option rows position = refl
 hyphen_walks let_option rows position = refl
+hyphen_walks define_option rows position = refl
 
 other_walks : (name : Valued) (value : Text) (rows : List Row) (position : ℕ)
     → strip_byte 45 value ≡ None → walked rules names
@@ -241,6 +247,9 @@ other_walks minus_option (byte ∷ rest) rows position none =
     let e = no_hyphen byte rest none in rw e (rw e refl)
 other_walks let_option [] rows position none = refl
 other_walks let_option (byte ∷ rest) rows position none =
+    let e = no_hyphen byte rest none in rw e (rw e refl)
+other_walks define_option [] rows position none = refl
+other_walks define_option (byte ∷ rest) rows position none =
     let e = no_hyphen byte rest none in rw e (rw e refl)
 
 pub value_walks : (name : Valued) (value : Text) (rows : List Row) (position : ℕ)
@@ -288,6 +297,8 @@ joined_turns minus_option value rows pending position settles none =
     both_none _ _ settles (valued_faultless minus_option value (settled_rows rules pending rows) none)
 joined_turns let_option value rows pending position settles none =
     both_none _ _ settles (valued_faultless let_option value (settled_rows rules pending rows) none)
+joined_turns define_option value rows pending position settles none =
+    both_none _ _ settles (valued_faultless define_option value (settled_rows rules pending rows) none)
 
 pub apart_turns : (name : Valued) (rows : List Row) (pending : Pending) (position : ℕ)
     → settle_fault rules false (held rows pending) ≡ []
@@ -301,6 +312,7 @@ apart_turns scale_option rows pending position settles = past_none _ settles
 apart_turns zones_option rows pending position settles = past_none _ settles
 apart_turns minus_option rows pending position settles = past_none _ settles
 apart_turns let_option rows pending position settles = past_none _ settles
+apart_turns define_option rows pending position settles = past_none _ settles
 
 hyphen_turns : (name : Valued) (rows : List Row) (position : ℕ) → turn_fault shape names
     (state rows (Some (valued_name name, [])) (option (valued_name name)) position) (codes "-")
@@ -313,6 +325,7 @@ hyphen_turns scale_option rows position = refl
 hyphen_turns zones_option rows position = refl
 hyphen_turns minus_option rows position = refl
 hyphen_turns let_option rows position = refl
+hyphen_turns define_option rows position = refl
 
 other_turns : (name : Valued) (value : Text) (rows : List Row) (position : ℕ)
     → strip_byte 45 value ≡ None → turn_fault shape names
@@ -338,6 +351,9 @@ other_turns minus_option (byte ∷ rest) rows position none =
     let e = no_hyphen byte rest none in rw e (rw e refl)
 other_turns let_option [] rows position none = refl
 other_turns let_option (byte ∷ rest) rows position none =
+    let e = no_hyphen byte rest none in rw e (rw e refl)
+other_turns define_option [] rows position none = refl
+other_turns define_option (byte ∷ rest) rows position none =
     let e = no_hyphen byte rest none in rw e (rw e refl)
 
 pub value_turns : (name : Valued) (value : Text) (rows : List Row) (position : ℕ)

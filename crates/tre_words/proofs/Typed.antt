@@ -1,6 +1,7 @@
 -- Words as they are typed give a job where that is computed: what the values of the options say is
 -- compared with the parts of the job, and what may stand together is tested.
-use Rattle.std.proofs.Common.{◌≡◌, ℕ, Bool, true, false, not, List, [], Option, Some, None, codes, refl, ap}
+use Rattle.std.proofs.Common.{◌≡◌, ◌≢◌, ℕ, Bool, true, false, not, ◌||◌, List, [], Option, Some, None, codes, refl, ap}
+use Rattle.std.specs.Option.{option_or}
 use Rattle.std.specs.Prelude.{option_and_then, option_map, is_some, is_none}
 use Rattle.clap.specs.Words.{Row, Text, fault_of, first_of, matches_of}
 use Rattle.tre_decimal.specs.declared.TheConstants.{SCALE_MAX}
@@ -38,7 +39,7 @@ values_in rows = record {
   normal = is_given (codes "normal") rows;
   max_zones = option_map (number_written 0 LIMIT_MAX) (first_of (codes "max-zones") rows);
   minus = first_of (codes "minus") rows;
-  lets = first_of (codes "let") rows;
+  lets = option_or (first_of (codes "let") rows) (first_of (codes "define") rows);
   expr = first_of (codes "EXPR") rows;
 }
 
@@ -100,14 +101,36 @@ is_csv Csv = true
 is_csv TextFormat = false
 is_csv Vcd = false
 
-csv_is : (format : Format) → is_csv format ≡ true → format ≡ Csv
-csv_is Csv e = refl
-csv_is TextFormat e = cc
-csv_is Vcd e = cc
-
 none_is : {X : Type 0} (told : Option X) → is_none told ≡ true → told ≡ None
 none_is None e = refl
 none_is (Some value) e = cc
+
+abbrev pub is_dump : Format → Bool
+is_dump Vcd = true
+is_dump TextFormat = false
+is_dump Csv = false
+
+abbrev pub is_text : Format → Bool
+is_text TextFormat = true
+is_text Vcd = false
+is_text Csv = false
+
+text_never : (format : Format) → not (is_text format) ≡ true → format ≢ TextFormat
+text_never TextFormat e is = cc
+text_never Csv e is = cc
+text_never Vcd e is = cc
+
+csv_or : (format : Format) (told : Option Text) → is_csv format || is_none told ≡ true
+    → format ≢ Csv → told ≡ None
+csv_or Csv told e other = absurd (other refl)
+csv_or TextFormat told e other = none_is told e
+csv_or Vcd told e other = none_is told e
+
+dump_or : (format : Format) (told : Option Text) → is_dump format || is_none told ≡ true
+    → format ≢ Vcd → told ≡ None
+dump_or Vcd told e other = absurd (other refl)
+dump_or TextFormat told e other = none_is told e
+dump_or Csv told e other = none_is told e
 
 never_is : (test : Bool) → not test ≡ true → test ≡ false
 never_is true e = cc
@@ -119,8 +142,10 @@ Stands rows job = (implies job.normal (is_offline job.mode) ≡ true)
     × (implies (is_some job.max_zones) job.normal ≡ true)
     × (implies (is_some job.minus) (is_offline job.mode) ≡ true)
     × (implies (is_csv job.format) (is_none job.minus) ≡ true)
-    × (implies (is_some job.lets) (is_csv job.format) ≡ true)
+    × (implies (is_some job.lets) (not (is_text job.format)) ≡ true)
     × (implies (is_csv job.format) (not (is_given (codes "online") rows)) ≡ true)
+    × (is_csv job.format || is_none (first_of (codes "let") rows) ≡ true)
+    × (is_dump job.format || is_none (first_of (codes "define") rows) ≡ true)
 
 together : (rows : List Row) (job : Job) → Stands rows job → StandsTogether job
 together rows job stands = record {
@@ -128,7 +153,7 @@ together rows job stands = record {
   max_zones = λ given. implied stands.1 given;
   minus = λ given. offline_is job.mode (implied stands.2 given);
   columns = λ csv. none_is job.minus (implied stands.3 (ap is_csv csv));
-  lets = λ given. csv_is job.format (implied stands.4 given);
+  lets = λ given. text_never job.format (implied stands.4 given);
 }
 
 -- words that pass the tests and say the job give it
@@ -141,6 +166,10 @@ typed words job faultless same stands = record {
   together = together (matches_of command_line words) job stands;
   offline = λ csv. never_is (is_given (codes "online") (matches_of command_line words))
       (implied stands.5 (ap is_csv csv));
+  defines = record {
+    columns = csv_or job.format _ stands.6;
+    signals = dump_or job.format _ stands.7;
+  };
 }
 
 -- those behind `--watch` give the watch of a job that may be one

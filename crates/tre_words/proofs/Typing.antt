@@ -14,7 +14,7 @@ use Rattle.clap.proofs.OnLiterals.{clap_on_literals}
 use Rattle.tre_words.specs.CommandLine.{command_line}
 use Rattle.tre_words.specs.Settings.{Flag, Valued, Setting, flag, joined, apart, flag_name, valued_name, name_of, value_of, words_of, value_in, AreTyped, IsPlain, IsTyped, Types}
 use Rattle.tre_words.specs.Settings.{online_flag, show_flag, normal_flag}
-use Rattle.tre_words.specs.Settings.{format_option, input_option, limit_option, scale_option, zones_option, minus_option, let_option}
+use Rattle.tre_words.specs.Settings.{format_option, input_option, limit_option, scale_option, zones_option, minus_option, let_option, define_option}
 use Rattle.tre_words.proofs.Settings.{Pending, held, state, shape, rules, names, flag_rule, valued_rule, text_rule, new_row, flag_adds, valued_adds, text_adds, valued_faultless, text_faultless, flag_walks, joined_walks, apart_walks, value_walks, flag_turns, joined_turns, apart_turns, value_turns, no_hyphen}
 
 abbrev pub rule_of : Setting → Rule
@@ -59,6 +59,7 @@ valued_settles scale_option value rows = refl
 valued_settles zones_option value rows = refl
 valued_settles minus_option value rows = refl
 valued_settles let_option value rows = refl
+valued_settles define_option value rows = refl
 
 valued_clean : (name : Valued) (value : Text) (rows : List Row)
     → has_row (valued_name name) rows ≡ false
@@ -71,6 +72,7 @@ valued_clean scale_option value rows none = valued_faultless scale_option value 
 valued_clean zones_option value rows none = valued_faultless zones_option value rows none
 valued_clean minus_option value rows none = valued_faultless minus_option value rows none
 valued_clean let_option value rows none = valued_faultless let_option value rows none
+valued_clean define_option value rows none = valued_faultless define_option value rows none
 
 one : (setting : Setting) (rows : List Row) (pending : Pending) (from : ℕ) (found : List Row)
     → settled_rows rules pending rows ≡ found → settle_fault rules false (held rows pending) ≡ []
@@ -325,6 +327,7 @@ valued_not scale_option = refl
 valued_not zones_option = refl
 valued_not minus_option = refl
 valued_not let_option = refl
+valued_not define_option = refl
 
 pub setting_not : (setting : Setting) → bytes_eq (name_of setting) (codes "EXPR") ≡ false
 setting_not (flag name) = flag_not name

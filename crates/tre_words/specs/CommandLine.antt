@@ -41,5 +41,6 @@ command_line =
     ∷ option_rule (codes "max-zones")
     ∷ option_rule (codes "minus")
     ∷ option_rule (codes "let")
+    ∷ option_rule (codes "define")
     ∷ operand_rule (codes "EXPR")
     ∷ [])

@@ -1,6 +1,6 @@
 -- What the words of the command line ask for.
 use Rattle.std.specs.Prelude.{◌≡◌, ◌≢◌, ℕ, ◌≤◌, nat_le, Bool, true, false, MatchBool, ◌&&◌, List, [], ◌∷◌, Option, None, Some, IfSome, is_some, codes, drop, option_and_then, option_map, if◌then◌else◌}
-use Rattle.std.specs.Option.{option_map_or}
+use Rattle.std.specs.Option.{option_map_or, option_or}
 use Rattle.std.specs.Str.{bytes_eq}
 use Rattle.std.specs.Str.Parse.{digits_value}
 use Rattle.clap.specs.Words.{Row, Text, fault_of, first_of, matches_of}
@@ -27,7 +27,7 @@ pub record StandsTogether (job : Job) : Type 0 where
   pub max_zones : is_some job.max_zones ≡ true → job.normal ≡ true
   pub minus : is_some job.minus ≡ true → job.mode ≡ Offline
   pub columns : job.format ≡ Csv → job.minus ≡ None
-  pub lets : is_some job.lets ≡ true → job.format ≡ Csv
+  pub lets : is_some job.lets ≡ true → job.format ≢ TextFormat
 
 -- What is true of each job that words give: its numbers are within their limits, and what it has
 -- may stand together. Columns aren't read online, and not in a watch.
@@ -96,8 +96,14 @@ pub record SaysJob (rows : List Row) (job : Job) : Type 0 where
       option_map (number_written 0 LIMIT_MAX) (first_of (codes "max-zones") rows)
       ≡ option_map Some job.max_zones
   pub minus : first_of (codes "minus") rows ≡ job.minus
-  pub lets : first_of (codes "let") rows ≡ job.lets
+  pub lets : option_or (first_of (codes "let") rows) (first_of (codes "define") rows) ≡ job.lets
   pub expr : first_of (codes "EXPR") rows ≡ Some job.expr
+
+-- Names are defined only as the format has them: by its columns with `--let`, or by the signals of
+-- a dump with `--define`.
+pub record DefinesFor (format : Format) (rows : List Row) : Type 0 where
+  pub columns : format ≢ Csv → first_of (codes "let") rows ≡ None
+  pub signals : format ≢ Vcd → first_of (codes "define") rows ≡ None
 
 -- Words that are options and a pattern's text give this job: `clap` has no fault of its own for
 -- them, the values of the options that it finds say this job, and it may stand so. Columns stand
@@ -108,6 +114,7 @@ pub record GivesPlain (words : List Text) (job : Job) : Type 0 where
   pub together : StandsTogether job
   pub offline :
       job.format ≡ Csv → is_given (codes "online") (matches_of command_line words) ≡ false
+  pub defines : DefinesFor job.format (matches_of command_line words)
 
 -- ---- watches
 

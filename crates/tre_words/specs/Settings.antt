@@ -20,6 +20,7 @@ pub data Valued : Type 0 where
   zones_option : Valued
   minus_option : Valued
   let_option : Valued
+  define_option : Valued
 
 abbrev pub flag_name : Flag → Text
 flag_name online_flag = codes "online"
@@ -34,6 +35,7 @@ valued_name scale_option = codes "scale"
 valued_name zones_option = codes "max-zones"
 valued_name minus_option = codes "minus"
 valued_name let_option = codes "let"
+valued_name define_option = codes "define"
 
 -- An option as it is typed: `--name`, `--name=value`, or `--name value`.
 pub data Setting : Type 0 where

@@ -57,6 +57,7 @@ fn command_line<'a>(alloc: Global) -> Result<Command<'a>, AllocError>
         .arg(option(alloc, "max-zones"))?
         .arg(option(alloc, "minus"))?
         .arg(option(alloc, "let"))?
+        .arg(option(alloc, "define"))?
         .arg(operand(alloc, "EXPR"))?;
     Ok(command)
 }

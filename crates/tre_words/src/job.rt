@@ -92,7 +92,7 @@ pub struct Job {
     pub max_zones: Option<u64>,
     /// The text of a pattern whose matches are taken away.
     pub minus: Option<Word>,
-    /// The text of the definitions of names by columns.
+    /// The text of the definitions of names, by columns or by the signals of a dump.
     pub lets: Option<Word>,
     /// The pattern's text; empty where the run has patterns of its own or of a file.
     pub expr: Word,

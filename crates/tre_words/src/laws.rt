@@ -47,6 +47,11 @@ pub fn typed_options()
         (codes "--format" ∷ codes "csv" ∷ codes "--let" ∷ codes "" ∷ codes "p" ∷ [])
         (record (plain_job Offline (codes "-") (codes "p"))
         { format = Csv; lets = Some [] }) }
+    ensures signals { GivesJob
+        (codes "--format" ∷ codes "vcd" ∷ codes "--define" ∷ codes "d" ∷ codes "--online"
+        ∷ codes "p" ∷ [])
+        (record (plain_job Online (codes "-") (codes "p"))
+        { format = Vcd; lets = Some (codes "d") }) }
 {}
 
 /// Options that give no job beside each other.
@@ -56,6 +61,11 @@ pub fn options_apart()
     ensures minus { GivesNoJob
         (codes "--minus" ∷ codes "q" ∷ codes "--show" ∷ codes "p" ∷ []) }
     ensures lets { GivesNoJob (codes "--let" ∷ codes "" ∷ codes "p" ∷ []) }
+    ensures lets_of_a_dump { GivesNoJob
+        (codes "--let" ∷ codes "" ∷ codes "--format" ∷ codes "vcd" ∷ codes "p" ∷ []) }
+    ensures signals { GivesNoJob (codes "--define" ∷ codes "" ∷ codes "p" ∷ []) }
+    ensures signals_of_columns { GivesNoJob
+        (codes "--define" ∷ codes "" ∷ codes "--format=csv" ∷ codes "p" ∷ []) }
     ensures columns { GivesNoJob
         (codes "--format=csv" ∷ codes "--online" ∷ codes "--show" ∷ codes "p" ∷ []) }
 {}
@@ -68,6 +78,11 @@ pub fn typed_watches()
         (codes "--watch" ∷ codes "--format" ∷ codes "vcd" ∷ codes "--input" ∷ codes "x"
         ∷ codes "f" ∷ [])
         (watch_job (record (plain_job Offline (codes "x") (codes "f")) { format = Vcd })) }
+    ensures signals { GivesJob
+        (codes "--watch" ∷ codes "--format" ∷ codes "vcd" ∷ codes "--define" ∷ codes "d"
+        ∷ codes "f" ∷ [])
+        (watch_job (record (plain_job Offline (codes "-") (codes "f"))
+        { format = Vcd; lets = Some (codes "d") })) }
 {}
 
 /// Words behind `--watch` that give no job.

@@ -1,5 +1,6 @@
 // What the values of the options say.
 ghost use Rattle.std.specs.Prelude.{◌≡◌, ◌≤◌, ◌<◌, ◌^◌, ◌-◌, IfOk, IsErrOf, IfSome, Some, None, codes, option_and_then, option_map};
+ghost use Rattle.std.specs.Option.{option_or};
 ghost use Rattle.clap.specs.Words.{found_of, rows_of, first_of};
 ghost use Rattle.tre_decimal.specs.declared.TheConstants.{SCALE_MAX};
 ghost use Rattle.tre_words.specs.Job.{mode_in, format_named, number_written, SaysJob};
@@ -99,6 +100,18 @@ fn word_in(alloc: Global, matches: &ArgMatches, name: &str) -> Result<Option<Wor
     }
 }
 
+// The text of the definitions of names, by columns or by the signals of a dump.
+fn lets_in(alloc: Global, matches: &ArgMatches) -> Result<Option<Word>, AllocError>
+    ensures { IfOk result (λ word. option_or
+        (first_of (codes "let") (rows_of (found_of matches.now)))
+        (first_of (codes "define") (rows_of (found_of matches.now))) ≡ word) }
+{
+    match word_in(alloc, matches, "let")? {
+        Some(text) => Ok(Some(text)),
+        None => word_in(alloc, matches, "define"),
+    }
+}
+
 // The job that the values of the options say, where they say one.
 pub(crate) fn job_in(alloc: Global, matches: &ArgMatches) -> Result<Job, WordsFault>
     ensures ok { IfOk result (SaysJob (rows_of (found_of matches.now))) }
@@ -132,7 +145,7 @@ pub(crate) fn job_in(alloc: Global, matches: &ArgMatches) -> Result<Job, WordsFa
         normal: is_given(matches, "normal"),
         max_zones,
         minus: word_in(alloc, matches, "minus")?,
-        lets: word_in(alloc, matches, "let")?,
+        lets: lets_in(alloc, matches)?,
         expr: Word::new(alloc, expr)?,
     })
 }

@@ -1,11 +1,11 @@
 // The words of the command line.
 ghost use Rattle.std.specs.Prelude.{◌≡◌, ◌↔◌, map, string_bytes, IfOk, IsErrOf, Some, None, true, false, codes, option_map};
 ghost use Rattle.clap.specs.Words.{found_of, rows_of};
-ghost use Rattle.tre_words.specs.Job.{begins_with, is_given, made_count, made_job, watch_job, StandsTogether, IsJob, MayWatch, GivesPlain, GivesWatch, GivesJob, GivesNoJob};
+ghost use Rattle.tre_words.specs.Job.{begins_with, is_given, made_count, made_job, watch_job, DefinesFor, StandsTogether, IsJob, MayWatch, GivesPlain, GivesWatch, GivesJob, GivesNoJob};
 ghost use Rattle.tre_words.specs.declared.job.Format.TheVariants.{Csv};
 ghost use Rattle.tre_words.specs.declared.job.Job.{Job};
 
-use crate::command_line::{is_given, parse_words};
+use crate::command_line::{is_given, parse_words, value_of};
 use crate::job::{COUNT_MAX, Format, Job, LIMIT_DEFAULT, Mode, Word, WordsFault};
 use crate::values::{job_in, number_written};
 use clap::ArgMatches;
@@ -26,18 +26,29 @@ fn stands_together(job: &Job) -> bool
     if columns {
         return job.minus.is_none();
     }
-    job.lets.is_none()
+    job.lets.is_none() || job.format == Format::Vcd
+}
+
+// Whether names are defined only as the format has them.
+fn defines_for(format: Format, matches: &ArgMatches) -> bool
+    ensures { result ≡ true ↔ DefinesFor format (rows_of (found_of matches.now)) }
+{
+    if format != Format::Csv && value_of(matches, "let").is_some() {
+        return false;
+    }
+    format == Format::Vcd || value_of(matches, "define").is_none()
 }
 
 // Whether what the values of the options say may stand so.
 fn may_stand(matches: &ArgMatches, job: &Job) -> bool
     ensures { result ≡ true ↔ StandsTogether job.now × (job.now.format ≡ Csv →
-        is_given (codes "online") (rows_of (found_of matches.now)) ≡ false) }
+        is_given (codes "online") (rows_of (found_of matches.now)) ≡ false)
+        × DefinesFor job.now.format (rows_of (found_of matches.now)) }
 {
     if job.format == Format::Csv && is_given(matches, "online") {
         return false;
     }
-    stands_together(job)
+    defines_for(job.format, matches) && stands_together(job)
 }
 
 // Reads words that `clap` reads.
@@ -147,8 +158,9 @@ fn read_made_run(alloc: Global, words: &[String]) -> Result<Job, WordsFault>
 
 /// Reads the words after the program's name, which are
 /// `[--online] [--show] [--format text|vcd|csv] [--input NAME] [--max-bytes N] [--scale K]
-/// [--normal] [--max-zones L] [--minus EXPR2] [--let TEXT] EXPR`, or `--generate K`, or
-/// `--watch [--format text|vcd] [--input NAME] [--max-bytes N] [--scale K] FILE`.
+/// [--normal] [--max-zones L] [--minus EXPR2] [--let TEXT] [--define TEXT] EXPR`, or
+/// `--generate K`, or
+/// `--watch [--format text|vcd] [--input NAME] [--max-bytes N] [--scale K] [--define TEXT] FILE`.
 pub fn read_words(alloc: Global, words: &[String]) -> Result<Job, WordsFault>
     ensures ok { IfOk result (GivesJob (map string_bytes words.now)) }
     ensures is_job { IfOk result IsJob }

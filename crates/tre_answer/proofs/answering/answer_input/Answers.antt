@@ -12,7 +12,7 @@ pub returns-in_err-input-in-Text-clause-ends : goal.returns-in_err-input-in-Text
 returns-in_err-input-in-Text-clause-ends g c =
     let p = err_from_is_err_and c.from_residual.result
     c.from_residual.ensures.1 in
-    rw (p.1, p.2) (EndsOver-early c.args.job.now c.args.definitions.items c.args.asked.now
+    rw (p.1, p.2) (EndsOver-early c.args.job.now c.args.definitions c.args.asked.now
     _ _ c.requires.closed refl (record { unwritten = refl; writes = refl }))
 
 pub answer_by-requires-clause-input : goal.answer_by-requires-clause-input
@@ -23,8 +23,8 @@ answer_by-requires-clause-input g c = record {
 
 pub returns-in_ok-input-in-Text-clause-ends : goal.returns-in_ok-input-in-Text-clause-ends
 returns-in_ok-input-in-Text-clause-ends g c =
-    c.answer_by.ensures.ends c.args.definitions.items (text_says c.args.job.now
-    c.args.definitions.items c.args.asked.now c.requires.fits c.in-Text.is
+    c.answer_by.ensures.ends c.args.definitions (text_says c.args.job.now
+    c.args.definitions c.args.asked.now c.requires.fits c.in-Text.is
     c.in_ok-input-in-Text.ensures.recording)
 
 -- ---- dumps
@@ -33,7 +33,7 @@ pub returns-in_err-input-in-Vcd-clause-ends : goal.returns-in_err-input-in-Vcd-c
 returns-in_err-input-in-Vcd-clause-ends g c =
     let p = err_from_is_err_and c.from_residual-in_err-input-in-Vcd.result
     c.from_residual-in_err-input-in-Vcd.ensures.1 in
-    rw (p.1, p.2) (EndsOver-early c.args.job.now c.args.definitions.items c.args.asked.now
+    rw (p.1, p.2) (EndsOver-early c.args.job.now c.args.definitions c.args.asked.now
     _ _ c.requires.closed refl (record { unwritten = refl; writes = refl }))
 
 pub answer_by-requires-in-Vcd-clause-input : goal.answer_by-requires-in-Vcd-clause-input
@@ -44,9 +44,9 @@ answer_by-requires-in-Vcd-clause-input g c = record {
 
 pub returns-in_ok-input-in-Vcd-clause-ends : goal.returns-in_ok-input-in-Vcd-clause-ends
 returns-in_ok-input-in-Vcd-clause-ends g c =
-    c.answer_by-in-Vcd.ensures.ends c.args.definitions.items (dump_says c.args.job.now
-    c.args.definitions.items c.args.asked.now c.requires.fits _ c.deref-in-Vcd.ensures.value
-    c.in-Vcd.is c.in_ok-input-in-Vcd.ensures.recording)
+    c.answer_by-in-Vcd.ensures.ends c.args.definitions (dump_says c.args.job.now
+    c.args.definitions c.args.asked.now c.requires.fits _ _ c.deref-in-Vcd.ensures.value
+    c.deref-in-Vcd-2.ensures.value c.in-Vcd.is c.in_ok-input-in-Vcd.ensures.recording)
 
 -- ---- columns
 
@@ -54,7 +54,7 @@ pub returns-in_err-input-in-Csv-clause-ends : goal.returns-in_err-input-in-Csv-c
 returns-in_err-input-in-Csv-clause-ends g c =
     let p = err_from_is_err_and c.from_residual-in_err-input-in-Csv.result
     c.from_residual-in_err-input-in-Csv.ensures.1 in
-    rw (p.1, p.2) (EndsOver-early c.args.job.now c.args.definitions.items c.args.asked.now
+    rw (p.1, p.2) (EndsOver-early c.args.job.now c.args.definitions c.args.asked.now
     _ _ c.requires.closed refl (record { unwritten = refl; writes = refl }))
 
 pub answer_by-requires-in-Csv-clause-input : goal.answer_by-requires-in-Csv-clause-input
@@ -71,6 +71,6 @@ pub returns-in_ok-input-in-Csv-clause-ends : goal.returns-in_ok-input-in-Csv-cla
 returns-in_ok-input-in-Csv-clause-ends g c =
     let first = get_or_read c.args.asked.now.patterns.items 0 c.index-pattern.result.now
     c.requires.fits.some c.index-pattern.ensures c.index-pattern.result.now in
-    c.answer_by-in-Csv.ensures.ends c.args.definitions.items (rows_says c.args.job.now
-    c.args.definitions.items c.args.asked.now c.requires.fits c.index-pattern.result.now first c.in-Csv.is
+    c.answer_by-in-Csv.ensures.ends c.args.definitions (rows_says c.args.job.now
+    c.args.definitions c.args.asked.now c.requires.fits c.index-pattern.result.now first c.in-Csv.is
     c.in_ok-input-in-Csv.ensures.recording)

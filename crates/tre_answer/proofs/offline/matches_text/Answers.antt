@@ -10,7 +10,7 @@ use Rattle.tre_answer.proofs.offline.matches_text.Goals as goal
 pub returns-in_err-traces-clause-stops : goal.returns-in_err-traces-clause-stops
 returns-in_err-traces-clause-stops g c =
     let p = err_from_is_err_and c.from_residual.result c.from_residual.ensures.1 in
-    λ lets same. rw (p.1, p.2) (StopsAs-input _ _ c.requires.offline _ _ _
+    λ definitions same. rw (p.1, p.2) (StopsAs-input _ _ c.requires.offline _ _ _
     c.in_err-traces.field-0.0 same c.requires.input.limit c.text.ensures
     c.in_err-traces.ensures.stops)
 
@@ -23,14 +23,14 @@ pub returns-in_err-found-clause-stops : goal.returns-in_err-found-clause-stops
 returns-in_err-found-clause-stops g c =
     let p = err_from_is_err_and c.from_residual-in_err-found.result
     c.from_residual-in_err-found.ensures.1 in
-    λ lets same. rw (p.1, p.2)
+    λ definitions same. rw (p.1, p.2)
     (StopsAs-wanting _ _ c.requires.offline (c.in_ok-traces.ensures.read _ c.requires.input.asks).reads)
 
 pub returns-in_err-zones-clause-stops : goal.returns-in_err-zones-clause-stops
 returns-in_err-zones-clause-stops g c =
     let p = err_from_is_err_and c.from_residual-in_err-zones.result
     c.from_residual-in_err-zones.ensures.1 in
-    λ lets same. rw (p.1, p.2)
+    λ definitions same. rw (p.1, p.2)
     (StopsAs-wanting _ _ c.requires.offline (c.in_ok-traces.ensures.read _ c.requires.input.asks).reads)
 
 pub returns-in_err-check_count-clause-stops : goal.returns-in_err-check_count-clause-stops
@@ -49,7 +49,7 @@ returns-in_err-check_count-clause-stops g c =
       c.requires.fits.some,
     ) in
     let over = rw c.deref-2.ensures.value at c.in_err-check_count.ensures.over in
-    λ lets same. rw (p.1, p.2, c.in_err-check_count.ensures.fault, c.deref-2.ensures.value)
+    λ definitions same. rw (p.1, p.2, c.in_err-check_count.ensures.fault, c.deref-2.ensures.value)
     (StopsAs-over _ _ c.in_ok-found.found.set c.in_ok-zones.zones.items c.in_ok-found.found.end
     (IsFound-whole _ _ _ _ c.in_ok-traces.traces.items _ _ _ same c.requires.input.limit read some
     (rw c.deref.ensures.value at c.in_ok-found.ensures.set labels labelled)
@@ -61,7 +61,7 @@ pub returns-in_err-text-clause-stops : goal.returns-in_err-text-clause-stops
 returns-in_err-text-clause-stops g c =
     let p = err_from_is_err_and c.from_residual-in_err-text.result
     c.from_residual-in_err-text.ensures.1 in
-    λ lets same. rw (p.1, p.2)
+    λ definitions same. rw (p.1, p.2)
     (StopsAs-wanting _ _ c.requires.offline (c.in_ok-traces.ensures.read _ c.requires.input.asks).reads)
 
 pub returns-clause-found : goal.returns-clause-found
@@ -77,7 +77,7 @@ returns-clause-found g c =
       length-map patterns names_of,
       c.requires.fits.some,
     ) in
-    λ lets same. IsFoundFor-text _ _ c.in_ok-found.found.set c.in_ok-zones.zones.items
+    λ definitions same. IsFoundFor-text _ _ c.in_ok-found.found.set c.in_ok-zones.zones.items
     c.in_ok-found.found.end
     (IsFound-whole _ _ _ _ c.in_ok-traces.traces.items _ _ _ same c.requires.input.limit read some
     (rw c.deref.ensures.value at c.in_ok-found.ensures.set labels labelled)

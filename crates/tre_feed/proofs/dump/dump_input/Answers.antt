@@ -36,13 +36,13 @@ returns-clause-asks c = c.in_ok-input.ensures.asks (map names_of c.args.patterns
 
 pub returns-clause-new : goal.returns-clause-new
 returns-clause-new c = c.in_ok-input.ensures.new
-    (dump_terms (needs c.in_ok-needed.needed.value ∷ []) c.args.scale)
+    (dump_terms (needs c.in_ok-needed.needed.value ∷ []) c.args.scale c.args.definitions.now)
     c.in_ok-readers.ensures.fresh
 
 pub returns-clause-recording : goal.returns-clause-recording
 returns-clause-recording c =
     c.in_ok-input.ensures.recording
-    (dump_terms (needs c.in_ok-needed.needed.value ∷ []) c.args.scale)
+    (dump_terms (needs c.in_ok-needed.needed.value ∷ []) c.args.scale c.args.definitions.now)
     c.in_ok-readers.ensures.fresh
-    ∙ needs-alike (needs c.in_ok-needed.needed.value) (map names_of c.args.patterns.now) c.args.scale
-    c.in_ok-needed.ensures
+    ∙ needs-alike (needs c.in_ok-needed.needed.value) (map names_of c.args.patterns.now)
+    c.args.scale c.args.definitions.now c.in_ok-needed.ensures.needs

@@ -1,7 +1,7 @@
-use Rattle.std.proofs.Common.{◌∙◌, ap, refl, subst, sym, arith}
+use Rattle.std.proofs.Common.{◌∙◌, ap, refl, sym, arith}
 use Rattle.std.proofs.lemmas.Result.{err_from_is_err_and}
 use Rattle.tre_words.specs.declared.job.Mode.TheVariants.{Watch}
-use Rattle.tre_tool.proofs.Asking.{StopsAsking-memory, StopsAsking-texts, StopsAsking-watch, nothing_taken, named_so, patterns_of_texts}
+use Rattle.tre_tool.proofs.Asking.{StopsAsking-definitions, StopsAsking-memory, StopsAsking-texts, StopsAsking-watch, nothing_taken, named_so, patterns_of_texts}
 use Rattle.tre_tool.proofs.asked.asked_by.Goals as goal
 
 -- ---- a made run
@@ -18,7 +18,7 @@ returns-in_ok-question-in-Generate-clause-asks g c =
         columns = λ columns. made.alone;
       };
       alone = λ unread. made.alone;
-      defines = rw c.in-Generate.is made.definitions;
+      defines = rw c.in-Generate.is (made.columns, made.signals);
       good = refl;
     }
 
@@ -32,8 +32,9 @@ returns-in_err-question-in-Generate-clause-stops g c =
 
 -- ---- a watch
 
-pub returns-in_ok-asked-in-Watch-clause-asks : goal.returns-in_ok-asked-in-Watch-clause-asks
-returns-in_ok-asked-in-Watch-clause-asks g c =
+pub returns-in_ok-definitions-in-Watch-clause-asks :
+    goal.returns-in_ok-definitions-in-Watch-clause-asks
+returns-in_ok-definitions-in-Watch-clause-asks g c =
     let read = c.in_ok-asked-in-Watch.ensures in
     record {
       patterns = rw c.in-Watch.is read.patterns;
@@ -43,19 +44,42 @@ returns-in_ok-asked-in-Watch-clause-asks g c =
         columns = λ columns. absurd (c.requires.job.watched _ c.in-Watch.is columns);
       };
       alone = λ unread. absurd (unread (rw c.in-Watch.is tt));
-      defines = rw c.in-Watch.is c.new.ensures.items;
+      defines = c.in_ok-definitions-in-Watch.ensures.defines;
       good = read.good;
     }
 
-pub returns-in_ok-asked-in-Watch-clause-untouched :
-    goal.returns-in_ok-asked-in-Watch-clause-untouched
-returns-in_ok-asked-in-Watch-clause-untouched g c =
+pub returns-in_ok-definitions-in-Watch-clause-untouched :
+    goal.returns-in_ok-definitions-in-Watch-clause-untouched
+returns-in_ok-definitions-in-Watch-clause-untouched g c =
     λ unread. absurd (unread (rw c.in-Watch.is tt))
 
-pub returns-in_ok-asked-in-Watch-clause-by_name : goal.returns-in_ok-asked-in-Watch-clause-by_name
-returns-in_ok-asked-in-Watch-clause-by_name g c =
+pub returns-in_ok-definitions-in-Watch-clause-by_name :
+    goal.returns-in_ok-definitions-in-Watch-clause-by_name
+returns-in_ok-definitions-in-Watch-clause-by_name g c =
     λ opened name watches. named_so c.args.job.now.mode _ c.text.result.now name _ c.in-Watch.is
-    c.text.ensures (c.in_ok-asked-in-Watch.ensures.by_name opened) watches
+    c.text.ensures (c.asked_of_checks.ensures.by_name opened) watches
+
+pub returns-in_err-definitions-in-Watch-clause-stops :
+    goal.returns-in_err-definitions-in-Watch-clause-stops
+returns-in_err-definitions-in-Watch-clause-stops g c =
+    let p = err_from_is_err_and c.from_residual-in_err-definitions-in-Watch.result
+    c.from_residual-in_err-definitions-in-Watch.ensures.1 in
+    let read = c.in_ok-asked-in-Watch.ensures in
+    rw (p.1, p.2) (StopsAsking-definitions c.args.job.now _
+    c.in_err-definitions-in-Watch.field-0.0 _ c.text.result.now
+    (c.in-Watch.is ∙ ap Watch (sym c.text.ensures))
+    c.in_err-definitions-in-Watch.ensures.refuses read.patterns read.good)
+
+pub returns-in_err-definitions-in-Watch-clause-untouched :
+    goal.returns-in_err-definitions-in-Watch-clause-untouched
+returns-in_err-definitions-in-Watch-clause-untouched g c =
+    λ unread. absurd (unread (rw c.in-Watch.is tt))
+
+pub returns-in_err-definitions-in-Watch-clause-by_name :
+    goal.returns-in_err-definitions-in-Watch-clause-by_name
+returns-in_err-definitions-in-Watch-clause-by_name g c =
+    λ opened name watches. named_so c.args.job.now.mode _ c.text.result.now name _ c.in-Watch.is
+    c.text.ensures (c.asked_of_checks.ensures.by_name opened) watches
 
 pub returns-in_err-asked-in-Watch-clause-stops : goal.returns-in_err-asked-in-Watch-clause-stops
 returns-in_err-asked-in-Watch-clause-stops g c =

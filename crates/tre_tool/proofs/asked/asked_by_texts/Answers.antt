@@ -1,6 +1,7 @@
 use Rattle.std.proofs.Common.{[], ◌∷◌}
 use Rattle.std.proofs.lemmas.Result.{err_from_is_err_and}
 use Rattle.tre_tool.specs.Parts.{plain_sought, patterns_with}
+use Rattle.tre_tool.proofs.Definings.{IsRefusalOf-definitions}
 use Rattle.tre_tool.proofs.Texts.{IsRefusalOf-first, Spell-read}
 use Rattle.tre_tool.proofs.asked.asked_by_texts.Goals as goal
 
@@ -18,8 +19,8 @@ returns-in_err-definitions-clause-refuses c =
     let p = err_from_is_err_and c.from_residual-in_err-definitions.result
     c.from_residual-in_err-definitions.ensures.1 in
     let pattern = c.in_ok-pattern.pattern in
-    rw (p.1, p.2) (λ never. c.in_err-definitions.ensures.refuses never
-    (patterns_with pattern c.in_ok-taken.taken)
+    rw (p.1, p.2) (λ never. IsRefusalOf-definitions c.args.job.now _
+    (patterns_with pattern c.in_ok-taken.taken) (c.in_err-definitions.ensures.refuses never)
     (c.in_ok-taken.ensures.spells pattern
     (Spell-read c.args.job.now pattern c.text.result.now c.text.ensures
     c.in_ok-pattern.ensures.outcome)))

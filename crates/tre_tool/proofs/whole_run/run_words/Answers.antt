@@ -56,7 +56,7 @@ returns-in_err-answer-clause-ends g c =
     c.from_residual-in_err-answer.ensures.1 in
     let question = c.in_ok-question.question in
     let found = c.in_ok-question.ensures.asks in
-    let asks = AsksFor-of _ _ c.in_ok-job.job question.definitions.items question.asked
+    let asks = AsksFor-of _ _ c.in_ok-job.job question.definitions question.asked
     c.in_ok-job.ensures.ok found.patterns found.defines in
     rw (p.1, p.2) (EndsAs-answered _ _ _ _ _ c.in_err-answer.field-0.0 asks found.good
     c.in_err-answer.ensures.ends)
@@ -65,7 +65,7 @@ pub returns-in_err-answer-clause-untouched : goal.returns-in_err-answer-clause-u
 returns-in_err-answer-clause-untouched g c =
     let question = c.in_ok-question.question in
     let found = c.in_ok-question.ensures.asks in
-    let asks = AsksFor-of _ _ c.in_ok-job.job question.definitions.items question.asked
+    let asks = AsksFor-of _ _ c.in_ok-job.job question.definitions question.asked
     c.in_ok-job.ensures.ok found.patterns found.defines in
     λ nothing. absurd (nothing_asked _ (job_unique (map string_bytes c.args.words.now)) _ _
     (read_as_told _) _ asks nothing)
@@ -108,7 +108,7 @@ pub returns-clause-ends : goal.returns-clause-ends
 returns-clause-ends g c =
     let question = c.in_ok-question.question in
     let found = c.in_ok-question.ensures.asks in
-    let asks = AsksFor-of _ _ c.in_ok-job.job question.definitions.items question.asked
+    let asks = AsksFor-of _ _ c.in_ok-job.job question.definitions question.asked
     c.in_ok-job.ensures.ok found.patterns found.defines in
     EndsAs-done _ _ _ _ _ asks c.in_ok-answer.ensures.ends
 
@@ -116,7 +116,7 @@ pub returns-clause-untouched : goal.returns-clause-untouched
 returns-clause-untouched g c =
     let question = c.in_ok-question.question in
     let found = c.in_ok-question.ensures.asks in
-    let asks = AsksFor-of _ _ c.in_ok-job.job question.definitions.items question.asked
+    let asks = AsksFor-of _ _ c.in_ok-job.job question.definitions question.asked
     c.in_ok-job.ensures.ok found.patterns found.defines in
     λ nothing. absurd (nothing_asked _ (job_unique (map string_bytes c.args.words.now)) _ _
     (read_as_told _) _ asks nothing)

@@ -1,9 +1,22 @@
-use Rattle.std.proofs.Common.{◌∙◌, map, sym}
-use Rattle.tre_vcd.proofs.Gathering.{has-all, has-map}
+use Rattle.std.proofs.Common.{map, sym}
+use Rattle.tre_vcd.proofs.Gathering.{named-is, sorted-defined, wanted-defined}
 use Rattle.tre_vcd.proofs.needed.add.Goals as goal
 
-pub returns-then-contains : goal.returns-then-contains
-returns-then-contains c = λ test.
-    let keys = c.args.set.now.keys in
-    sym (has-all test c.args.name.now (map _ keys)
-    (has-map _ c.args.name.now keys ∙ sym c.contains.ensures ∙ c.if-contains.true))
+pub returns-in_err-add_definition-in-Some-clause-sorted : goal.returns-in_err-add_definition-in-Some-clause-sorted
+returns-in_err-add_definition-in-Some-clause-sorted c = λ sorted.
+    sorted-defined c.args.definitions.now (map _ c.args.set.now.keys) c.args.defined.now.items
+    c.add_definition.new.defined.items c.in-Some.definition.now c.args.name.now
+    (sym c.in-Some.ensures) c.add_definition.ensures.either sorted
+
+pub returns-in_ok-add_definition-in-Some-clause-joins : goal.returns-in_ok-add_definition-in-Some-clause-joins
+returns-in_ok-add_definition-in-Some-clause-joins c =
+    wanted-defined (map _ c.args.set.now.keys) c.args.defined.now.items
+    c.add_definition.new.defined.items c.args.name.now c.in-Some.definition.now.name
+    (named-is c.args.name.now c.in-Some.definition.now c.args.definitions.now
+    (sym c.in-Some.ensures)) c.in_ok-add_definition-in-Some.ensures.joins
+
+pub returns-in_ok-add_definition-in-Some-clause-sorted : goal.returns-in_ok-add_definition-in-Some-clause-sorted
+returns-in_ok-add_definition-in-Some-clause-sorted c = λ sorted.
+    sorted-defined c.args.definitions.now (map _ c.args.set.now.keys) c.args.defined.now.items
+    c.add_definition.new.defined.items c.in-Some.definition.now c.args.name.now
+    (sym c.in-Some.ensures) c.add_definition.ensures.either sorted

@@ -1,23 +1,32 @@
 use Rattle.std.proofs.Common.{◌<◌, [], length, map, arith}
 use Rattle.std.proofs.lemmas.Option.{slice_get-get_or}
+use Rattle.tre_vcd.specs.Sorted.{wanted}
 use Rattle.tre_vcd.proofs.Gathering.{joins-none, joins-more, joins-all}
 use Rattle.tre_vcd.proofs.needed.add_all.Goals as goal
 
 pub loop-number-init : goal.loop-number-init
-loop-number-init c = joins-none (map _ c.args.set.now.keys)
+loop-number-init c = record {
+  joins = joins-none (wanted (map _ c.args.set.now.keys) c.args.defined.now.items);
+  sorted = λ sorted. sorted;
+}
 
 pub loop-number-preserved : goal.loop-number-preserved
-loop-number-preserved c =
-    joins-more (map _ c.args.set.now.keys) c.args.names.now (map _ c.loop-number.set.keys)
-    (map _ c.add.new.set.keys) c.loop-number.number c.in-Some.name.now c.as_bytes.result.now
-    c.in-Some.ensures c.as_bytes.ensures.value c.loop-number.invariant
-    c.in_ok-add-in-Some.ensures
+loop-number-preserved c = record {
+  joins =
+      joins-more (wanted (map _ c.args.set.now.keys) c.args.defined.now.items) c.args.names.now
+      (wanted (map _ c.loop-number.set.keys) c.loop-number.defined.items)
+      (wanted (map _ c.add.new.set.keys) c.add.new.defined.items) c.loop-number.number
+      c.in-Some.name.now c.as_bytes.result.now c.in-Some.ensures c.as_bytes.ensures.value
+      c.loop-number.invariant.joins c.in_ok-add-in-Some.ensures.joins;
+  sorted = λ sorted. c.add.ensures.sorted (c.loop-number.invariant.sorted sorted);
+}
 
-pub returns : goal.returns
-returns c =
-    joins-all (map _ c.args.set.now.keys) c.args.names.now (map _ c.loop-number.set.keys)
+pub returns-clause-joins : goal.returns-clause-joins
+returns-clause-joins c =
+    joins-all (wanted (map _ c.args.set.now.keys) c.args.defined.now.items) c.args.names.now
+    (wanted (map _ c.loop-number.set.keys) c.loop-number.defined.items)
     c.loop-number.number (omega (arith, c.loop-number-test.false, c.len-number-end.ensures.len))
-    c.loop-number.invariant
+    c.loop-number.invariant.joins
 
 pub unreachable-requires : goal.unreachable-requires
 unreachable-requires c =

@@ -1,7 +1,7 @@
 use Rattle.std.proofs.Common.{refl}
 use Rattle.clap.proofs.OnLiterals.{clap_on_literals}
 use Rattle.tre_words.specs.CommandLine.{command_line}
-use Rattle.tre_words.proofs.Jobs.{apart-normal, apart-max_zones, apart-minus, apart-lets, apart-columns}
+use Rattle.tre_words.proofs.Jobs.{apart-normal, apart-max_zones, apart-minus, apart-lets, apart-define, apart-columns}
 use Rattle.tre_words.proofs.laws.options_apart.Goals as goal
 
 pub returns-clause-normal : goal.returns-clause-normal
@@ -23,6 +23,21 @@ pub returns-clause-lets : goal.returns-clause-lets
 unfolding command_line clap_on_literals
 returns-clause-lets c = λ job gives.
     apart-lets _ job _ gives.gives refl gives.gives.says.format (λ e. cc)
+
+pub returns-clause-lets_of_a_dump : goal.returns-clause-lets_of_a_dump
+unfolding command_line clap_on_literals
+returns-clause-lets_of_a_dump c = λ job gives.
+    apart-lets _ job _ gives.gives refl gives.gives.says.format (λ e. cc)
+
+pub returns-clause-signals : goal.returns-clause-signals
+unfolding command_line clap_on_literals
+returns-clause-signals c = λ job gives.
+    apart-define _ job _ gives.gives refl gives.gives.says.format (λ e. cc)
+
+pub returns-clause-signals_of_columns : goal.returns-clause-signals_of_columns
+unfolding command_line clap_on_literals
+returns-clause-signals_of_columns c = λ job gives.
+    apart-define _ job _ gives.gives refl gives.gives.says.format (λ e. cc)
 
 pub returns-clause-columns : goal.returns-clause-columns
 unfolding command_line clap_on_literals

@@ -7,19 +7,19 @@ use Rattle.tre_words.proofs.laws.typed_words.Goals as goal
 pub returns-clause-pattern : goal.returns-clause-pattern
 unfolding command_line clap_on_literals
 returns-clause-pattern c = record {
-  gives = typed _ _ refl refl (refl, refl, refl, refl, refl, refl);
+  gives = typed _ _ refl refl (refl, refl, refl, refl, refl, refl, refl, refl);
 }
 
 pub returns-clause-online : goal.returns-clause-online
 unfolding command_line clap_on_literals
 returns-clause-online c = record {
-  gives = typed _ _ refl refl (refl, refl, refl, refl, refl, refl);
+  gives = typed _ _ refl refl (refl, refl, refl, refl, refl, refl, refl, refl);
 }
 
 pub returns-clause-dashes : goal.returns-clause-dashes
 unfolding command_line clap_on_literals
 returns-clause-dashes c = record {
-  gives = typed _ _ refl refl (refl, refl, refl, refl, refl, refl);
+  gives = typed _ _ refl refl (refl, refl, refl, refl, refl, refl, refl, refl);
 }
 
 pub returns-clause-no_words : goal.returns-clause-no_words

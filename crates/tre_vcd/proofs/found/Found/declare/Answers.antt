@@ -1,6 +1,6 @@
 use Rattle.std.specs.Option.{is_some}
-use Rattle.tre_vcd.specs.VcdReading.{is_signal, is_event, identifier_of}
-use Rattle.tre_vcd.specs.Kept.{vocabulary_of}
+use Rattle.tre_vcd.specs.VcdReading.{is_signal, is_event}
+use Rattle.tre_vcd.specs.Kept.{identifier_of, plain_of}
 use Rattle.tre_vcd.proofs.Flagging.{flags-declared, flags-undeclared}
 use Rattle.tre_vcd.proofs.found.Found.declare.Goals as goal
 
@@ -10,9 +10,18 @@ returns-clause-knows c = λ past identifier tokens knows declares none.
     record {
       names =
           flags-declared is_signal past identifier c.args.path.now tokens
-          (vocabulary_of found).names c.flag.new.flags.items declares
+          (plain_of found).names c.flag.new.flags.items declares
           ((rw c.deref.ensures at c.flag.ensures) (λ name. is_some (identifier_of is_signal past name)) knows.names);
       events =
-          flags-undeclared is_event past tokens (vocabulary_of found).events found.events.items
+          flags-undeclared is_event past tokens (plain_of found).events found.events.items
           none knows.events;
     }
+
+pub returns-clause-offers : goal.returns-clause-offers
+returns-clause-offers c = λ all past knows. record {
+  same = knows.same;
+  tests = knows.tests;
+  changes = knows.changes;
+  names = knows.names;
+  events = knows.events;
+}

@@ -1,6 +1,6 @@
 use Rattle.std.specs.Option.{is_some}
-use Rattle.tre_vcd.specs.VcdReading.{is_signal, is_event, identifier_of}
-use Rattle.tre_vcd.specs.Kept.{vocabulary_of}
+use Rattle.tre_vcd.specs.VcdReading.{is_signal, is_event}
+use Rattle.tre_vcd.specs.Kept.{identifier_of, plain_of}
 use Rattle.tre_vcd.proofs.Flagging.{flags-declared, flags-undeclared}
 use Rattle.tre_vcd.proofs.found.Found.declare_event.Goals as goal
 
@@ -9,10 +9,19 @@ returns-clause-knows c = λ past identifier tokens knows declares none.
     let found = c.args.self.now in
     record {
       names =
-          flags-undeclared is_signal past tokens (vocabulary_of found).names found.names.items
+          flags-undeclared is_signal past tokens (plain_of found).names found.names.items
           none knows.names;
       events =
           flags-declared is_event past identifier c.args.path.now tokens
-          (vocabulary_of found).events c.flag.new.flags.items declares
+          (plain_of found).events c.flag.new.flags.items declares
           ((rw c.deref.ensures at c.flag.ensures) (λ name. is_some (identifier_of is_event past name)) knows.events);
     }
+
+pub returns-clause-offers : goal.returns-clause-offers
+returns-clause-offers c = λ all past knows. record {
+  same = knows.same;
+  tests = knows.tests;
+  changes = knows.changes;
+  names = knows.names;
+  events = knows.events;
+}

@@ -1,6 +1,5 @@
-use Rattle.std.proofs.Common.{◌≤◌, ◌∙◌, length, ap, subst}
+use Rattle.std.proofs.Common.{◌≤◌, ◌∙◌, length, map, ap, subst}
 use Rattle.std.specs.Prelude.{All}
-use Rattle.tre_vcd.specs.Needs.{needs}
 use Rattle.tre_vcd.specs.declared.needed.Needed.{Needed}
 use Rattle.tre_vcd.proofs.Longest.{both-below, longest-map}
 use Rattle.tre_vcd.proofs.Needing.{within-both}
@@ -12,7 +11,8 @@ returns c =
     let names = c.longest_in-names.result in
     let events = c.longest_in-events.result in
     let both = both-below names events c.max.result c.max.ensures in
-    within-both (needs needed).names (needs needed).events names events c.max.result both.0 both.1
+    within-both (map (λ name. name.items) needed.names.keys)
+    (map (λ name. name.items) needed.events.keys) names events c.max.result both.0 both.1
     (longest-map _ needed.names.keys names
     (subst (All (λ name. length name.items ≤ names))
     (c.as_slice.ensures.keys ∙ ap (λ (all : Needed). all.names.keys) c.deref.ensures)

@@ -1,12 +1,47 @@
-use Rattle.std.proofs.Common.{◌∙◌, map, false, ap}
-use Rattle.tre_vcd.specs.Needs.{needs}
+use Rattle.std.proofs.Common.{◌∙◌, map, false, refl, sym, ap, subst}
+use Rattle.std.proofs.lemmas.List.{length-map}
+use Rattle.std.proofs.lemmas.Simd.{splat_is_map}
+use Rattle.tre_vcd.specs.Sorted.{AreSorted}
+use Rattle.tre_vcd.specs.VcdReading.{of_changes}
 use Rattle.tre_vcd.specs.declared.needed.Needed.{Needed}
 use Rattle.tre_vcd.proofs.found.Found.new.Goals as goal
 
 pub returns-clause-knows : goal.returns-clause-knows
-returns-clause-knows c = record {
-  names = c.in_ok-names.ensures
-      ∙ ap (λ (needed : Needed). map (λ name. false) (needs needed).names) c.deref.ensures;
-  events = c.in_ok-events.ensures
-      ∙ ap (λ (needed : Needed). map (λ name. false) (needs needed).events) c.deref-2.ensures;
-}
+returns-clause-knows c =
+    let one = c.deref.result.now.names.keys in
+    let two = c.deref-2.result.now.events.keys in
+    record {
+      names = c.in_ok-names.ensures
+          ∙ splat_is_map (map (λ name. name.items) one) c.len.result false
+          (length-map one (λ name. name.items) ∙ sym c.len.ensures.len)
+          ∙ ap (λ (needed : Needed). map (λ name. false) (map (λ name. name.items)
+          needed.names.keys)) c.deref.ensures;
+      events = c.in_ok-events.ensures
+          ∙ splat_is_map (map (λ name. name.items) two) c.len-2.result false
+          (length-map two (λ name. name.items) ∙ sym c.len-2.ensures.len)
+          ∙ ap (λ (needed : Needed). map (λ name. false) (map (λ name. name.items)
+          needed.events.keys)) c.deref-2.ensures;
+    }
+
+pub returns-clause-offers : goal.returns-clause-offers
+returns-clause-offers c =
+    let needed = c.in_ok-needed.needed.value in
+    let first = c.deref-3.ensures in
+    let second = c.deref-4.ensures in
+    record {
+      same = refl;
+      tests = c.in_ok-tests.ensures ∙ splat_is_map c.defined_names.result.now _ false refl
+          ∙ ap (map (λ one. false)) (c.defined_names.ensures.value
+          ∙ ap (λ (n : Needed). n.tests.items) first);
+      changes = c.in_ok-changes.ensures ∙ splat_is_map c.defined_events.result.now _ false refl
+          ∙ ap (map (λ one. false)) (c.defined_events.ensures.value
+          ∙ ap (λ (n : Needed). n.changes.items) second);
+      names =
+          subst (λ (n : Needed). AreSorted n.definitions.items
+          (map (λ name. name.items) n.names.keys) n.tests.items) first
+          c.defined_names.ensures.sorted;
+      events =
+          subst (λ (n : Needed). AreSorted (of_changes n.definitions.items)
+          (map (λ name. name.items) n.events.keys) n.changes.items) second
+          c.defined_events.ensures.sorted;
+    }

@@ -1,4 +1,5 @@
-use Rattle.tre_vcd.specs.VcdReading.{is_signal, is_event, identifier_of}
+use Rattle.tre_vcd.specs.VcdReading.{is_signal, is_event}
+use Rattle.tre_vcd.specs.Kept.{identifier_of}
 use Rattle.tre_vcd.proofs.Pasts.{keeps-declared, keeps-undeclared, knows-declared}
 use Rattle.tre_vcd.proofs.past.Past.declare_event.Goals as goal
 

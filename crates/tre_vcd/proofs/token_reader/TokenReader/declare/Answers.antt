@@ -1,7 +1,8 @@
 use Rattle.std.proofs.Common.{◌≡◌, ℕ, List, Bool, ◌∷◌, length, map, take, true, false, sym, ap, subst, ◌∙◌, arith}
 use Rattle.std.proofs.lemmas.List.{length-map}
 use Rattle.tre_vcd.specs.VcdReading.{var, path, scopes_at, is_signal, is_event}
-use Rattle.tre_vcd.specs.Kept.{KnowsAll}
+use Rattle.tre_vcd.specs.Kept.{KnowsAll, plain_of}
+use Rattle.tre_vcd.specs.Offers.{KnowOffers}
 use Rattle.tre_vcd.specs.Sections.{asked_of}
 use Rattle.tre_vcd.proofs.Needing.{needed-within, written-back}
 use Rattle.tre_vcd.proofs.Pasts.{knows-within}
@@ -12,9 +13,9 @@ pub returns-then-tokens-ne4-clause-knows : goal.returns-then-tokens-ne4-clause-k
 returns-then-tokens-ne4-clause-knows c = λ past word tokens holds.
     let reader = c.args.self.now in
     let all = c.as_slice-tokens.result.now in
-    let kept : map (λ token. token.items) all ≡ take 5 tokens =
+    let kept : map (λ token. token.items) all ≡ take 6 tokens =
     ap (map (λ token. token.items)) c.as_slice-tokens.ensures.value ∙ holds.tokens in
-    let count : length all ≡ length (take 5 tokens) =
+    let count : length all ≡ length (take 6 tokens) =
     sym (length-map all (λ token. token.items)) ∙ ap length kept in
     let none = declares-none is_signal (scopes_at past) tokens
     (λ four. absurd (c.if-tokens-ne4.true (count ∙ four))) in
@@ -22,152 +23,184 @@ returns-then-tokens-ne4-clause-knows c = λ past word tokens holds.
     (λ four. absurd (c.if-tokens-ne4.true (count ∙ four))) in (
       knows-within reader.longest (asked_of reader) reader.past past tokens holds.suits
           (none-within reader.longest is_signal (scopes_at past) tokens none)
-          (none-within reader.longest is_event (scopes_at past) tokens silent) holds.within.0
-          holds.past,
+          (none-within reader.longest is_event (scopes_at past) tokens silent) holds.knows.within.0
+          holds.knows.past,
       needed-within past reader.longest tokens reader.needed.items
           (none-within reader.longest is_signal (scopes_at past) tokens none)
-          (none-within reader.longest is_event (scopes_at past) tokens silent) holds.within.1
-          holds.needed,
+          (none-within reader.longest is_event (scopes_at past) tokens silent) holds.knows.within.1
+          holds.knows.needed,
     )
 
 pub returns-then-is_path_longer-clause-knows : goal.returns-then-is_path_longer-clause-knows
 returns-then-is_path_longer-clause-knows c = λ past word tokens holds.
     let reader = c.args.self.now in
     let all = c.as_slice-tokens.result.now in
-    let kept : map (λ token. token.items) all ≡ take 5 tokens =
+    let kept : map (λ token. token.items) all ≡ take 6 tokens =
     ap (map (λ token. token.items)) c.as_slice-tokens.ensures.value ∙ holds.tokens in
-    let count : length all ≡ length (take 5 tokens) =
+    let count : length all ≡ length (take 6 tokens) =
     sym (length-map all (λ token. token.items)) ∙ ap length kept in
     let four : length all ≡ 4 = omega (arith, c.if-tokens-ne4.false) in
-    let fourth = kept-at (λ token. token.items) all (take 5 tokens) 3 c.index-tokens-3.result
+    let fourth = kept-at (λ token. token.items) all (take 6 tokens) 3 c.index-tokens-3.result
     c.index-tokens-3.result c.as_slice-reference.result.now kept (omega (arith, four))
     c.index-tokens-3.is c.as_slice-reference.ensures.value in
-    let long = c.is_path_longer.ensures (scopes_at past) holds.past.scopes
+    let long = c.is_path_longer.ensures (scopes_at past) holds.knows.past.scopes
     c.if-is_path_longer.true in
     let longer = λ (test : List ℕ → List ℕ → Bool).
     declares-longer reader.longest test (scopes_at past) tokens
     c.as_slice-reference.result.now (sym count ∙ four) fourth long in (
       knows-within reader.longest (asked_of reader) reader.past past tokens holds.suits
-          (longer is_signal) (longer is_event) holds.within.0 holds.past,
+          (longer is_signal) (longer is_event) holds.knows.within.0 holds.knows.past,
       needed-within past reader.longest tokens reader.needed.items (longer is_signal)
-          (longer is_event) holds.within.1 holds.needed,
+          (longer is_event) holds.knows.within.1 holds.knows.needed,
     )
 
 pub returns-in_ok-declare-clause-knows : goal.returns-in_ok-declare-clause-knows
 returns-in_ok-declare-clause-knows c = λ past word tokens holds.
     let reader = c.args.self.now in
     let all = c.as_slice-tokens.result.now in
-    let kept : map (λ token. token.items) all ≡ take 5 tokens =
+    let kept : map (λ token. token.items) all ≡ take 6 tokens =
     ap (map (λ token. token.items)) c.as_slice-tokens.ensures.value ∙ holds.tokens in
-    let count : length all ≡ length (take 5 tokens) =
+    let count : length all ≡ length (take 6 tokens) =
     sym (length-map all (λ token. token.items)) ∙ ap length kept in
     let four : length all ≡ 4 = omega (arith, c.if-tokens-ne4.false) in
-    let first = kept-at (λ token. token.items) all (take 5 tokens) 0 c.index-tokens-0.result
+    let first = kept-at (λ token. token.items) all (take 6 tokens) 0 c.index-tokens-0.result
     c.index-tokens-0.result c.deref.result.now kept (omega (arith, four)) c.index-tokens-0.is
     c.deref.ensures.value in
-    let second = kept-at (λ token. token.items) all (take 5 tokens) 1 c.index-tokens-1.result
+    let second = kept-at (λ token. token.items) all (take 6 tokens) 1 c.index-tokens-1.result
     c.index-tokens-1.result c.deref-2.result.now kept (omega (arith, four)) c.index-tokens-1.is
     c.deref-2.ensures.value in
-    let third = kept-at (λ token. token.items) all (take 5 tokens) 2 c.index-tokens-2.result
+    let third = kept-at (λ token. token.items) all (take 6 tokens) 2 c.index-tokens-2.result
     c.index-tokens-2.result c.as_slice-identifier.result.now kept (omega (arith, four)) c.index-tokens-2.is
     c.as_slice-identifier.ensures.value in
-    let fourth = kept-at (λ token. token.items) all (take 5 tokens) 3 c.index-tokens-3.result
+    let fourth = kept-at (λ token. token.items) all (take 6 tokens) 3 c.index-tokens-3.result
     c.index-tokens-3.result c.as_slice-reference.result.now kept (omega (arith, four)) c.index-tokens-3.is
     c.as_slice-reference.ensures.value in
     let signal = sym c.is_signal.ensures ∙ c.if-is_signal.true in
     let named : c.as_slice-name.result.now ≡ path (scopes_at past) c.as_slice-reference.result.now =
-    c.as_slice-name.ensures.value ∙ c.in_ok-path.ensures (scopes_at past) holds.past.scopes in
+    c.as_slice-name.ensures.value ∙ c.in_ok-path.ensures (scopes_at past) holds.knows.past.scopes in
     let declares =
     declares-kept is_signal (scopes_at past) tokens c.as_slice-identifier.result.now
     c.as_slice-reference.result.now c.as_slice-name.result.now third fourth named
     (sym count ∙ four)
-    (same-test is_signal (take 5 tokens) c.deref.result.now c.deref-2.result.now true first second
+    (same-test is_signal (take 6 tokens) c.deref.result.now c.deref-2.result.now true first second
     signal) in
     let none =
     declares-none is_event (scopes_at past) tokens
-    (λ _. same-test is_event (take 5 tokens) c.deref.result.now c.deref-2.result.now false first
+    (λ _. same-test is_event (take 6 tokens) c.deref.result.now c.deref-2.result.now false first
     second (signal-no_event c.deref.result.now c.deref-2.result.now signal)) in (
-      c.in_ok-declare.ensures reader.events past tokens holds.past holds.suits declares none,
-      written-back (var tokens ∷ past) c.declare-then-is_signal.new.all reader.needed.items reader.needed.len
+      c.in_ok-declare.ensures reader.events past tokens holds.knows.past holds.suits declares none,
+      written-back (KnowsAll (var tokens ∷ past)) c.declare-then-is_signal.new.all reader.needed.items reader.needed.len
           (omega (arith, c.declare-then-is_signal.auto.all, c.deref_mut.ensures.len))
           (c.declare-then-is_signal.ensures.knows past c.as_slice-identifier.result.now tokens
-          (subst (KnowsAll past) (sym c.deref_mut.ensures.value) holds.needed) declares none),
+          (subst (KnowsAll past) (sym c.deref_mut.ensures.value) holds.knows.needed) declares none),
     )
 
 pub returns-in_ok-declare_event-clause-knows : goal.returns-in_ok-declare_event-clause-knows
 returns-in_ok-declare_event-clause-knows c = λ past word tokens holds.
     let reader = c.args.self.now in
     let all = c.as_slice-tokens.result.now in
-    let kept : map (λ token. token.items) all ≡ take 5 tokens =
+    let kept : map (λ token. token.items) all ≡ take 6 tokens =
     ap (map (λ token. token.items)) c.as_slice-tokens.ensures.value ∙ holds.tokens in
-    let count : length all ≡ length (take 5 tokens) =
+    let count : length all ≡ length (take 6 tokens) =
     sym (length-map all (λ token. token.items)) ∙ ap length kept in
     let four : length all ≡ 4 = omega (arith, c.if-tokens-ne4.false) in
-    let first = kept-at (λ token. token.items) all (take 5 tokens) 0 c.index-tokens-0.result
+    let first = kept-at (λ token. token.items) all (take 6 tokens) 0 c.index-tokens-0.result
     c.index-tokens-0.result c.deref.result.now kept (omega (arith, four)) c.index-tokens-0.is
     c.deref.ensures.value in
-    let kind = kept-at (λ token. token.items) all (take 5 tokens) 0 c.index-tokens-0-else-is_signal.result
+    let kind = kept-at (λ token. token.items) all (take 6 tokens) 0 c.index-tokens-0-else-is_signal.result
     c.index-tokens-0-else-is_signal.result c.deref-else-is_signal.result.now kept (omega (arith, four)) c.index-tokens-0-else-is_signal.is
     c.deref-else-is_signal.ensures.value in
-    let second = kept-at (λ token. token.items) all (take 5 tokens) 1 c.index-tokens-1.result
+    let second = kept-at (λ token. token.items) all (take 6 tokens) 1 c.index-tokens-1.result
     c.index-tokens-1.result c.deref-2.result.now kept (omega (arith, four)) c.index-tokens-1.is
     c.deref-2.ensures.value in
-    let third = kept-at (λ token. token.items) all (take 5 tokens) 2 c.index-tokens-2.result
+    let third = kept-at (λ token. token.items) all (take 6 tokens) 2 c.index-tokens-2.result
     c.index-tokens-2.result c.as_slice-identifier.result.now kept (omega (arith, four)) c.index-tokens-2.is
     c.as_slice-identifier.ensures.value in
-    let fourth = kept-at (λ token. token.items) all (take 5 tokens) 3 c.index-tokens-3.result
+    let fourth = kept-at (λ token. token.items) all (take 6 tokens) 3 c.index-tokens-3.result
     c.index-tokens-3.result c.as_slice-reference.result.now kept (omega (arith, four)) c.index-tokens-3.is
     c.as_slice-reference.ensures.value in
     let named : c.as_slice-name-then-is_event.result.now ≡ path (scopes_at past) c.as_slice-reference.result.now =
-    c.as_slice-name-then-is_event.ensures.value ∙ c.in_ok-path-2.ensures (scopes_at past) holds.past.scopes in
+    c.as_slice-name-then-is_event.ensures.value ∙ c.in_ok-path-2.ensures (scopes_at past) holds.knows.past.scopes in
     let declares =
     declares-kept is_event (scopes_at past) tokens c.as_slice-identifier.result.now
     c.as_slice-reference.result.now c.as_slice-name-then-is_event.result.now third fourth named
     (sym count ∙ four)
-    (same-test is_event (take 5 tokens) c.deref-else-is_signal.result.now c.deref-2.result.now true
+    (same-test is_event (take 6 tokens) c.deref-else-is_signal.result.now c.deref-2.result.now true
     kind second (sym (c.is_event.ensures c.deref-2.result.now) ∙ c.if-is_event.true)) in
     let none =
     declares-none is_signal (scopes_at past) tokens
-    (λ _. same-test is_signal (take 5 tokens) c.deref.result.now c.deref-2.result.now false first
+    (λ _. same-test is_signal (take 6 tokens) c.deref.result.now c.deref-2.result.now false first
     second (sym c.is_signal.ensures ∙ c.if-is_signal.false)) in (
-      c.in_ok-declare_event.ensures reader.names past tokens holds.past holds.suits declares none,
-      written-back (var tokens ∷ past) c.declare_event-then-is_event.new.all reader.needed.items reader.needed.len
+      c.in_ok-declare_event.ensures reader.names past tokens holds.knows.past holds.suits declares none,
+      written-back (KnowsAll (var tokens ∷ past)) c.declare_event-then-is_event.new.all reader.needed.items reader.needed.len
           (omega (arith, c.declare_event-then-is_event.auto.all, c.deref_mut-then-is_event.ensures.len))
           (c.declare_event-then-is_event.ensures.knows past c.as_slice-identifier.result.now tokens
-          (subst (KnowsAll past) (sym c.deref_mut-then-is_event.ensures.value) holds.needed) declares none),
+          (subst (KnowsAll past) (sym c.deref_mut-then-is_event.ensures.value) holds.knows.needed) declares none),
     )
 
 pub returns-else-is_event-clause-knows : goal.returns-else-is_event-clause-knows
 returns-else-is_event-clause-knows c = λ past word tokens holds.
     let reader = c.args.self.now in
     let all = c.as_slice-tokens.result.now in
-    let kept : map (λ token. token.items) all ≡ take 5 tokens =
+    let kept : map (λ token. token.items) all ≡ take 6 tokens =
     ap (map (λ token. token.items)) c.as_slice-tokens.ensures.value ∙ holds.tokens in
-    let count : length all ≡ length (take 5 tokens) =
+    let count : length all ≡ length (take 6 tokens) =
     sym (length-map all (λ token. token.items)) ∙ ap length kept in
     let four : length all ≡ 4 = omega (arith, c.if-tokens-ne4.false) in
-    let first = kept-at (λ token. token.items) all (take 5 tokens) 0 c.index-tokens-0.result
+    let first = kept-at (λ token. token.items) all (take 6 tokens) 0 c.index-tokens-0.result
     c.index-tokens-0.result c.deref.result.now kept (omega (arith, four)) c.index-tokens-0.is
     c.deref.ensures.value in
-    let kind = kept-at (λ token. token.items) all (take 5 tokens) 0 c.index-tokens-0-else-is_signal.result
+    let kind = kept-at (λ token. token.items) all (take 6 tokens) 0 c.index-tokens-0-else-is_signal.result
     c.index-tokens-0-else-is_signal.result c.deref-else-is_signal.result.now kept (omega (arith, four)) c.index-tokens-0-else-is_signal.is
     c.deref-else-is_signal.ensures.value in
-    let second = kept-at (λ token. token.items) all (take 5 tokens) 1 c.index-tokens-1.result
+    let second = kept-at (λ token. token.items) all (take 6 tokens) 1 c.index-tokens-1.result
     c.index-tokens-1.result c.deref-2.result.now kept (omega (arith, four)) c.index-tokens-1.is
     c.deref-2.ensures.value in
     let none = declares-none is_signal (scopes_at past) tokens
-    (λ _. same-test is_signal (take 5 tokens) c.deref.result.now c.deref-2.result.now false first
+    (λ _. same-test is_signal (take 6 tokens) c.deref.result.now c.deref-2.result.now false first
     second (sym c.is_signal.ensures ∙ c.if-is_signal.false)) in
     let silent = declares-none is_event (scopes_at past) tokens
-    (λ _. same-test is_event (take 5 tokens) c.deref-else-is_signal.result.now
+    (λ _. same-test is_event (take 6 tokens) c.deref-else-is_signal.result.now
     c.deref-2.result.now false kind second
     (sym (c.is_event.ensures c.deref-2.result.now) ∙ c.if-is_event.false)) in (
       knows-within reader.longest (asked_of reader) reader.past past tokens holds.suits
           (none-within reader.longest is_signal (scopes_at past) tokens none)
-          (none-within reader.longest is_event (scopes_at past) tokens silent) holds.within.0
-          holds.past,
+          (none-within reader.longest is_event (scopes_at past) tokens silent) holds.knows.within.0
+          holds.knows.past,
       needed-within past reader.longest tokens reader.needed.items
           (none-within reader.longest is_signal (scopes_at past) tokens none)
-          (none-within reader.longest is_event (scopes_at past) tokens silent) holds.within.1
-          holds.needed,
+          (none-within reader.longest is_event (scopes_at past) tokens silent) holds.knows.within.1
+          holds.knows.needed,
     )
+
+pub returns-in_ok-declare-clause-offers : goal.returns-in_ok-declare-clause-offers
+returns-in_ok-declare-clause-offers c = λ all past knows.
+    let reader = c.args.self.now in
+    written-back (KnowOffers all past) c.declare-then-is_signal.new.all reader.needed.items reader.needed.len
+    (omega (arith, c.declare-then-is_signal.auto.all, c.deref_mut.ensures.len))
+    (c.declare-then-is_signal.ensures.offers all past
+    (subst (KnowOffers all past) (sym c.deref_mut.ensures.value) knows))
+
+pub returns-in_ok-declare-clause-plain : goal.returns-in_ok-declare-clause-plain
+returns-in_ok-declare-clause-plain c =
+    let reader = c.args.self.now in
+    written-back (λ all. map plain_of all ≡ map plain_of reader.needed.items) c.declare-then-is_signal.new.all
+    reader.needed.items reader.needed.len
+    (omega (arith, c.declare-then-is_signal.auto.all, c.deref_mut.ensures.len))
+    (c.declare-then-is_signal.ensures.plain ∙ ap (map plain_of) c.deref_mut.ensures.value)
+
+pub returns-in_ok-declare_event-clause-offers : goal.returns-in_ok-declare_event-clause-offers
+returns-in_ok-declare_event-clause-offers c = λ all past knows.
+    let reader = c.args.self.now in
+    written-back (KnowOffers all past) c.declare_event-then-is_event.new.all reader.needed.items reader.needed.len
+    (omega (arith, c.declare_event-then-is_event.auto.all, c.deref_mut-then-is_event.ensures.len))
+    (c.declare_event-then-is_event.ensures.offers all past
+    (subst (KnowOffers all past) (sym c.deref_mut-then-is_event.ensures.value) knows))
+
+pub returns-in_ok-declare_event-clause-plain : goal.returns-in_ok-declare_event-clause-plain
+returns-in_ok-declare_event-clause-plain c =
+    let reader = c.args.self.now in
+    written-back (λ all. map plain_of all ≡ map plain_of reader.needed.items) c.declare_event-then-is_event.new.all
+    reader.needed.items reader.needed.len
+    (omega (arith, c.declare_event-then-is_event.auto.all, c.deref_mut-then-is_event.ensures.len))
+    (c.declare_event-then-is_event.ensures.plain ∙ ap (map plain_of) c.deref_mut-then-is_event.ensures.value)

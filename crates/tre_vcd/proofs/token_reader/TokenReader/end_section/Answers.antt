@@ -1,9 +1,12 @@
-use Rattle.std.proofs.Common.{◌∷◌, refl, sym, ◌∙◌, subst}
+use Rattle.std.proofs.Common.{◌∷◌, refl, sym, ap, ◌∙◌, subst}
 use Rattle.tre_parts.specs.Walk.{Tells}
 use Rattle.tre_vcd.specs.Sections.{Holds, asked_of}
 use Rattle.tre_vcd.specs.VcdReading.{upscope, definitions, nothing}
 use Rattle.tre_vcd.specs.declared.command.Command.TheVariants.{Scope, Upscope, Var, EndDefinitions}
+use Rattle.tre_vcd.specs.Offers.{KnowOffers}
 use Rattle.tre_vcd.proofs.Needing.{needed-same}
+use Rattle.tre_vcd.proofs.Standing.{reads-no_var, stays}
+use Rattle.tre_vcd.proofs.Staying.{offers-stay, past-stays}
 use Rattle.tre_vcd.proofs.Tokens.{section-ended}
 use Rattle.tre_vcd.proofs.token_reader.TokenReader.end_section.Goals as goal
 
@@ -26,17 +29,28 @@ returns-in-Upscope-clause-tells c = λ past word tokens holds is. record {
   state = record { past = upscope ∷ past; inside = nothing };
   says = section-ended past word tokens Upscope (sym c.in-Upscope.is ∙ is);
   is_held = c.close.ensures.holds (upscope ∷ past)
-      (c.leave.ensures c.args.self.now.names c.args.self.now.events past holds.past)
-      (needed-same past (upscope ∷ past) c.args.self.now.needed.items (λ test name. refl)
-      holds.needed) holds.within;
+      (past-stays c.args.self.now past (upscope ∷ past) c.leave.new.self
+      (λ test own. refl) (stays upscope past tt)
+      (c.leave.ensures c.args.self.now.names c.args.self.now.events past holds.knows.past)
+      holds.knows);
 }
 
 pub returns-in-EndDefinitions-clause-tells : goal.returns-in-EndDefinitions-clause-tells
-returns-in-EndDefinitions-clause-tells c = λ past word tokens holds is. record {
-  state = record { past = definitions ∷ past; inside = nothing };
-  says = section-ended past word tokens EndDefinitions (sym c.in-EndDefinitions.is ∙ is);
-  is_held = c.close-in-EndDefinitions.ensures.holds (definitions ∷ past)
-      (c.define.ensures c.args.self.now.names c.args.self.now.events past holds.past)
-      (needed-same past (definitions ∷ past) c.args.self.now.needed.items (λ test name. refl)
-      holds.needed) holds.within;
-}
+returns-in-EndDefinitions-clause-tells c = λ past word tokens holds is.
+    let reader = c.args.self.now in
+    record {
+      state = record { past = definitions ∷ past; inside = nothing };
+      says = section-ended past word tokens EndDefinitions (sym c.in-EndDefinitions.is ∙ is);
+      is_held = c.close-in-EndDefinitions.ensures.holds (definitions ∷ past) (record {
+        past = c.define.ensures reader.names reader.events past holds.knows.past;
+        needed = needed-same past (definitions ∷ past) reader.needed.items (λ test name. refl)
+            holds.knows.needed;
+        signals = c.sift.ensures.knows reader.names reader.events past holds.knows.signals;
+        offers =
+            subst (λ all. KnowOffers all (definitions ∷ past) reader.needed.items)
+            (ap (λ all. all.items) (sym c.sift.ensures.kept))
+            (offers-stay reader.signals.definitions.items past (definitions ∷ past)
+            reader.needed.items (reads-no_var definitions past tt) holds.knows.offers);
+        within = holds.knows.within;
+      });
+    }

@@ -1,10 +1,11 @@
-use Rattle.std.proofs.Common.{◌==◌, ◌∷◌, refl, sym, ap, ◌∙◌, subst}
+use Rattle.std.proofs.Common.{◌∷◌, [], refl, sym, ap, ◌∙◌, subst}
 use Rattle.tre_parts.specs.Walk.{Tells}
 use Rattle.tre_vcd.specs.VcdReading.{Open, scalar, change, nothing, token_at}
 use Rattle.tre_vcd.specs.Sections.{Holds, asked_of, terms_kept}
 use Rattle.tre_vcd.proofs.Bits.{bit-says, values-say, values-read, commands-read, commands-say}
-use Rattle.tre_vcd.proofs.Needing.{needed-same}
+use Rattle.tre_vcd.proofs.Changing.{past-changed}
 use Rattle.tre_vcd.proofs.Reading.{says-empty, says-letter, is-nothing, is-section, is-comment, is-vector, is-number}
+use Rattle.tre_vcd.proofs.Undefined.{signals-undefined}
 use Rattle.tre_vcd.proofs.token_reader.TokenReaderPartReader.read.Goals as goal
 
 pub returns-in_default-clause-tells : goal.returns-in_default-clause-tells
@@ -14,8 +15,8 @@ returns-in_default-clause-tells c = λ state holds. record {
   is_held = holds;
 }
 
-pub returns-then-not-is_empty-clause-tells : goal.returns-then-not-is_empty-clause-tells
-returns-then-not-is_empty-clause-tells c = λ state holds.
+pub returns-then-is_empty-clause-tells : goal.returns-then-is_empty-clause-tells
+returns-then-is_empty-clause-tells c = λ state holds.
     let reader = c.args.self.now in
     let letter = c.in-Some.first.now in
     let rest = c.in-Some.rest.now in
@@ -23,23 +24,24 @@ returns-then-not-is_empty-clause-tells c = λ state holds.
     (sym c.reads_values.ensures ∙ c.if-reads_values.true) in
     record {
       state = record {
-        past = change scalar rest (letter == 49) ∷ state.past;
+        past = change scalar rest (letter ∷ []) ∷ state.past;
         inside = nothing;
       };
       says = bit-says (terms_kept reader) state c.args.part.now letter rest
           c.in-Some.ensures.cases.0 (sym c.is_bit.ensures ∙ c.if-is_bit.true)
           (sym c.is_empty.ensures ∙ c.if-not-is_empty.true) reads.defined reads.open_none;
       is_held = record {
-        past =
-            c.change_scalar.ensures reader.names reader.events state.past holds.past
-            reads.defined;
-        needed =
-            needed-same state.past (change scalar rest (letter == 49) ∷ state.past)
-            reader.needed.items (λ test name. refl) holds.needed;
-        within = holds.within;
+        knows = past-changed reader state.past scalar rest (letter ∷ []) c.change_scalar.new.self
+            reader.signals
+            (c.change_scalar.ensures reader.names reader.events state.past holds.knows.past
+            reads.defined (letter ∷ []) refl)
+            (signals-undefined reader.names reader.events reader.signals state.past _
+            (sym c.is_empty-then-not-is_empty.ensures ∙ c.if-is_empty.true)
+            holds.knows.signals) refl holds.knows;
         inside = reads.stays;
         tokens = reads.tokens;
         suits = tt;
+        letters = tt;
       };
     }
 
@@ -96,10 +98,10 @@ returns-in-Vector-clause-tells c = λ state holds.
     c.read_identifier.result)
     (sym (says-letter terms state part c.in-Some.first.now c.in-Some.rest.now
     c.in-Some.ensures.cases.0
-    ∙ ap (λ (o : Open). token_at terms state.past o part) is))
-    (c.read_identifier.ensures.tells state.past
-    (subst (λ (o : Open). Holds c.args.self.now (record { past = state.past; inside = o })) is
-    holds))
+    ∙ ap (λ (o : Open). token_at terms state.past o part) is.is))
+    (c.read_identifier.ensures.tells state.past is.letters
+    (subst (λ (o : Open). Holds c.args.self.now (record { past = state.past; inside = o })) is.is
+    holds) is.value_is)
 
 pub returns-in-Number-clause-tells : goal.returns-in-Number-clause-tells
 returns-in-Number-clause-tells c = λ state holds.

@@ -1,0 +1,67 @@
+-- What the lowest bit of a value says.
+use Rattle.std.proofs.Common.{◌≡◌, ℕ, suc, ◌+◌, ◌==◌, ◌-◌, nat_le, Bool, true, false, ◌&&◌, ◌||◌, List, [], ◌∷◌, length, take, drop, None, Some, pos, refl, sym, ap, ap₂, subst, ◌∙◌, arith, if◌then◌else◌}
+use Rattle.std.specs.List.{list_all}
+use Rattle.std.specs.Option.{option_map_or}
+use Rattle.std.specs.Str.Parse.{digits_value}
+use Rattle.std.proofs.lemmas.List.{take_all}
+use Rattle.tre_define.specs.Comparison.{compares}
+use native.Mathlib.Numerals.{unary_clauses}
+use Rattle.std.proofs.lemmas.Bool.Decides.{nat_tests}
+use Rattle.tre_define.specs.Values.{is_bit, is_known, letters_of, passes, plain_test}
+use Rattle.tre_define.specs.declared.part.Part.{Part}
+use Rattle.tre_vcd.specs.Kept.{ends_true}
+
+by-letter : (letter : ℕ) (zero one : Bool) → (letter == 48) ≡ zero → (letter == 49) ≡ one
+    → passes plain_test (letter ∷ []) ≡ one
+by-letter letter true one is e =
+    let same : letter ≡ 48 = grind (arith, nat_tests) in
+    subst (λ n. passes plain_test (n ∷ []) ≡ (n == 49)) (sym same) refl ∙ e
+by-letter letter false true is e =
+    let same : letter ≡ 49 = grind (arith, nat_tests) in
+    subst (λ n. passes plain_test (n ∷ []) ≡ true) (sym same) refl
+by-letter letter false false is e = rw (is, e) refl
+
+plain-letter : (letter : ℕ) → passes plain_test (letter ∷ []) ≡ (letter == 49)
+plain-letter letter = by-letter letter (letter == 48) (letter == 49) refl refl
+
+-- the letters in front don't count
+abbrev lowest : Part
+lowest = record { low = 0; width = 1 }
+
+le-one : (n : ℕ) → nat_le (0 + 1) (suc n) ≡ true
+le-one n = grind (arith, nat_tests)
+
+known-one : (letter : ℕ) (rest : List ℕ) → is_known lowest (letter ∷ rest) ≡ true
+known-one letter rest = ap (λ b. b || is_bit letter) (le-one (length rest))
+
+last-of : (letter : ℕ) (rest : List ℕ)
+    → letters_of lowest (letter ∷ rest) ≡ drop (length rest) (letter ∷ rest)
+last-of letter rest =
+    let letters = letter ∷ rest in
+    let one : length letters - (0 + 1) ≡ length rest = omega arith in
+    let all : take (length letters - 0) letters ≡ letters =
+    take_all (length letters - 0) letters (omega arith) in
+    ap (λ n. drop n (take (length letters - 0) letters)) one ∙ ap (drop (length rest)) all
+
+compared : Bool → List ℕ → Bool
+compared known letters =
+    option_map_or (λ number. compares plain_test.comparison (pos number) (pos plain_test.number))
+    (if known && list_all is_bit letters then Some (digits_value 2 letters) else None) false
+
+plain-longer : (first second : ℕ) (rest : List ℕ)
+    → passes plain_test (first ∷ second ∷ rest) ≡ passes plain_test (second ∷ rest)
+unfolding compared
+plain-longer first second rest =
+    ap₂ compared (known-one first (second ∷ rest) ∙ sym (known-one second rest))
+    (last-of first (second ∷ rest) ∙ sym (last-of second rest))
+
+last-longer : (first second : ℕ) (rest : List ℕ)
+    → ends_true (first ∷ second ∷ rest) ≡ ends_true (second ∷ rest)
+last-longer first second rest = simp unary_clauses refl
+
+pub plain-is : (letters : List ℕ) → passes plain_test letters ≡ ends_true letters
+plain-is [] = refl
+plain-is (letter ∷ []) = plain-letter letter
+plain-is (first ∷ second ∷ rest) =
+    plain-longer first second rest ∙ plain-is (second ∷ rest)
+    ∙ sym (last-longer first second rest)

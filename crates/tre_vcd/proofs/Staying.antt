@@ -1,0 +1,174 @@
+-- What is known by definitions, behind a statement that says nothing of them.
+use Rattle.std.specs.Global.{Vec}
+use Rattle.std.proofs.Common.{◌≡◌, ℕ, Bool, true, false, List, [], ◌∷◌, map, Option, None, Some, refl, sym, ap, ◌∙◌}
+use Rattle.std.proofs.Math.Path.{fun_ext}
+use Rattle.std.specs.Option.{is_some, option_map_or}
+use Rattle.std.specs.Int.{bit_at}
+use Rattle.tre_define.specs.Signals.{SignalDefined}
+use Rattle.tre_define.specs.declared.test.Test.{Test}
+use Rattle.tre_define.specs.declared.part.Part.{Part}
+use Rattle.tre_vcd.specs.VcdReading.{Statement, time, is_defined, letters_at, before_now, Asked, is_passed}
+use Rattle.tre_vcd.specs.Kept.{Knows, identifier_of}
+use Rattle.tre_vcd.specs.Offers.{KnowOffers}
+use Rattle.tre_vcd.specs.Sections.{KnowsPast}
+use Rattle.tre_vcd.specs.Signals.{AreWatched, KnowsAt, KnowsChanges, KnowsSignals, KnowsTests, bit_of, has_changed, part_kept, part_read, test_at, test_read, watched_at}
+use Rattle.tre_vcd.specs.declared.changes.Changes.{Changes}
+use Rattle.tre_vcd.specs.declared.changes.Watched.{Watched}
+use Rattle.tre_vcd.specs.declared.found.Found.{Found}
+use Rattle.tre_vcd.specs.declared.inside.Inside.{Inside}
+use Rattle.tre_vcd.specs.declared.past.Past.{Past}
+use Rattle.tre_vcd.specs.declared.signals.Signals.{Signals}
+use Rattle.tre_vcd.specs.declared.tests.Tests.{Tests}
+use Rattle.tre_vcd.specs.declared.token_reader.TokenReader.{TokenReader}
+use Rattle.tre_vcd.proofs.Needing.{needed-same}
+use Rattle.tre_vcd.proofs.Testing.{tested-same}
+
+-- Looking back from two pasts, definitions read the same.
+pub record ReadsSame (past now : List Statement) : Type 0 where
+  pub tests : (definition : Option SignalDefined) → test_read now definition
+      ≡ test_read past definition
+  pub parts : (definition : Option SignalDefined) → part_read now definition
+      ≡ part_read past definition
+
+-- So are the letters, now and before, and no declarations end.
+pub record StaysSame (past now : List Statement) : Type 0 where
+  pub reads : ReadsSame past now
+  pub letters : (identifier : List ℕ) → letters_at now identifier ≡ letters_at past identifier
+  pub before : (identifier : List ℕ) → letters_at (before_now now) identifier
+      ≡ letters_at (before_now past) identifier
+  pub defined : is_defined now ≡ true → is_defined past ≡ true
+
+passed-same : (past now : List Statement) → StaysSame past now → (asked : Option (Asked Test))
+    → option_map_or (is_passed past) asked false ≡ option_map_or (is_passed now) asked false
+passed-same past now same None = refl
+passed-same past now same (Some asked) = rw (same.letters asked.identifier) refl
+
+read-timed : (past : List Statement) (ticks : ℕ) (definition : Option SignalDefined)
+    → test_read (time ticks ∷ past) definition ≡ test_read past definition
+read-timed past ticks None = refl
+read-timed past ticks (Some one) = refl
+
+passed-timed : (past : List Statement) (ticks : ℕ) (asked : Option (Asked Test))
+    → option_map_or (is_passed past) asked false
+    ≡ option_map_or (is_passed (time ticks ∷ past)) asked false
+passed-timed past ticks None = refl
+passed-timed past ticks (Some asked) = refl
+
+pub tests-stay : (past now : List Statement) (all : List SignalDefined) (names : List (List ℕ))
+    (kept : Tests) → StaysSame past now → KnowsTests all names kept past
+    → KnowsTests all names kept now
+tests-stay past now all names kept same knows = record {
+  few = knows.few;
+  definitions = knows.definitions;
+  tests = tested-same past now kept.list.items same.reads.tests knows.tests;
+  sieve = λ e. knows.sieve (same.defined e);
+  defined = knows.defined;
+  values = λ k. knows.values k
+      ∙ ap bit_of (passed-same past now same (test_at kept.list.items k));
+}
+
+-- a time changes no value
+pub tests-stay-time : (past : List Statement) (ticks : ℕ) (all : List SignalDefined)
+    (names : List (List ℕ)) (kept : Tests) → KnowsTests all names kept past
+    → KnowsTests all names kept (time ticks ∷ past)
+tests-stay-time past ticks all names kept knows = record {
+  few = knows.few;
+  definitions = knows.definitions;
+  tests = tested-same past (time ticks ∷ past) kept.list.items (read-timed past ticks) knows.tests;
+  sieve = knows.sieve;
+  defined = knows.defined;
+  values = λ k. knows.values k ∙ ap bit_of (passed-timed past ticks (test_at kept.list.items k));
+}
+
+pub watched-same : (past now : List Statement) (list : List Watched)
+    → ((definition : Option SignalDefined) → part_read now definition ≡ part_read past definition)
+    → AreWatched past list → AreWatched now list
+watched-same past now [] same are = tt
+watched-same past now (watched ∷ list) same are =
+    (are.0 ∙ sym (same watched.definition), watched-same past now list same are.1)
+
+changed-same : (past now : List Statement) → StaysSame past now → (asked : Option (Asked Part))
+    → option_map_or (has_changed past) asked false ≡ option_map_or (has_changed now) asked false
+changed-same past now same None = refl
+changed-same past now same (Some asked) =
+    rw (same.letters asked.identifier, same.before asked.identifier) refl
+
+at-same : (past now : List Statement) (watched : Option Watched) (said happened : ℕ)
+    → StaysSame past now → KnowsAt watched said happened past → KnowsAt watched said happened now
+at-same past now None said happened same knows = knows
+at-same past now (Some watched) said happened same knows = record {
+  letters = λ asked is.
+      let part = knows.letters asked is in
+      record {
+        now = part.now ∙ sym (same.letters asked.identifier);
+        before = λ one. part.before one ∙ sym (same.before asked.identifier);
+        quiet = λ none. same.before asked.identifier ∙ part.quiet none
+            ∙ sym (same.letters asked.identifier);
+      };
+  silent = knows.silent;
+  happened_is = knows.happened_is ∙ ap bit_of (changed-same past now same (part_kept watched));
+}
+
+pub changes-stay : (past now : List Statement) (all : List SignalDefined) (names : List (List ℕ))
+    (kept : Changes) → StaysSame past now → KnowsChanges all names kept past
+    → KnowsChanges all names kept now
+changes-stay past now all names kept same knows = record {
+  few = knows.few;
+  definitions = knows.definitions;
+  parts = watched-same past now kept.list.items same.reads.parts knows.parts;
+  sieve = λ e. knows.sieve (same.defined e);
+  defined = knows.defined;
+  each = λ k. at-same past now (watched_at kept.list.items k) (bit_at kept.said k)
+      (bit_at kept.happened k) same (knows.each k);
+}
+
+pub signals-stay : (past now : List Statement) (names events : List (List ℕ)) (kept : Signals)
+    → StaysSame past now → KnowsSignals names events kept past
+    → KnowsSignals names events kept now
+signals-stay past now names events kept same knows = record {
+  tests = tests-stay past now _ names kept.tests same knows.tests;
+  changes = changes-stay past now _ events kept.changes same knows.changes;
+}
+
+pub offers-stay : (all : List SignalDefined) (past now : List Statement) (found : List Found)
+    → ReadsSame past now → KnowOffers all past found → KnowOffers all now found
+offers-stay all past now [] same knows = tt
+offers-stay all past now (found ∷ others) same knows = (
+  record {
+    same = knows.0.same;
+    tests = knows.0.tests ∙ ap (λ (f : SignalDefined → Bool). map f found.needed.value.tests.items)
+        (fun_ext (λ one. ap is_some (sym (same.tests (Some one)))));
+    changes = knows.0.changes
+        ∙ ap (λ (f : SignalDefined → Bool). map f found.needed.value.changes.items)
+        (fun_ext (λ one. ap is_some (sym (same.parts (Some one)))));
+    names = knows.0.names;
+    events = knows.0.events;
+  },
+  offers-stay all past now others same knows.1,
+)
+
+-- all of it, where the reader has this past
+pub past-stays : (reader : TokenReader) (past now : List Statement) (kept : Past)
+    → ((test : List ℕ → List ℕ → Bool) (name : List ℕ) → identifier_of test now name
+    ≡ identifier_of test past name)
+    → StaysSame past now → Knows reader.names reader.events kept now → KnowsPast reader past
+    → KnowsPast (record reader { past = kept }) now
+past-stays reader past now kept identifiers same known knows = record {
+  past = known;
+  needed = needed-same past now reader.needed.items identifiers knows.needed;
+  signals = signals-stay past now _ _ reader.signals same knows.signals;
+  offers = offers-stay _ past now reader.needed.items same.reads knows.offers;
+  within = knows.within;
+}
+
+-- whatever is open
+pub knows-kept : (reader : TokenReader) (inside : Inside) (tokens : Vec (Vec ℕ)) (letters : Vec ℕ)
+    (past : List Statement) → KnowsPast reader past
+    → KnowsPast (record reader { inside = inside; tokens = tokens; letters = letters }) past
+knows-kept reader inside tokens letters past knows = record {
+  past = knows.past;
+  needed = knows.needed;
+  signals = knows.signals;
+  offers = knows.offers;
+  within = knows.within;
+}

@@ -1,0 +1,152 @@
+-- Where there is no definition, nothing hangs on what was read.
+use Rattle.std.proofs.Common.{arith, ◌≡◌, ℕ, zero, suc, ◌==◌, Bool, true, false, List, [], ◌∷◌, length, map, Option, None, Some, refl, sym, ap, ◌∙◌, subst}
+use Rattle.std.specs.Prelude.{All}
+use Rattle.std.proofs.lemmas.Bool.Decides.{nat_tests}
+use Rattle.std.specs.Option.{is_some, option_and_then, option_map_or}
+use Rattle.std.specs.Int.{bit_at}
+use Rattle.std.proofs.lemmas.List.Elements.{All-head}
+use Rattle.tre_define.specs.Signals.{SignalDefined, signal_definition_of}
+use Rattle.tre_define.specs.declared.part.Part.{Part}
+use Rattle.tre_vcd.specs.VcdReading.{Statement, Asked, of_changes}
+use Rattle.tre_vcd.specs.Offers.{KnowOffers}
+use Rattle.tre_vcd.specs.Signals.{AreDefined, AreTested, AreWatched, KnowsAt, KnowsChanges, KnowsSignals, KnowsTests, bit_of, has_at, has_changed, part_at, part_kept, part_read, test_at, test_read, watched_at}
+use Rattle.tre_vcd.specs.declared.changes.Changes.{Changes}
+use Rattle.tre_vcd.specs.declared.changes.Watched.{Watched}
+use Rattle.tre_vcd.specs.declared.found.Found.{Found}
+use Rattle.tre_vcd.specs.declared.signals.Signals.{Signals}
+use Rattle.tre_vcd.specs.declared.tests.Tested.{Tested}
+use Rattle.tre_vcd.specs.declared.tests.Tests.{Tests}
+use Rattle.tre_vcd.proofs.Testing.{none-passes, unasked}
+use Rattle.tre_vcd.proofs.Watching as watching
+
+pub no-definition : (all : List SignalDefined) → (length all == 0) ≡ true → all ≡ []
+no-definition [] is = refl
+no-definition (one ∷ all) is = absurd (grind (arith, nat_tests))
+
+pub defined-none : (names : List (List ℕ)) → AreDefined [] names []
+defined-none [] = refl
+defined-none (name ∷ names) = (refl, defined-none names)
+
+has-none : (names : List (List ℕ)) (kept : List (Option SignalDefined)) (k : ℕ)
+    → AreDefined [] names kept → has_at kept k ≡ false
+has-none [] kept k defined = ap (λ own. has_at own k) defined
+has-none (name ∷ names) [] k defined = refl
+has-none (name ∷ names) (own ∷ kept) zero defined = ap is_some defined.0
+has-none (name ∷ names) (own ∷ kept) (suc k) defined = has-none names kept k defined.1
+
+tested-none : (past now : List Statement) (names : List (List ℕ)) (list : List Tested)
+    → AreDefined [] names (map (λ tested. tested.definition) list) → AreTested past list
+    → AreTested now list
+tested-none past now names [] defined are = tt
+tested-none past now [] (tested ∷ list) defined are = absurd (cc (defined))
+tested-none past now (name ∷ names) (tested ∷ list) defined are = (
+  are.0 ∙ ap (test_read past) defined.0 ∙ sym (ap (test_read now) defined.0),
+  tested-none past now names list defined.1 are.1,
+)
+
+tests-undefined : (past now : List Statement) (names : List (List ℕ)) (kept : Tests)
+    → KnowsTests [] names kept past → KnowsTests [] names kept now
+tests-undefined past now names kept knows =
+    let none : (k : ℕ) → test_at kept.list.items k ≡ None =
+    λ k. unasked past kept.list.items k knows.tests (has-none names _ k knows.definitions) in
+    record {
+      few = knows.few;
+      definitions = knows.definitions;
+      tests = tested-none past now names kept.list.items knows.definitions knows.tests;
+      sieve = λ e k asked is. absurd (cc (none k, is));
+      defined = knows.defined;
+      values = λ k.
+          knows.values k
+          ∙ ap bit_of (none-passes past (test_at kept.list.items k) (none k)
+          ∙ sym (none-passes now (test_at kept.list.items k) (none k)));
+    }
+
+watched-none : (past now : List Statement) (names : List (List ℕ)) (list : List Watched)
+    → AreDefined [] names (map (λ watched. watched.definition) list) → AreWatched past list
+    → AreWatched now list
+watched-none past now names [] defined are = tt
+watched-none past now [] (watched ∷ list) defined are = absurd (cc (defined))
+watched-none past now (name ∷ names) (watched ∷ list) defined are = (
+  are.0 ∙ ap (part_read past) defined.0 ∙ sym (ap (part_read now) defined.0),
+  watched-none past now names list defined.1 are.1,
+)
+
+at-undefined : (past now : List Statement) (watched : Option Watched) (said happened : ℕ)
+    → option_and_then part_kept watched ≡ None → KnowsAt watched said happened past
+    → KnowsAt watched said happened now
+at-undefined past now None said happened none knows = knows
+at-undefined past now (Some watched) said happened none knows = record {
+  letters = λ asked is. absurd (cc (none, is));
+  silent = knows.silent;
+  happened_is = knows.happened_is
+      ∙ ap (λ (o : Option (Asked Part)). bit_of (option_map_or (has_changed past) o false)) none
+      ∙ sym (ap (λ (o : Option (Asked Part)). bit_of (option_map_or (has_changed now) o false))
+      none);
+}
+
+changes-undefined : (past now : List Statement) (names : List (List ℕ)) (kept : Changes)
+    → KnowsChanges [] names kept past → KnowsChanges [] names kept now
+changes-undefined past now names kept knows =
+    let none : (k : ℕ) → part_at kept.list.items k ≡ None =
+    λ k. watching.unasked past kept.list.items k knows.parts
+    (has-none names _ k knows.definitions) in
+    record {
+      few = knows.few;
+      definitions = knows.definitions;
+      parts = watched-none past now names kept.list.items knows.definitions knows.parts;
+      sieve = λ e k asked is. absurd (cc (none k, is));
+      defined = knows.defined;
+      each = λ k. at-undefined past now (watched_at kept.list.items k) (bit_at kept.said k)
+          (bit_at kept.happened k) (none k) (knows.each k);
+    }
+
+pub signals-undefined : (names events : List (List ℕ)) (kept : Signals)
+    (past now : List Statement) → (length kept.definitions.items == 0) ≡ true
+    → KnowsSignals names events kept past → KnowsSignals names events kept now
+signals-undefined names events kept past now empty knows =
+    let none = no-definition kept.definitions.items empty in
+    record {
+      tests =
+          subst (λ all. KnowsTests all names kept.tests now) (sym none)
+          (tests-undefined past now names kept.tests
+          (subst (λ all. KnowsTests all names kept.tests past) none knows.tests));
+      changes =
+          subst (λ all. KnowsChanges (of_changes all) events kept.changes now) (sym none)
+          (changes-undefined past now events kept.changes
+          (subst (λ all. KnowsChanges (of_changes all) events kept.changes past) none
+          knows.changes));
+    }
+
+own-none : (own : List SignalDefined)
+    → All (λ one. signal_definition_of [] one.name ≡ Some one) own → own ≡ []
+own-none [] all = refl
+own-none (one ∷ own) all =
+    absurd (cc (All-head (λ it. signal_definition_of [] it.name ≡ Some it) one own all))
+
+flags-none : (f g : SignalDefined → Bool) (own : List SignalDefined) (flags : List Bool)
+    → own ≡ [] → flags ≡ map f own → flags ≡ map g own
+flags-none f g own flags none is =
+    is ∙ ap (map f) none ∙ sym (ap (map g) none)
+
+offers-undefined : (past now : List Statement) (found : List Found)
+    → KnowOffers [] past found → KnowOffers [] now found
+offers-undefined past now [] knows = tt
+offers-undefined past now (found ∷ others) knows = (
+  record {
+    same = knows.0.same;
+    tests = flags-none _ _ found.needed.value.tests.items found.tests.items
+        (own-none found.needed.value.tests.items knows.0.names.defined) knows.0.tests;
+    changes = flags-none _ _ found.needed.value.changes.items found.changes.items
+        (own-none found.needed.value.changes.items knows.0.events.defined) knows.0.changes;
+    names = knows.0.names;
+    events = knows.0.events;
+  },
+  offers-undefined past now others knows.1,
+)
+
+pub offers-empty : (all : List SignalDefined) (past now : List Statement) (found : List Found)
+    → (length all == 0) ≡ true → KnowOffers all past found → KnowOffers all now found
+offers-empty all past now found empty knows =
+    let none = no-definition all empty in
+    subst (λ own. KnowOffers own now found) (sym none)
+    (offers-undefined past now found (subst (λ own. KnowOffers own past found) none knows))

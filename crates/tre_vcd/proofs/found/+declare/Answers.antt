@@ -1,0 +1,8 @@
+use Rattle.std.proofs.Common.{subst}
+use Rattle.tre_vcd.specs.Offers.{KnowOffers}
+use Rattle.tre_vcd.proofs.found.+declare.Goals as goal
+
+pub returns-clause-offers : goal.returns-clause-offers
+returns-clause-offers t c = λ definitions past knows.
+    let both = subst (KnowOffers definitions past) c.in-Some.ensures.cases.0 knows in
+    (c.declare.ensures.offers definitions past both.0, c.declare-2.ensures.offers definitions past both.1)

@@ -1,0 +1,59 @@
+use Rattle.std.proofs.Common.{◌≡◌, ◌∷◌, Some, None, map, sym, ap, ◌∙◌, subst, arith}
+use Rattle.std.specs.Option.{option_map}
+use Rattle.tre_vcd.specs.VcdReading.{var, scopes_at, offer_in}
+use Rattle.tre_vcd.specs.Kept.{KnowsAll, plain_of}
+use Rattle.tre_vcd.specs.Offers.{KnowOffers}
+use Rattle.tre_vcd.specs.Signals.{offer_kept}
+use Rattle.tre_vcd.proofs.Declaring.{offer-six}
+use Rattle.tre_vcd.proofs.Needing.{written-back}
+use Rattle.tre_vcd.proofs.Standing.{stays-unoffered}
+use Rattle.tre_vcd.proofs.Staying.{offers-stay, signals-stay}
+use Rattle.tre_vcd.proofs.token_reader.TokenReader.declare_offered.Goals as goal
+
+pub returns-in_default-clause-knows : goal.returns-in_default-clause-knows
+returns-in_default-clause-knows c = λ past tokens quiet before scopes kept knows offers.
+    let reader = c.args.self.now in
+    let none : offer_in (scopes_at past) tokens ≡ None =
+    sym (offer-six (scopes_at past) tokens)
+    ∙ ap (offer_in (scopes_at past)) (sym (ap (map _) c.deref.ensures.value ∙ kept))
+    ∙ sym (c.in_ok-offered.ensures (scopes_at past) scopes)
+    ∙ ap (option_map offer_kept) c.in_default.is in
+    let stays = stays-unoffered past tokens none in (
+      signals-stay past (var tokens ∷ past) reader.names reader.events reader.signals stays knows,
+      offers-stay reader.signals.definitions.items past (var tokens ∷ past) reader.needed.items
+          stays.reads offers,
+    )
+
+pub returns-clause-knows : goal.returns-clause-knows
+returns-clause-knows c = λ past tokens quiet before scopes kept knows offers.
+    let reader = c.args.self.now in
+    let all = reader.signals.definitions.items in
+    let offered : offer_in (scopes_at past) tokens ≡ Some (offer_kept c.in-Some.offered) =
+    sym (offer-six (scopes_at past) tokens)
+    ∙ ap (offer_in (scopes_at past)) (sym (ap (map _) c.deref.ensures.value ∙ kept))
+    ∙ sym (c.in_ok-offered.ensures (scopes_at past) scopes)
+    ∙ ap (option_map offer_kept) c.in-Some.is in (
+      c.in_ok-declare.ensures.knows reader.names reader.events past tokens offered quiet before
+          knows,
+      written-back (KnowOffers all (var tokens ∷ past)) c.declare_offered.new.all
+          reader.needed.items reader.needed.len
+          (omega (arith, c.declare_offered.auto.all, c.deref_mut.ensures.len))
+          (c.declare_offered.ensures.offers all past tokens offered
+          (subst (KnowOffers all past) (sym c.deref_mut.ensures.value) offers)),
+    )
+
+pub returns-clause-needed : goal.returns-clause-needed
+returns-clause-needed c = λ past knows.
+    let reader = c.args.self.now in
+    written-back (KnowsAll past) c.declare_offered.new.all reader.needed.items reader.needed.len
+    (omega (arith, c.declare_offered.auto.all, c.deref_mut.ensures.len))
+    (c.declare_offered.ensures.knows past
+    (subst (KnowsAll past) (sym c.deref_mut.ensures.value) knows))
+
+pub returns-clause-plain : goal.returns-clause-plain
+returns-clause-plain c =
+    let reader = c.args.self.now in
+    written-back (λ all. map plain_of all ≡ map plain_of reader.needed.items)
+    c.declare_offered.new.all reader.needed.items reader.needed.len
+    (omega (arith, c.declare_offered.auto.all, c.deref_mut.ensures.len))
+    (c.declare_offered.ensures.plain ∙ ap (map plain_of) c.deref_mut.ensures.value)

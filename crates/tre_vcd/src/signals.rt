@@ -1,0 +1,130 @@
+// What names read by their definitions.
+ghost use Rattle.std.specs.Prelude.{◌≡◌, ◌≢◌, ◌==◌, ◌∷◌, ℕ, List, [], length, true, false, Some, None, IfOk, OnOk};
+ghost use Rattle.tre_vcd.specs.VcdReading.{Form, Statement, var, change, time, definitions, is_defined, scopes_at, offer_in};
+ghost use Rattle.tre_vcd.specs.Kept.{IsQuiet};
+ghost use Rattle.tre_vcd.specs.Signals.{offer_kept, KnowsTests, KnowsChanges};
+
+use crate::changes::Changes;
+use crate::definitions::{copy_if, copy_of, definition_of, of_changes};
+use crate::offer::Offered;
+use crate::tests::Tests;
+use std::alloc::{AllocError, Global};
+use tre_define::SignalDefinition;
+use tre_state::Names;
+
+// The definitions, and what the names of the propositions and of the events read by them.
+#[derive(Drop)]
+pub struct Signals {
+    pub definitions: Vec<SignalDefinition>,
+    pub tests: Tests,
+    pub changes: Changes,
+}
+
+impl Signals {
+    ghost use Rattle.tre_vcd.specs.Signals.{KnowsSignals};
+
+    // There is no definition.
+    pub fn new(alloc: Global) -> Signals
+        ensures knows { (names events : List (List ℕ)) → KnowsSignals names events result [] }
+        ensures none { result.definitions.items ≡ [] }
+    {
+        Signals {
+            definitions: Vec::new(alloc),
+            tests: Tests::new(alloc),
+            changes: Changes::new(alloc),
+        }
+    }
+
+    // There are these definitions.
+    pub fn define(
+        &mut self,
+        alloc: Global,
+        names: &Names,
+        events: &Names,
+        all: &[SignalDefinition],
+    ) -> Result<(), AllocError>
+        ensures knows { OnOk result (KnowsSignals names.now events.now self.new []) }
+        ensures kept { OnOk result (self.new.definitions.items ≡ all.now) }
+    {
+        let changing = of_changes(alloc, all)?;
+        self.tests = tests_of(alloc, names, all)?;
+        self.changes = changes_of(alloc, events, &changing)?;
+        self.definitions = copy_of(alloc, all)?;
+        Ok(())
+    }
+
+    // Whether there is no definition.
+    #[inline(always)]
+    pub fn is_empty(&self) -> bool
+        ensures { result ≡ (length self.now.definitions.items == 0) }
+    {
+        self.definitions.as_slice().is_empty()
+    }
+
+    // This is offered by a declaration.
+    pub fn declare(&mut self, alloc: Global, offered: &Offered) -> Result<(), AllocError>
+        ensures knows { (names events : List (List ℕ)) (past : List Statement)
+            (tokens : List (List ℕ)) →
+            offer_in (scopes_at past) tokens ≡ Some (offer_kept offered.now) →
+            IsQuiet past → is_defined past ≡ false → KnowsSignals names events self.old past →
+            OnOk result (KnowsSignals names events self.new (var tokens ∷ past)) }
+        ensures kept { self.new.definitions ≡ self.old.definitions }
+    {
+        self.tests.declare(alloc, offered)?;
+        self.changes.declare(alloc, offered)?;
+        Ok(())
+    }
+
+    // The declarations end.
+    pub fn sift(&mut self)
+        ensures knows { (names events : List (List ℕ)) (past : List Statement) →
+            KnowsSignals names events self.old past →
+            KnowsSignals names events self.new (definitions ∷ past) }
+        ensures kept { self.new.definitions ≡ self.old.definitions }
+    {
+        self.tests.sift();
+        self.changes.sift();
+    }
+
+    // An identifier has a value of these letters.
+    #[inline(never)]
+    pub fn change(&mut self, identifier: &[u8], letters: &[u8]) -> Result<(), AllocError>
+        ensures knows { (names events : List (List ℕ)) (past : List Statement) (form : Form) →
+            is_defined past ≡ true → KnowsSignals names events self.old past →
+            OnOk result (KnowsSignals names events self.new
+            (change form identifier.now letters.now ∷ past)) }
+        ensures kept { self.new.definitions ≡ self.old.definitions }
+    {
+        self.tests.change(identifier, letters);
+        self.changes.change(identifier, letters)?;
+        Ok(())
+    }
+}
+
+// The tests of the names by these definitions.
+fn tests_of(alloc: Global, names: &Names, all: &[SignalDefinition]) -> Result<Tests, AllocError>
+    ensures { IfOk result (λ tests. KnowsTests all.now names.now tests []) }
+{
+    let mut tests = Tests::new(alloc);
+    for number in 0..names.len() as u8 {
+        match names.name(number) {
+            Some(name) => tests.add(copy_if(definition_of(all, name.as_bytes()))?)?,
+            None => unreachable!(),
+        }
+    }
+    Ok(tests)
+}
+
+// The changes of the names by these definitions.
+fn changes_of(alloc: Global, names: &Names, all: &[SignalDefinition]) -> Result<Changes, AllocError>
+    ensures { IfOk result (λ changes. KnowsChanges all.now names.now changes []) }
+{
+    let mut changes = Changes::new(alloc);
+    for number in 0..names.len() as u8 {
+        match names.name(number) {
+            Some(name) => changes.add(alloc, copy_if(definition_of(all, name.as_bytes()))?)?,
+            None => unreachable!(),
+        }
+    }
+    Ok(changes)
+}
