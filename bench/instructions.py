@@ -20,6 +20,7 @@ from reading import PATTERN, pattern_of, six_names, write_file
 SEGMENTS = 30000
 MEGABYTES = 2
 MIX = "(p;q) & (true % [1,6]) | <:req:> % [1,4]"
+COMPARED = "low = top.u0.s1 == 0x5a"    # a vector of vcd.VECTORS
 PATTERNS = [
     "p",
     "<:p:>",
@@ -95,7 +96,9 @@ def dump_rows(folder):
         vcd.write_dump(path, dump, dump.block, MEGABYTES)
         rows.append((label, ["--format", "vcd", dump.pattern()], path))
     every = ("the same, 56 asked for", ["--format", "vcd", vcd.ALL.pattern_of_all()], rows[0][2])
-    return rows[:1] + [every] + rows[1:]
+    compared = ("the same, and a vector compared", ["--format", "vcd", "--define", COMPARED, "low"],
+                rows[-1][2])
+    return rows[:1] + [every] + rows[1:] + [compared]
 
 
 def reading(programs, folder):
