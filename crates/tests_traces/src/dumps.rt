@@ -1,33 +1,19 @@
 // Tests of tre_vcd.
 use crate::reading::{feed, read};
-use std::alloc::{AllocError, Global};
-use std::rc::Rc;
+use std::alloc::Global;
 use std::test::Fail;
 use tests_support::names_of;
 use tre_state::Names;
 use tre_trace::TraceKind::{LineTooLong, Spent};
 use tre_trace::{TraceFault, TraceKind, TraceReader};
-use tre_vcd::{Needed, TokenReader, VcdReader};
+use tre_vcd::{TokenReader, VcdReader};
 
-// These names, which a dump must declare.
-fn needed(alloc: Global, names: &Names, events: &Names) -> Result<Rc<Needed>, AllocError> {
-    let mut needed = Needed::new(alloc);
-    needed.add(names, events)?;
-    match Rc::new(alloc, needed) {
-        Ok(needed) => Ok(needed),
-        Err(_) => Err(AllocError),
-    }
-}
-
-// A reader of these propositions and events, which the dump must declare.
-fn reader(alloc: Global, names: &str, events: &str) -> Result<VcdReader, Fail> {
-    let names = names_of(alloc, names)?;
-    let events = names_of(alloc, events)?;
-    let own = names.try_clone()?;
-    let own_events = events.try_clone()?;
-    let mut reader = TokenReader::new(alloc, own, own_events, 0);
-    reader.must_declare(&needed(alloc, &names, &events)?)?;
-    Ok(VcdReader::new(alloc, reader))
+// A reader that is asked for no name.
+fn reader(alloc: Global) -> Result<VcdReader, Fail> {
+    let names = names_of(alloc, "")?;
+    let events = names_of(alloc, "")?;
+    let tokens = TokenReader::new(alloc, names, events, 0);
+    Ok(VcdReader::new(alloc, tokens))
 }
 
 // The propositions p and q, and the event e.
@@ -61,7 +47,7 @@ fn long_token(alloc: Global) -> Result<Vec<u8>, Fail> {
 fn a_token_may_have_so_many_bytes(rt: HostRuntime) -> Result<(), Fail> {
     let long = long_token(rt.alloc())?;
     let mut segments = Vec::new(rt.alloc());
-    let mut reader = reader(rt.alloc(), "", "")?;
+    let mut reader = reader(rt.alloc())?;
     for piece in [b"$date ".as_slice(), &long, b" ".as_slice(), &long] {
         assert!(rt; feed(&mut reader, piece, &mut segments).is_ok());
     }
