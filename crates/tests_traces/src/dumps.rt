@@ -3,7 +3,6 @@ use crate::reading::{feed, read};
 use std::alloc::Global;
 use std::test::Fail;
 use tests_support::names_of;
-use tre_state::Names;
 use tre_trace::TraceKind::{LineTooLong, Spent};
 use tre_trace::{TraceFault, TraceKind, TraceReader};
 use tre_vcd::{TokenReader, VcdReader};
