@@ -1,10 +1,12 @@
 -- A zone cut at the six bounds of another: one by one, the pairs that miss the bound are put aside,
 -- and those that meet it are cut further.
-use Rattle.std.proofs.Common.{ℕ, ◌+◌, ◌^◌, ◌<◌, ◌⊎◌, ◌↔◌, List, [], ◌∷◌, ◌++◌, Option, inl, inr, ⊎_elim, ℤ}
+use Rattle.std.proofs.Common.{ℕ, ◌+◌, ◌^◌, ◌<◌, ◌⊎◌, ◌↔◌, List, [], ◌∷◌, ◌++◌, get_or, Option, inl, inr, ⊎_elim, ℤ, pos, ◌-ℤ◌, ◌≡◌, ◌==◌, Bool, true, false, cond, refl, sym, ◌∙◌, ap, subst, arith}
 use Rattle.tre_pairs.specs.Pairs.{Both}
 use Rattle.tre_pairs.specs.Except.{Except}
 use Rattle.tre_pairs.specs.declared.TheConstants.{TIME_MAX}
-use Rattle.tre_zone.specs.Bound.{Meets}
+use Rattle.std.specs.Int.{int_min}
+use Rattle.std.proofs.lemmas.Bool.Decides.{nat_tests}
+use Rattle.tre_zone.specs.Bound.{Meets, IsKeyWithin, IsValueWithin}
 use Rattle.tre_zone.specs.Zone.{ZoneHolds, IsInFrame, GivesZone, AreKeysWithin, AreValuesWithin}
 use Rattle.tre_zone.specs.declared.zone_bounds.ZoneBounds.{ZoneBounds}
 use Rattle.tre_zone.proofs.Paths.{Meets-min}
@@ -13,9 +15,9 @@ use Rattle.tre_zoneset.proofs.Unions.{FoundHolds-exact}
 use Rattle.tre_minus.specs.declared.cut.Part.{Part}
 use Rattle.tre_minus.specs.declared.side.Side.{Side}
 use Rattle.tre_minus.specs.declared.side.Side.TheVariants.{BeginLow, BeginHigh, EndLow, EndHigh, DurationLow, DurationHigh}
-use Rattle.tre_minus.specs.Sides.{MeetsSide, missing_of, meeting_of}
+use Rattle.tre_minus.specs.Sides.{bound_at, MeetsAt, MeetsSide, opposite, number_of, tighter_at, missing_of, meeting_of}
 use Rattle.tre_minus.specs.Parts.{AreAdded}
-use Rattle.tre_minus.proofs.Denying.{Meets-cases, Meets-never, Meets-missing, value-key, value-missing, key-meeting}
+use Rattle.tre_minus.proofs.Denying.{Meets-cases, Meets-never, value-key, value-missing, key-meeting}
 use Rattle.tre_minus.proofs.Comparing.{AreAdded-nothing, AreAdded-more, AreAdded-same}
 
 -- ---- one bound
@@ -24,9 +26,142 @@ decides : (key : ℤ) (p q n : ℕ) → Meets key p q n ⊎ (Meets key p q n →
 decides key p q n =
     ⊎_elim (λ m. inl m) (λ m. inr (λ met. Meets-never key p q n met m)) (Meets-cases key p q n)
 
+denied_by : (key : ℤ) (p q n : ℕ) → Meets (pos 1 -ℤ key) q p n ↔ (Meets key p q n → ⊥)
+denied_by key p q n = (
+  (λ m met. Meets-never key p q n met m),
+  (λ never. ⊎_elim (λ met. absurd (never met)) (λ m. m) (Meets-cases key p q n)),
+)
+
+-- ---- all six
+
+each_held : (zone : ZoneBounds) (a b n : ℕ)
+    → ZoneHolds zone a b n ↔ ((side : Side) → MeetsSide side zone a b n)
+each_held zone a b n = (held, (λ each. record {
+  begin_low = each BeginLow;
+  begin_high = each BeginHigh;
+  end_low = each EndLow;
+  end_high = each EndHigh;
+  dur_low = each DurationLow;
+  dur_high = each DurationHigh;
+}))
+  where
+    held : ZoneHolds zone a b n → (side : Side) → MeetsSide side zone a b n
+    held h BeginLow = h.begin_low
+    held h BeginHigh = h.begin_high
+    held h EndLow = h.end_low
+    held h EndHigh = h.end_high
+    held h DurationLow = h.dur_low
+    held h DurationHigh = h.dur_high
+
+key_at : (limit : ℕ) (zone : ZoneBounds) → AreKeysWithin limit zone → (side : Side)
+    → IsKeyWithin limit (bound_at side zone)
+key_at limit zone h BeginLow = h.begin_low
+key_at limit zone h BeginHigh = h.begin_high
+key_at limit zone h EndLow = h.end_low
+key_at limit zone h EndHigh = h.end_high
+key_at limit zone h DurationLow = h.dur_low
+key_at limit zone h DurationHigh = h.dur_high
+
+abbrev pub six : List Side
+six = BeginLow ∷ BeginHigh ∷ EndLow ∷ EndHigh ∷ DurationLow ∷ DurationHigh ∷ []
+
+side_of : ℕ → Side
+side_of number = get_or six number BeginLow
+
+side_numbered : (side : Side) → side_of (number_of side) ≡ side
+unfolding side_of
+side_numbered BeginLow = refl
+side_numbered BeginHigh = refl
+side_numbered EndLow = refl
+side_numbered EndHigh = refl
+side_numbered DurationLow = refl
+side_numbered DurationHigh = refl
+
+one_side : (side other : Side) → (number_of side == number_of other) ≡ true → side ≡ other
+one_side side other e =
+    let same : number_of side ≡ number_of other = grind (arith, nat_tests) in
+    sym (side_numbered side) ∙ ap side_of same ∙ side_numbered other
+
+own_number : (side : Side) → (number_of side == number_of side) ≡ true
+own_number side = grind (arith, nat_tests)
+
+bound_tighter : (side other : Side) (key : ℤ) (bounds : ZoneBounds)
+    → bound_at other (tighter_at side key bounds)
+    ≡ cond (number_of side == number_of other) (int_min (bound_at other bounds) key)
+    (bound_at other bounds)
+bound_tighter side BeginLow key bounds = refl
+bound_tighter side BeginHigh key bounds = refl
+bound_tighter side EndLow key bounds = refl
+bound_tighter side EndHigh key bounds = refl
+bound_tighter side DurationLow key bounds = refl
+bound_tighter side DurationHigh key bounds = refl
+
+-- What is so of each bound is so of each of the tightened ones, where it is of that one.
+each_tighter : (P : Side → ℤ → Type 0) (side : Side) (key : ℤ) (bounds : ZoneBounds)
+    → P side (int_min (bound_at side bounds) key) → ((other : Side) → P other (bound_at other bounds))
+    → (other : Side) → P other (bound_at other (tighter_at side key bounds))
+each_tighter P side key bounds own each other =
+    subst (P other) (sym (bound_tighter side other key bounds))
+    (by (number_of side == number_of other) refl)
+  where
+    by : (is : Bool) → (number_of side == number_of other) ≡ is
+        → P other (cond is (int_min (bound_at other bounds) key) (bound_at other bounds))
+    by true e = subst (λ (s : Side). P s (int_min (bound_at s bounds) key)) (one_side side other e) own
+    by false e = each other
+
+meets_min : (side : Side) (x y : ℤ) (a b n : ℕ) → 0 < n
+    → MeetsAt side (int_min x y) a b n ↔ (MeetsAt side x a b n × MeetsAt side y a b n)
+meets_min BeginLow x y a b n some = Meets-min x y 0 a n some
+meets_min BeginHigh x y a b n some = Meets-min x y a 0 n some
+meets_min EndLow x y a b n some = Meets-min x y 0 b n some
+meets_min EndHigh x y a b n some = Meets-min x y b 0 n some
+meets_min DurationLow x y a b n some = Meets-min x y a b n some
+meets_min DurationHigh x y a b n some = Meets-min x y b a n some
+
+tighter_holds : (side : Side) (key : ℤ) (bounds : ZoneBounds) (a b n : ℕ) → 0 < n
+    → ZoneHolds (tighter_at side key bounds) a b n
+    ↔ (ZoneHolds bounds a b n × MeetsAt side key a b n)
+tighter_holds side key bounds a b n some = (
+  (λ h.
+      let each = (each_held (tighter_at side key bounds) a b n).0 h in (
+        (each_held bounds a b n).1 (λ other. looser other (number_of side == number_of other) refl
+            (subst (λ k. MeetsAt other k a b n) (bound_tighter side other key bounds) (each other))),
+        ((meets_min side (bound_at side bounds) key a b n some).0 (own
+            (subst (λ k. MeetsAt side k a b n) (bound_tighter side side key bounds)
+            (each side)))).1,
+      )),
+  (λ h. (each_held (tighter_at side key bounds) a b n).1 (each_tighter
+      (λ s k. MeetsAt s k a b n) side key bounds
+      ((meets_min side (bound_at side bounds) key a b n some).1
+      ((each_held bounds a b n).0 h.0 side, h.1)) ((each_held bounds a b n).0 h.0))),
+)
+  where
+    looser : (other : Side) (is : Bool) → (number_of side == number_of other) ≡ is
+        → MeetsAt other (cond (number_of side == number_of other)
+        (int_min (bound_at other bounds) key) (bound_at other bounds)) a b n
+        → MeetsAt other (bound_at other bounds) a b n
+    looser other true e m = ((meets_min other (bound_at other bounds) key a b n some).0
+        (subst (λ (t : Bool). MeetsAt other (cond t (int_min (bound_at other bounds) key)
+        (bound_at other bounds)) a b n) e m)).0
+    looser other false e m = subst (λ (t : Bool). MeetsAt other (cond t
+        (int_min (bound_at other bounds) key) (bound_at other bounds)) a b n) e m
+
+    own : MeetsAt side (cond (number_of side == number_of side) (int_min (bound_at side bounds) key)
+        (bound_at side bounds)) a b n → MeetsAt side (int_min (bound_at side bounds) key) a b n
+    own m = subst (λ (t : Bool). MeetsAt side (cond t (int_min (bound_at side bounds) key)
+        (bound_at side bounds)) a b n) (own_number side) m
+
+denied_at : (side : Side) (key : ℤ) (a b n : ℕ)
+    → MeetsAt (opposite side) (pos 1 -ℤ key) a b n ↔ (MeetsAt side key a b n → ⊥)
+denied_at BeginLow key a b n = denied_by key 0 a n
+denied_at BeginHigh key a b n = denied_by key a 0 n
+denied_at EndLow key a b n = denied_by key 0 b n
+denied_at EndHigh key a b n = denied_by key b 0 n
+denied_at DurationLow key a b n = denied_by key a b n
+denied_at DurationHigh key a b n = denied_by key b a n
+
 pub MeetsSide-decides : (side : Side) (taken : ZoneBounds) (a b n : ℕ)
     → MeetsSide side taken a b n ⊎ (MeetsSide side taken a b n → ⊥)
-unfolding MeetsSide
 MeetsSide-decides BeginLow taken a b n = decides taken.begin_low 0 a n
 MeetsSide-decides BeginHigh taken a b n = decides taken.begin_high a 0 n
 MeetsSide-decides EndLow taken a b n = decides taken.end_low 0 b n
@@ -37,380 +172,58 @@ MeetsSide-decides DurationHigh taken a b n = decides taken.dur_high b a n
 pub missing-holds : (side : Side) (bounds taken : ZoneBounds) (a b n : ℕ) → 0 < n
     → ZoneHolds (missing_of side bounds taken) a b n
     ↔ Except (ZoneHolds bounds) (MeetsSide side taken) a b n
-unfolding MeetsSide missing_of
-missing-holds BeginLow bounds taken a b n some =
-    let one = Meets-missing bounds.begin_high taken.begin_low 0 a n some in (
-      (λ h. record {
-        related = record {
-          begin_low = h.begin_low;
-          begin_high = (one.0 h.begin_high).0;
-          end_low = h.end_low;
-          end_high = h.end_high;
-          dur_low = h.dur_low;
-          dur_high = h.dur_high;
-        };
-        never = (one.0 h.begin_high).1;
-      }),
-      (λ h. record {
-        begin_low = h.related.begin_low;
-        begin_high = one.1 (h.related.begin_high, h.never);
-        end_low = h.related.end_low;
-        end_high = h.related.end_high;
-        dur_low = h.related.dur_low;
-        dur_high = h.related.dur_high;
-      }),
-    )
-missing-holds BeginHigh bounds taken a b n some =
-    let one = Meets-missing bounds.begin_low taken.begin_high a 0 n some in (
-      (λ h. record {
-        related = record {
-          begin_low = (one.0 h.begin_low).0;
-          begin_high = h.begin_high;
-          end_low = h.end_low;
-          end_high = h.end_high;
-          dur_low = h.dur_low;
-          dur_high = h.dur_high;
-        };
-        never = (one.0 h.begin_low).1;
-      }),
-      (λ h. record {
-        begin_low = one.1 (h.related.begin_low, h.never);
-        begin_high = h.related.begin_high;
-        end_low = h.related.end_low;
-        end_high = h.related.end_high;
-        dur_low = h.related.dur_low;
-        dur_high = h.related.dur_high;
-      }),
-    )
-missing-holds EndLow bounds taken a b n some =
-    let one = Meets-missing bounds.end_high taken.end_low 0 b n some in (
-      (λ h. record {
-        related = record {
-          begin_low = h.begin_low;
-          begin_high = h.begin_high;
-          end_low = h.end_low;
-          end_high = (one.0 h.end_high).0;
-          dur_low = h.dur_low;
-          dur_high = h.dur_high;
-        };
-        never = (one.0 h.end_high).1;
-      }),
-      (λ h. record {
-        begin_low = h.related.begin_low;
-        begin_high = h.related.begin_high;
-        end_low = h.related.end_low;
-        end_high = one.1 (h.related.end_high, h.never);
-        dur_low = h.related.dur_low;
-        dur_high = h.related.dur_high;
-      }),
-    )
-missing-holds EndHigh bounds taken a b n some =
-    let one = Meets-missing bounds.end_low taken.end_high b 0 n some in (
-      (λ h. record {
-        related = record {
-          begin_low = h.begin_low;
-          begin_high = h.begin_high;
-          end_low = (one.0 h.end_low).0;
-          end_high = h.end_high;
-          dur_low = h.dur_low;
-          dur_high = h.dur_high;
-        };
-        never = (one.0 h.end_low).1;
-      }),
-      (λ h. record {
-        begin_low = h.related.begin_low;
-        begin_high = h.related.begin_high;
-        end_low = one.1 (h.related.end_low, h.never);
-        end_high = h.related.end_high;
-        dur_low = h.related.dur_low;
-        dur_high = h.related.dur_high;
-      }),
-    )
-missing-holds DurationLow bounds taken a b n some =
-    let one = Meets-missing bounds.dur_high taken.dur_low a b n some in (
-      (λ h. record {
-        related = record {
-          begin_low = h.begin_low;
-          begin_high = h.begin_high;
-          end_low = h.end_low;
-          end_high = h.end_high;
-          dur_low = h.dur_low;
-          dur_high = (one.0 h.dur_high).0;
-        };
-        never = (one.0 h.dur_high).1;
-      }),
-      (λ h. record {
-        begin_low = h.related.begin_low;
-        begin_high = h.related.begin_high;
-        end_low = h.related.end_low;
-        end_high = h.related.end_high;
-        dur_low = h.related.dur_low;
-        dur_high = one.1 (h.related.dur_high, h.never);
-      }),
-    )
-missing-holds DurationHigh bounds taken a b n some =
-    let one = Meets-missing bounds.dur_low taken.dur_high b a n some in (
-      (λ h. record {
-        related = record {
-          begin_low = h.begin_low;
-          begin_high = h.begin_high;
-          end_low = h.end_low;
-          end_high = h.end_high;
-          dur_low = (one.0 h.dur_low).0;
-          dur_high = h.dur_high;
-        };
-        never = (one.0 h.dur_low).1;
-      }),
-      (λ h. record {
-        begin_low = h.related.begin_low;
-        begin_high = h.related.begin_high;
-        end_low = h.related.end_low;
-        end_high = h.related.end_high;
-        dur_low = one.1 (h.related.dur_low, h.never);
-        dur_high = h.related.dur_high;
-      }),
+unfolding missing_of
+missing-holds side bounds taken a b n some =
+    let key = bound_at side taken in
+    let one = tighter_holds (opposite side) (pos 1 -ℤ key) bounds a b n some in
+    let never = denied_at side key a b n in (
+      (λ h. record { related = (one.0 h).0; never = never.0 (one.0 h).1 }),
+      (λ h. one.1 (h.related, never.1 h.never)),
     )
 
 pub meeting-holds : (side : Side) (bounds taken : ZoneBounds) (a b n : ℕ) → 0 < n
     → ZoneHolds (meeting_of side bounds taken) a b n
     ↔ Both (ZoneHolds bounds) (MeetsSide side taken) a b n
-unfolding MeetsSide meeting_of
-meeting-holds BeginLow bounds taken a b n some =
-    let one = Meets-min bounds.begin_low taken.begin_low 0 a n some in (
-      (λ h. record {
-        left = record {
-          begin_low = (one.0 h.begin_low).0;
-          begin_high = h.begin_high;
-          end_low = h.end_low;
-          end_high = h.end_high;
-          dur_low = h.dur_low;
-          dur_high = h.dur_high;
-        };
-        right = (one.0 h.begin_low).1;
-      }),
-      (λ h. record {
-        begin_low = one.1 (h.left.begin_low, h.right);
-        begin_high = h.left.begin_high;
-        end_low = h.left.end_low;
-        end_high = h.left.end_high;
-        dur_low = h.left.dur_low;
-        dur_high = h.left.dur_high;
-      }),
-    )
-meeting-holds BeginHigh bounds taken a b n some =
-    let one = Meets-min bounds.begin_high taken.begin_high a 0 n some in (
-      (λ h. record {
-        left = record {
-          begin_low = h.begin_low;
-          begin_high = (one.0 h.begin_high).0;
-          end_low = h.end_low;
-          end_high = h.end_high;
-          dur_low = h.dur_low;
-          dur_high = h.dur_high;
-        };
-        right = (one.0 h.begin_high).1;
-      }),
-      (λ h. record {
-        begin_low = h.left.begin_low;
-        begin_high = one.1 (h.left.begin_high, h.right);
-        end_low = h.left.end_low;
-        end_high = h.left.end_high;
-        dur_low = h.left.dur_low;
-        dur_high = h.left.dur_high;
-      }),
-    )
-meeting-holds EndLow bounds taken a b n some =
-    let one = Meets-min bounds.end_low taken.end_low 0 b n some in (
-      (λ h. record {
-        left = record {
-          begin_low = h.begin_low;
-          begin_high = h.begin_high;
-          end_low = (one.0 h.end_low).0;
-          end_high = h.end_high;
-          dur_low = h.dur_low;
-          dur_high = h.dur_high;
-        };
-        right = (one.0 h.end_low).1;
-      }),
-      (λ h. record {
-        begin_low = h.left.begin_low;
-        begin_high = h.left.begin_high;
-        end_low = one.1 (h.left.end_low, h.right);
-        end_high = h.left.end_high;
-        dur_low = h.left.dur_low;
-        dur_high = h.left.dur_high;
-      }),
-    )
-meeting-holds EndHigh bounds taken a b n some =
-    let one = Meets-min bounds.end_high taken.end_high b 0 n some in (
-      (λ h. record {
-        left = record {
-          begin_low = h.begin_low;
-          begin_high = h.begin_high;
-          end_low = h.end_low;
-          end_high = (one.0 h.end_high).0;
-          dur_low = h.dur_low;
-          dur_high = h.dur_high;
-        };
-        right = (one.0 h.end_high).1;
-      }),
-      (λ h. record {
-        begin_low = h.left.begin_low;
-        begin_high = h.left.begin_high;
-        end_low = h.left.end_low;
-        end_high = one.1 (h.left.end_high, h.right);
-        dur_low = h.left.dur_low;
-        dur_high = h.left.dur_high;
-      }),
-    )
-meeting-holds DurationLow bounds taken a b n some =
-    let one = Meets-min bounds.dur_low taken.dur_low a b n some in (
-      (λ h. record {
-        left = record {
-          begin_low = h.begin_low;
-          begin_high = h.begin_high;
-          end_low = h.end_low;
-          end_high = h.end_high;
-          dur_low = (one.0 h.dur_low).0;
-          dur_high = h.dur_high;
-        };
-        right = (one.0 h.dur_low).1;
-      }),
-      (λ h. record {
-        begin_low = h.left.begin_low;
-        begin_high = h.left.begin_high;
-        end_low = h.left.end_low;
-        end_high = h.left.end_high;
-        dur_low = one.1 (h.left.dur_low, h.right);
-        dur_high = h.left.dur_high;
-      }),
-    )
-meeting-holds DurationHigh bounds taken a b n some =
-    let one = Meets-min bounds.dur_high taken.dur_high b a n some in (
-      (λ h. record {
-        left = record {
-          begin_low = h.begin_low;
-          begin_high = h.begin_high;
-          end_low = h.end_low;
-          end_high = h.end_high;
-          dur_low = h.dur_low;
-          dur_high = (one.0 h.dur_high).0;
-        };
-        right = (one.0 h.dur_high).1;
-      }),
-      (λ h. record {
-        begin_low = h.left.begin_low;
-        begin_high = h.left.begin_high;
-        end_low = h.left.end_low;
-        end_high = h.left.end_high;
-        dur_low = h.left.dur_low;
-        dur_high = one.1 (h.left.dur_high, h.right);
-      }),
+unfolding meeting_of
+meeting-holds side bounds taken a b n some =
+    let one = tighter_holds side (bound_at side taken) bounds a b n some in (
+      (λ h. record { left = (one.0 h).0; right = (one.0 h).1 }),
+      (λ h. one.1 (h.left, h.right)),
     )
 
 pub missing-values : (side : Side) (bounds taken : ZoneBounds) → AreKeysWithin (2 ^ 42) bounds
     → AreKeysWithin (2 ^ 42) taken → AreValuesWithin (2 ^ 42) (missing_of side bounds taken)
 unfolding missing_of
-missing-values BeginLow bounds taken h k = record {
-  begin_low = value-key _ h.begin_low;
-  begin_high = value-missing _ _ h.begin_high k.begin_low;
-  end_low = value-key _ h.end_low;
-  end_high = value-key _ h.end_high;
-  dur_low = value-key _ h.dur_low;
-  dur_high = value-key _ h.dur_high;
-}
-missing-values BeginHigh bounds taken h k = record {
-  begin_low = value-missing _ _ h.begin_low k.begin_high;
-  begin_high = value-key _ h.begin_high;
-  end_low = value-key _ h.end_low;
-  end_high = value-key _ h.end_high;
-  dur_low = value-key _ h.dur_low;
-  dur_high = value-key _ h.dur_high;
-}
-missing-values EndLow bounds taken h k = record {
-  begin_low = value-key _ h.begin_low;
-  begin_high = value-key _ h.begin_high;
-  end_low = value-key _ h.end_low;
-  end_high = value-missing _ _ h.end_high k.end_low;
-  dur_low = value-key _ h.dur_low;
-  dur_high = value-key _ h.dur_high;
-}
-missing-values EndHigh bounds taken h k = record {
-  begin_low = value-key _ h.begin_low;
-  begin_high = value-key _ h.begin_high;
-  end_low = value-missing _ _ h.end_low k.end_high;
-  end_high = value-key _ h.end_high;
-  dur_low = value-key _ h.dur_low;
-  dur_high = value-key _ h.dur_high;
-}
-missing-values DurationLow bounds taken h k = record {
-  begin_low = value-key _ h.begin_low;
-  begin_high = value-key _ h.begin_high;
-  end_low = value-key _ h.end_low;
-  end_high = value-key _ h.end_high;
-  dur_low = value-key _ h.dur_low;
-  dur_high = value-missing _ _ h.dur_high k.dur_low;
-}
-missing-values DurationHigh bounds taken h k = record {
-  begin_low = value-key _ h.begin_low;
-  begin_high = value-key _ h.begin_high;
-  end_low = value-key _ h.end_low;
-  end_high = value-key _ h.end_high;
-  dur_low = value-missing _ _ h.dur_low k.dur_high;
-  dur_high = value-key _ h.dur_high;
-}
+missing-values side bounds taken h k =
+    let key = key_at (2 ^ 42) bounds h in
+    let each = each_tighter (λ s x. IsValueWithin (2 ^ 42) x) (opposite side)
+    (pos 1 -ℤ bound_at side taken) bounds
+    (value-missing _ _ (key (opposite side)) (key_at (2 ^ 42) taken k side))
+    (λ other. value-key _ (key other)) in
+    record {
+      begin_low = each BeginLow;
+      begin_high = each BeginHigh;
+      end_low = each EndLow;
+      end_high = each EndHigh;
+      dur_low = each DurationLow;
+      dur_high = each DurationHigh;
+    }
 
 pub meeting-keys : (side : Side) (bounds taken : ZoneBounds) → AreKeysWithin (2 ^ 42) bounds
     → AreKeysWithin (2 ^ 42) taken → AreKeysWithin (2 ^ 42) (meeting_of side bounds taken)
 unfolding meeting_of
-meeting-keys BeginLow bounds taken h k = record {
-  begin_low = key-meeting _ _ h.begin_low k.begin_low;
-  begin_high = h.begin_high;
-  end_low = h.end_low;
-  end_high = h.end_high;
-  dur_low = h.dur_low;
-  dur_high = h.dur_high;
-}
-meeting-keys BeginHigh bounds taken h k = record {
-  begin_low = h.begin_low;
-  begin_high = key-meeting _ _ h.begin_high k.begin_high;
-  end_low = h.end_low;
-  end_high = h.end_high;
-  dur_low = h.dur_low;
-  dur_high = h.dur_high;
-}
-meeting-keys EndLow bounds taken h k = record {
-  begin_low = h.begin_low;
-  begin_high = h.begin_high;
-  end_low = key-meeting _ _ h.end_low k.end_low;
-  end_high = h.end_high;
-  dur_low = h.dur_low;
-  dur_high = h.dur_high;
-}
-meeting-keys EndHigh bounds taken h k = record {
-  begin_low = h.begin_low;
-  begin_high = h.begin_high;
-  end_low = h.end_low;
-  end_high = key-meeting _ _ h.end_high k.end_high;
-  dur_low = h.dur_low;
-  dur_high = h.dur_high;
-}
-meeting-keys DurationLow bounds taken h k = record {
-  begin_low = h.begin_low;
-  begin_high = h.begin_high;
-  end_low = h.end_low;
-  end_high = h.end_high;
-  dur_low = key-meeting _ _ h.dur_low k.dur_low;
-  dur_high = h.dur_high;
-}
-meeting-keys DurationHigh bounds taken h k = record {
-  begin_low = h.begin_low;
-  begin_high = h.begin_high;
-  end_low = h.end_low;
-  end_high = h.end_high;
-  dur_low = h.dur_low;
-  dur_high = key-meeting _ _ h.dur_high k.dur_high;
-}
+meeting-keys side bounds taken h k =
+    let key = key_at (2 ^ 42) bounds h in
+    let each = each_tighter (λ s x. IsKeyWithin (2 ^ 42) x) side (bound_at side taken) bounds
+    (key-meeting _ _ (key side) (key_at (2 ^ 42) taken k side)) key in
+    record {
+      begin_low = each BeginLow;
+      begin_high = each BeginHigh;
+      end_low = each EndLow;
+      end_high = each EndHigh;
+      dur_low = each DurationLow;
+      dur_high = each DurationHigh;
+    }
 
 -- ---- some of the bounds
 
@@ -520,12 +333,9 @@ module _ (sides : List Side) (zone taken : ZoneBounds) (from most : ℕ) (start 
         cut.missed added;
   }
 
-abbrev pub six : List Side
-six = BeginLow ∷ BeginHigh ∷ EndLow ∷ EndHigh ∷ DurationLow ∷ DurationHigh ∷ []
-
 MeetsAll-six : (taken : ZoneBounds) (a b n : ℕ)
     → MeetsAll six taken a b n ↔ ZoneHolds taken a b n
-unfolding MeetsAll MeetsSide
+unfolding MeetsAll
 MeetsAll-six taken a b n = (
   (λ h. record {
     begin_low = h.0;

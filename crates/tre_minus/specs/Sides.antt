@@ -1,5 +1,5 @@
 -- The six bounds of a zone one by one, and the bounds of the pairs that miss or meet one of them.
-use Rattle.std.specs.Prelude.{pos, ◌-ℤ◌}
+use Rattle.std.specs.Prelude.{ℕ, ◌==◌, Bool, cond, ℤ, pos, ◌-ℤ◌}
 use Rattle.std.specs.Int.{int_min}
 use Rattle.tre_pairs.specs.Pairs.{Pairs}
 use Rattle.tre_zone.specs.Bound.{Meets}
@@ -7,41 +7,66 @@ use Rattle.tre_zone.specs.declared.zone_bounds.ZoneBounds.{ZoneBounds}
 use Rattle.tre_minus.specs.declared.side.Side.{Side}
 use Rattle.tre_minus.specs.declared.side.Side.TheVariants.{BeginLow, BeginHigh, EndLow, EndHigh, DurationLow, DurationHigh}
 
--- The pair of the times a/n and b/n meets the bound of the zone on this side.
-unfoldable pub MeetsSide : Side → ZoneBounds → Pairs
-MeetsSide BeginLow zone a b n = Meets zone.begin_low 0 a n
-MeetsSide BeginHigh zone a b n = Meets zone.begin_high a 0 n
-MeetsSide EndLow zone a b n = Meets zone.end_low 0 b n
-MeetsSide EndHigh zone a b n = Meets zone.end_high b 0 n
-MeetsSide DurationLow zone a b n = Meets zone.dur_low a b n
-MeetsSide DurationHigh zone a b n = Meets zone.dur_high b a n
+-- the bound of the zone on a side
+abbrev pub bound_at : Side → ZoneBounds → ℤ
+bound_at BeginLow zone = zone.begin_low
+bound_at BeginHigh zone = zone.begin_high
+bound_at EndLow zone = zone.end_low
+bound_at EndHigh zone = zone.end_high
+bound_at DurationLow zone = zone.dur_low
+bound_at DurationHigh zone = zone.dur_high
+
+-- The pair of the times a/n and b/n meets a bound with this key on the side.
+abbrev pub MeetsAt : Side → ℤ → Pairs
+MeetsAt BeginLow key a b n = Meets key 0 a n
+MeetsAt BeginHigh key a b n = Meets key a 0 n
+MeetsAt EndLow key a b n = Meets key 0 b n
+MeetsAt EndHigh key a b n = Meets key b 0 n
+MeetsAt DurationLow key a b n = Meets key a b n
+MeetsAt DurationHigh key a b n = Meets key b a n
+
+-- It meets the bound of the zone.
+abbrev pub MeetsSide : Side → ZoneBounds → Pairs
+MeetsSide side zone = MeetsAt side (bound_at side zone)
+
+abbrev pub opposite : Side → Side
+opposite BeginLow = BeginHigh
+opposite BeginHigh = BeginLow
+opposite EndLow = EndHigh
+opposite EndHigh = EndLow
+opposite DurationLow = DurationHigh
+opposite DurationHigh = DurationLow
+
+abbrev pub number_of : Side → ℕ
+number_of BeginLow = 0
+number_of BeginHigh = 1
+number_of EndLow = 2
+number_of EndHigh = 3
+number_of DurationLow = 4
+number_of DurationHigh = 5
+
+-- a zone by its bound on each side
+abbrev pub zone_by : (Side → ℤ) → ZoneBounds
+zone_by bound = record {
+  begin_low = bound BeginLow;
+  begin_high = bound BeginHigh;
+  end_low = bound EndLow;
+  end_high = bound EndHigh;
+  dur_low = bound DurationLow;
+  dur_high = bound DurationHigh;
+}
+
+-- the bounds, of which the one on this side is no looser than the key
+abbrev pub tighter_at : Side → ℤ → ZoneBounds → ZoneBounds
+tighter_at side key bounds = zone_by (λ other.
+    cond (number_of side == number_of other) (int_min (bound_at other bounds) key)
+    (bound_at other bounds))
 
 -- The bounds, and that of the taken zone on this side is missed: the bound with the key k is missed
 -- exactly where the one from the other side with the key 1 - k is met.
 unfoldable pub missing_of : Side → ZoneBounds → ZoneBounds → ZoneBounds
-missing_of BeginLow bounds taken =
-    record bounds { begin_high = int_min bounds.begin_high (pos 1 -ℤ taken.begin_low) }
-missing_of BeginHigh bounds taken =
-    record bounds { begin_low = int_min bounds.begin_low (pos 1 -ℤ taken.begin_high) }
-missing_of EndLow bounds taken =
-    record bounds { end_high = int_min bounds.end_high (pos 1 -ℤ taken.end_low) }
-missing_of EndHigh bounds taken =
-    record bounds { end_low = int_min bounds.end_low (pos 1 -ℤ taken.end_high) }
-missing_of DurationLow bounds taken =
-    record bounds { dur_high = int_min bounds.dur_high (pos 1 -ℤ taken.dur_low) }
-missing_of DurationHigh bounds taken =
-    record bounds { dur_low = int_min bounds.dur_low (pos 1 -ℤ taken.dur_high) }
+missing_of side bounds taken = tighter_at (opposite side) (pos 1 -ℤ bound_at side taken) bounds
 
 -- The bounds, and that of the taken zone on this side is met.
 unfoldable pub meeting_of : Side → ZoneBounds → ZoneBounds → ZoneBounds
-meeting_of BeginLow bounds taken =
-    record bounds { begin_low = int_min bounds.begin_low taken.begin_low }
-meeting_of BeginHigh bounds taken =
-    record bounds { begin_high = int_min bounds.begin_high taken.begin_high }
-meeting_of EndLow bounds taken = record bounds { end_low = int_min bounds.end_low taken.end_low }
-meeting_of EndHigh bounds taken =
-    record bounds { end_high = int_min bounds.end_high taken.end_high }
-meeting_of DurationLow bounds taken =
-    record bounds { dur_low = int_min bounds.dur_low taken.dur_low }
-meeting_of DurationHigh bounds taken =
-    record bounds { dur_high = int_min bounds.dur_high taken.dur_high }
+meeting_of side bounds taken = tighter_at side (bound_at side taken) bounds
