@@ -36,14 +36,17 @@ denied_by key p q n = (
 
 each_held : (zone : ZoneBounds) (a b n : ℕ)
     → ZoneHolds zone a b n ↔ ((side : Side) → MeetsSide side zone a b n)
-each_held zone a b n = (held, (λ each. record {
-  begin_low = each BeginLow;
-  begin_high = each BeginHigh;
-  end_low = each EndLow;
-  end_high = each EndHigh;
-  dur_low = each DurationLow;
-  dur_high = each DurationHigh;
-}))
+each_held zone a b n = (
+  held,
+  (λ each. record {
+    begin_low = each BeginLow;
+    begin_high = each BeginHigh;
+    end_low = each EndLow;
+    end_high = each EndHigh;
+    dur_low = each DurationLow;
+    dur_high = each DurationHigh;
+  }),
+)
   where
     held : ZoneHolds zone a b n → (side : Side) → MeetsSide side zone a b n
     held h BeginLow = h.begin_low

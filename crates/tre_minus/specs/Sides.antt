@@ -1,5 +1,5 @@
 -- The six bounds of a zone one by one, and the bounds of the pairs that miss or meet one of them.
-use Rattle.std.specs.Prelude.{ℕ, ◌==◌, Bool, cond, ℤ, pos, ◌-ℤ◌}
+use Rattle.std.specs.Prelude.{ℕ, ◌==◌, cond, ℤ, pos, ◌-ℤ◌}
 use Rattle.std.specs.Int.{int_min}
 use Rattle.tre_pairs.specs.Pairs.{Pairs}
 use Rattle.tre_zone.specs.Bound.{Meets}
