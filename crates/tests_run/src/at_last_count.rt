@@ -14,19 +14,7 @@ struct AtLastCount<T> {
 }
 
 impl<S: Source> Source for AtLastCount<S> {
-    ghost file_name = { λ device. S.file_name device.inner };
-
-    ghost file = { λ device. S.file device.inner };
-
-    ghost left = { λ device. S.left device.inner };
-
-    ghost found = { λ device. S.found device.inner };
-
-    ghost opened = { λ device. S.opened device.inner };
-
-    ghost sound = { λ device. S.sound device.inner };
-
-    ghost faults = { λ _. 2 ^ 64 - 1 };
+    ghost told = { λ device. record (S.told device.inner) { faults = 2 ^ 64 - 1 } };
 
     ghost found_told = { λ device. S.found_told device.inner };
 
@@ -44,9 +32,7 @@ impl<S: Source> Source for AtLastCount<S> {
 }
 
 impl<K: Sink> Sink for AtLastCount<K> {
-    ghost written = { λ device. K.written device.inner };
-
-    ghost faults = { λ _. 2 ^ 64 - 1 };
+    ghost told = { λ device. record (K.told device.inner) { faults = 2 ^ 64 - 1 } };
 
     fn write(&mut self, bytes: &[u8]) -> Result<usize, Failed> {
         self.inner.write(bytes)

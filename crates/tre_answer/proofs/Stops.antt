@@ -28,8 +28,8 @@ made_once mode count makes = ap as_it_comes makes
 -- an answer that is written at once, and of which a write failed
 EndsOver-cut : (request : Request) (input : InputTold) (output : OutputTold) (text : List ℕ)
     → as_it_comes request.job.mode ≡ false → IsFoundFor request input text
-    → output.faults_now ≡ counted output.faults_before
-    → AppendsPart output.written_before output.written_now text
+    → output.now.faults ≡ counted output.before.faults
+    → AppendsPart output.before.written output.now.written text
     → EndsOver {T = Unit {0}} request input output (Err Write)
 EndsOver-cut request input output text once found cause part = record {
   cause = cause;
@@ -43,7 +43,7 @@ EndsOver-cut request input output text once found cause part = record {
 -- one that was written
 EndsOver-done : (request : Request) (input : InputTold) (output : OutputTold) (text : List ℕ)
     (value : Unit {0}) → IsFoundFor request input text → AllWritesGood output
-    → Appends output.written_before output.written_now text
+    → Appends output.before.written output.now.written text
     → EndsOver request input output (Ok value)
 EndsOver-done request input output text value found writes written = record {
   reads = found.reads;
@@ -57,18 +57,18 @@ EndsOver-done request input output text value found writes written = record {
 pub EndsOver-written : (request : Request) (input : InputTold) (output : OutputTold)
     (text given : List ℕ) → given ≡ text → as_it_comes request.job.mode ≡ false
     → IsFoundFor request input text → (result : Result (Unit {0}) Fault)
-    → OnOk result (Appends output.written_before output.written_now given)
+    → OnOk result (Appends output.before.written output.now.written given)
     → OnOk result (AllWritesGood output)
-    → OnErr result (AppendsPart output.written_before output.written_now given)
-    → OnErr result (output.faults_now ≡ counted output.faults_before)
+    → OnErr result (AppendsPart output.before.written output.now.written given)
+    → OnErr result (output.now.faults ≡ counted output.before.faults)
     → IfErr result (λ fault. fault ≡ Write) → EndsOver request input output result
 EndsOver-written request input output text given same once found (Ok value) all good part cause
     fault = EndsOver-done request input output text value found good
-    (subst (Appends output.written_before output.written_now) same all)
+    (subst (Appends output.before.written output.now.written) same all)
 EndsOver-written request input output text given same once found (Err fault) all good part cause
     is = subst (λ f. EndsOver {T = Unit {0}} request input output (Err f)) (sym is)
     (EndsOver-cut request input output text once found cause
-    (subst (AppendsPart output.written_before output.written_now) same part))
+    (subst (AppendsPart output.before.written output.now.written) same part))
 
 -- a job that shows its patterns, or makes its trace, reads no input, and another does
 pub reads_input : (mode : Mode) → (mode ≡ Show → ⊥)

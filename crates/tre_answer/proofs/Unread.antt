@@ -25,8 +25,9 @@ use Rattle.tre_answer.proofs.Recorded.{labels_fit, nothing_said}
 
 module _ (job : Job) (definitions : Definitions) (asked : Asked) (input : InputTold)
     (output : OutputTold) where
-  early_by : (comes : Bool) → input.opened ≡ false → NothingWritten output
-      → MatchBool comes (FirstBlocksStand (watched_of (request_for job definitions asked)) input output)
+  early_by : (comes : Bool) → input.now.opened ≡ false → NothingWritten output
+      → MatchBool comes (FirstBlocksStand (watched_of (request_for job definitions asked)) input
+      output)
       (NothingWritten output)
   early_by false closed unwritten = unwritten
   early_by true closed unwritten =
@@ -35,7 +36,7 @@ module _ (job : Job) (definitions : Definitions) (asked : Asked) (input : InputT
       (recording_for request) job.max_bytes job.scale (nothing_said request) input output
       (λ is_open. cc) (λ is_open. cc) unwritten
 
-  pub EndsOver-early : input.opened ≡ false → AllReadsGood input → NothingWritten output
+  pub EndsOver-early : input.now.opened ≡ false → AllReadsGood input → NothingWritten output
       → EndsOver {T = Unit {0}} (request_for job definitions asked) input output (Err Memory)
   EndsOver-early closed reads unwritten =
       (reads, early_by (as_it_comes job.mode) closed unwritten)

@@ -12,7 +12,7 @@ use Rattle.tre_io.specs.Faults.{counted}
 use Rattle.tre_io.specs.Written.{AppendsPart}
 use Rattle.tre_show.specs.PatternText.{expression_text}
 use Rattle.tre_tell.specs.Outputs.{OutputTold, AllWritesGood, NothingWritten}
-use Rattle.tre_tell.specs.Standing.{BlocksStand, BlocksSoFarStand, FirstBlocksStand, BlockIsCut, IsOnlineAnswer, EndIsCut}
+use Rattle.tre_tell.specs.Standing.{BlocksStand, FirstBlocksStand, BlockIsCut, IsOnlineAnswer, EndIsCut}
 use Rattle.tre_words.specs.declared.job.Mode.{Mode}
 use Rattle.tre_words.specs.declared.job.Mode.TheVariants.{Offline, Online, Show, Generate, Watch}
 use Rattle.tre_answer.specs.Recorded.{recording_for, watched_of}
@@ -43,8 +43,7 @@ IsAnswerIn (Generate count) request input text =
 IsAnswerIn mode request input text =
     OfAllBytes input (λ bytes. IsOnlineAnswer (watched_of request) bytes text)
 
--- What stands in the output where it stopped before the end of its text: nothing, or these blocks
--- where it is written as the input comes.
+-- What stands of a text that isn't whole: nothing, or these blocks if it is written as it comes.
 abbrev pub StandsSoFar : Mode → OutputTold → Type 0 → Type 0
 StandsSoFar mode output blocks = MatchBool (as_it_comes mode) blocks (NothingWritten output)
 
@@ -53,7 +52,7 @@ pub record PartIsWritten (request : Request) (input : InputTold) (output : Outpu
   where
     pub text : List ℕ
     pub right : IsAnswerIn request.job.mode request input text
-    pub written : AppendsPart output.written_before output.written_now text
+    pub written : AppendsPart output.before.written output.now.written text
 
 -- The input was read to its end, and the right answer was written.
 pub record EndsDone (request : Request) (input : InputTold) (output : OutputTold) : Type 0 where
@@ -61,15 +60,15 @@ pub record EndsDone (request : Request) (input : InputTold) (output : OutputTold
   pub text : List ℕ
   pub right : IsAnswerIn request.job.mode request input text
   pub writes : AllWritesGood output
-  pub written : Appends output.written_before output.written_now text
+  pub written : Appends output.before.written output.now.written text
 
--- The bytes of the input within the limit have a first fault, or they have none and are too many.
--- The blocks of all stretches before that stand there.
+-- The input has a first fault, or is too long. The blocks of all stretches before that stand there.
 pub record EndsAtInput (outcome : Outcome) (request : Request) (input : InputTold)
     (output : OutputTold) : Type 0 where
   pub reads_input : ReadsInput request.job.mode
-  pub opened : IsTrue input.opened
-  pub cause : ComesTo (recording_for request) request.job.max_bytes input.file input.left outcome
+  pub opened : IsTrue input.now.opened
+  pub cause : ComesTo (recording_for request) request.job.max_bytes input.before.file input.now.left
+      outcome
   pub reads : AllReadsGood input
   pub stands : StandsSoFar request.job.mode output (BlocksStand (watched_of request)
       (recording_within (recording_for request) request.job.max_bytes cause.bytes).stretches
@@ -83,28 +82,25 @@ pub record EndsTooMany (zones : ℕ) (request : Request) (input : InputTold) (ou
   pub cause : OfAllBytes input (λ bytes. AreTooMany request bytes zones)
   pub nothing : NothingWritten output
 
--- The job's input couldn't be opened or read. What was read before has no fault, and is within the
--- limit.
+-- The job's input couldn't be read. What was read before has no fault, and is within the limit.
 pub record EndsReadFault (request : Request) (input : InputTold) (output : OutputTold) : Type 0
   where
     pub reads_input : ReadsInput request.job.mode
     pub unread : IsUnreadable request.job.input input
     pub goes_on : MayGoOn (recording_for request) request.job.max_bytes input
-    pub stands : StandsSoFar request.job.mode output
-        (BlocksSoFarStand (watched_of request) input output)
+    pub stands : StandsSoFar request.job.mode output (BlocksStand (watched_of request)
+        (recording_for request false goes_on.bytes).stretches output)
 
--- One failure to write was counted. There stands a part of the whole text, or of the block of a
--- stretch, or of the end behind all blocks.
+-- A write failed: within the whole text, the block of a stretch, or the end behind all blocks.
 pub record EndsWriteFault (request : Request) (input : InputTold) (output : OutputTold) : Type 0
   where
-    pub cause : output.faults_now ≡ counted output.faults_before
+    pub cause : output.now.faults ≡ counted output.before.faults
     pub reads : AllReadsGood input
     pub stands : MatchBool (as_it_comes request.job.mode)
         (BlockIsCut (watched_of request) input output ⊎ EndIsCut (watched_of request) input output)
         (PartIsWritten request input output)
 
--- Where memory was wanting there stand the blocks of some first stretches of those read, which may
--- be all of them and are at least those that were complete when the last read began, and no end.
+-- Where memory was wanting there stand the blocks of some first stretches, which may be all.
 abbrev pub StandsAtMemory : Request → InputTold → OutputTold → Type 0
 StandsAtMemory request input output = StandsSoFar request.job.mode output
     (FirstBlocksStand (watched_of request) input output)

@@ -26,9 +26,8 @@ IsWanted (pattern ∷ others) (trace ∷ traces) a b n =
     Matches pattern.tree trace a b n × ¬ MatchesSome others traces a b n
 IsWanted patterns traces a b n = ⊥
 
--- The zones hold just the pairs that are wanted. None of them is included in another, each has the
--- tightest bounds, and they are in the order in which they are printed. Where the canonical ones
--- are asked for, they are the strips of these pairs.
+-- The zones hold just the pairs that are wanted, and are in the order in which they are printed.
+-- Where the canonical ones are asked for, they are the strips of these pairs.
 pub record AreZonesOf (normal : Bool) (wanted : Pairs) (zones : List ZoneBounds) : Type 0 where
   pub exact : HoldExactly zones wanted
   pub apart : IsApart zones
@@ -43,8 +42,7 @@ pub record AreZonesFor (request : Request) (bytes : List ℕ) (zones : List Zone
     pub are : AreTraces (watched_of request) bytes traces
     pub found : AreZonesOf request.job.normal (IsWanted request.patterns traces) zones
 
--- The text is right for a run that tells all at once, and an input of these bytes: it tells zones
--- that are right, and no more than there may be.
+-- The text tells zones that are right for an input of these bytes, no more than there may be.
 pub record IsOfflineAnswer (request : Request) (bytes text : List ℕ) : Type 0 where
   pub zones : List ZoneBounds
   pub right : AreZonesFor request bytes zones

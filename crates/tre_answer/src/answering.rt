@@ -35,7 +35,7 @@ fn answer_by<S: Source, R: TraceReader + Drop, O: Sink>(
     source: &mut S,
     out: &mut O,
 ) -> Result<(), Fault>
-    requires closed { S.opened source.old ≡ false }
+    requires closed { (S.told source.old).opened ≡ false }
     requires job { IsJob job.now }
     requires reads { ReadsInput job.now.mode }
     requires fits { FitsJob job.now asked.now }
@@ -44,12 +44,12 @@ fn answer_by<S: Source, R: TraceReader + Drop, O: Sink>(
     ensures ends { (definitions : Definitions) → recording_of R.recording R.terms input
         ≡ recording_for (request_for job.now definitions asked.now) →
         EndsOver (request_for job.now definitions asked.now)
-        (input_told S.file_name S.file S.sound S.opened S.left S.found S.faults source.old
-        source.new) (output_told O.written O.faults out.old out.new) result }
-    ensures bounded { IsTrue (S.opened source.new) →
-        TakesAtMost (job.now.max_bytes + 1) (S.file source.old) (S.left source.new) }
-    ensures by_name { IsTrue (S.opened source.new) →
-        IfSome (S.file_name source.old) (λ told. told ≡ job.now.input) }
+        (input_told (S.told source.old) (S.told source.new))
+        (output_told (O.told out.old) (O.told out.new)) result }
+    ensures bounded { IsTrue (S.told source.new).opened →
+        TakesAtMost (job.now.max_bytes + 1) (S.told source.old).file (S.told source.new).left }
+    ensures by_name { IsTrue (S.told source.new).opened →
+        IfSome (S.told source.old).name (λ told. told ≡ job.now.input) }
 {
     match &job.mode {
         Mode::Offline => {
@@ -78,17 +78,17 @@ fn answer_input<S: Source, O: Sink>(
     source: &mut S,
     out: &mut O,
 ) -> Result<(), Fault>
-    requires closed { S.opened source.old ≡ false }
+    requires closed { (S.told source.old).opened ≡ false }
     requires job { IsJob job.now }
     requires reads { ReadsInput job.now.mode }
     requires fits { FitsJob job.now asked.now }
     ensures ends { EndsOver (request_for job.now definitions asked.now)
-        (input_told S.file_name S.file S.sound S.opened S.left S.found S.faults source.old
-        source.new) (output_told O.written O.faults out.old out.new) result }
-    ensures bounded { IsTrue (S.opened source.new) →
-        TakesAtMost (job.now.max_bytes + 1) (S.file source.old) (S.left source.new) }
-    ensures by_name { IsTrue (S.opened source.new) →
-        IfSome (S.file_name source.old) (λ told. told ≡ job.now.input) }
+        (input_told (S.told source.old) (S.told source.new))
+        (output_told (O.told out.old) (O.told out.new)) result }
+    ensures bounded { IsTrue (S.told source.new).opened →
+        TakesAtMost (job.now.max_bytes + 1) (S.told source.old).file (S.told source.new).left }
+    ensures by_name { IsTrue (S.told source.new).opened →
+        IfSome (S.told source.old).name (λ told. told ≡ job.now.input) }
 {
     let limit = job.max_bytes as usize;
     match job.format {
@@ -134,17 +134,17 @@ pub fn answer<S: Source, O: Sink>(
     source: &mut S,
     out: &mut O,
 ) -> Result<(), Fault>
-    requires closed { S.opened source.old ≡ false }
+    requires closed { (S.told source.old).opened ≡ false }
     requires job { IsJob job.now }
     requires fits { FitsJob job.now asked.now }
     requires alone { (ReadsInput job.now.mode → ⊥) → length asked.now.patterns.items ≡ 1 }
     ensures ends { EndsOver (request_for job.now definitions asked.now)
-        (input_told S.file_name S.file S.sound S.opened S.left S.found S.faults source.old
-        source.new) (output_told O.written O.faults out.old out.new) result }
-    ensures bounded { IsTrue (S.opened source.new) →
-        TakesAtMost (job.now.max_bytes + 1) (S.file source.old) (S.left source.new) }
-    ensures by_name { IsTrue (S.opened source.new) →
-        IfSome (S.file_name source.old) (λ told. told ≡ job.now.input) }
+        (input_told (S.told source.old) (S.told source.new))
+        (output_told (O.told out.old) (O.told out.new)) result }
+    ensures bounded { IsTrue (S.told source.new).opened →
+        TakesAtMost (job.now.max_bytes + 1) (S.told source.old).file (S.told source.new).left }
+    ensures by_name { IsTrue (S.told source.new).opened →
+        IfSome (S.told source.old).name (λ told. told ≡ job.now.input) }
     ensures untouched { (ReadsInput job.now.mode → ⊥) → source.new ≡ source.old }
 {
     match &job.mode {

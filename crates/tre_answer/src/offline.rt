@@ -121,7 +121,7 @@ pub fn matches_text<S: Source, R: TraceReader + Drop>(
     input: Input<R>,
     source: &mut S,
 ) -> Result<String, Fault>
-    requires closed { S.opened source.old ≡ false }
+    requires closed { (S.told source.old).opened ≡ false }
     requires job { IsJob job.now }
     requires offline { job.now.mode ≡ Mode.Offline }
     requires fits { FitsJob job.now asked.now }
@@ -130,17 +130,15 @@ pub fn matches_text<S: Source, R: TraceReader + Drop>(
     ensures found { (definitions : Definitions) → recording_of R.recording R.terms input
         ≡ recording_for (request_for job.now definitions asked.now) →
         IfOk result (λ text. IsFoundFor (request_for job.now definitions asked.now)
-        (input_told S.file_name S.file S.sound S.opened S.left S.found S.faults source.old
-        source.new) (string_bytes text)) }
+        (input_told (S.told source.old) (S.told source.new)) (string_bytes text)) }
     ensures stops { (definitions : Definitions) → recording_of R.recording R.terms input
         ≡ recording_for (request_for job.now definitions asked.now) →
         IfErr result (StopsAs (request_for job.now definitions asked.now)
-        (input_told S.file_name S.file S.sound S.opened S.left S.found S.faults source.old
-        source.new)) }
-    ensures bounded { IsTrue (S.opened source.new) →
-        TakesAtMost (job.now.max_bytes + 1) (S.file source.old) (S.left source.new) }
-    ensures by_name { IsTrue (S.opened source.new) →
-        IfSome (S.file_name source.old) (λ told. told ≡ job.now.input) }
+        (input_told (S.told source.old) (S.told source.new))) }
+    ensures bounded { IsTrue (S.told source.new).opened →
+        TakesAtMost (job.now.max_bytes + 1) (S.told source.old).file (S.told source.new).left }
+    ensures by_name { IsTrue (S.told source.new).opened →
+        IfSome (S.told source.old).name (λ told. told ≡ job.now.input) }
 {
     let traces = input.read_traces(alloc, job.input.text(), source)?;
     let found = wanted_matches(alloc, &asked.patterns, traces)?;

@@ -79,32 +79,33 @@ HasRead-bounded {bytes = bytes} has = record {
 }
 
 -- the bytes of an open input
-were_read : (input : InputTold) (bytes : List ℕ) → input.opened ≡ true
-    → Consumes input.file input.left bytes → WereRead input bytes
+were_read : (input : InputTold) (bytes : List ℕ) → input.now.opened ≡ true
+    → Consumes input.before.file input.now.left bytes → WereRead input bytes
 were_read input bytes opened front = record {
   of_open = λ is_open. front;
   of_closed = λ closed. cc;
 }
 
 -- of one that was read to its end
-AreAllBytes-read : (input : InputTold) (bytes : List ℕ) → input.opened ≡ true
-    → Consumes input.file input.left bytes → IsAtEnd input.left → AreAllBytes input bytes
+AreAllBytes-read : (input : InputTold) (bytes : List ℕ) → input.now.opened ≡ true
+    → Consumes input.before.file input.now.left bytes → IsAtEnd input.now.left → AreAllBytes input
+    bytes
 AreAllBytes-read input bytes opened front all = record {
   opened = opened;
   read = were_read input bytes opened front;
   all_read = all;
-  whole = Consumes-whole input.file input.left bytes _ front all refl;
+  whole = Consumes-whole input.before.file input.now.left bytes _ front all refl;
 }
 
 module _ (recording : Bool → List ℕ → Recording) (limit : ℕ) (name : List ℕ)
     (input : InputTold) where
   -- a turn stopped
   pub StopsReading-turn : (bytes : List ℕ) (waits then_waits : List Stretch → Type 0)
-      (fault : Fault) → input.opened ≡ true
-      → HasReadCause {T = Bool} input.faults_before input.faults_now (Err fault)
-      → (IsTrue input.sound → fault ≢ Read)
+      (fault : Fault) → input.now.opened ≡ true
+      → HasReadCause {T = Bool} input.before.faults input.now.faults (Err fault)
+      → (IsTrue input.before.sound → fault ≢ Read)
       → (recording false (take limit bytes)).fault ≡ None
-      → StopsTurn recording limit input.file input.left bytes waits then_waits fault
+      → StopsTurn recording limit input.before.file input.now.left bytes waits then_waits fault
       → StopsReading recording limit name input fault
   StopsReading-turn bytes waits then_waits (Trace fault) opened cause sound none stops =
       (stops.0, record { opened = opened; cause = stops.1.cause; reads = cause })
@@ -128,9 +129,9 @@ module _ (recording : Bool → List ℕ → Recording) (limit : ℕ) (name : Lis
 
   -- the input couldn't be opened
   pub StopsReading-unread : (fault : Fault) → fault ≡ Read
-      → (recording false []).fault ≡ None → input.opened ≡ false
-      → HasReadCause {T = Unit {0}} input.faults_before input.faults_now (Err fault)
-      → (IsTrue input.sound → input.name ≡ Some name → fault ≢ Read)
+      → (recording false []).fault ≡ None → input.now.opened ≡ false
+      → HasReadCause {T = Unit {0}} input.before.faults input.now.faults (Err fault)
+      → (IsTrue input.before.sound → input.before.name ≡ Some name → fault ≢ Read)
       → StopsReading recording limit name input fault
   StopsReading-unread Read is none closed cause sound = record {
     cause = cause;
@@ -164,8 +165,8 @@ traces_each said asked traces = λ k d below.
 pub IsWhole-ended : (asked : List Vocabulary) (recording : Bool → List ℕ → Recording)
     (limit : ℕ) (input : InputTold) (bytes : List ℕ) (traces : List Timeline)
     {waits then_waits : List Stretch → Type 0} {has_ended : (List ℕ → Bool) → Type 0}
-    → input.opened ≡ true → AllReadsGood input
-    → IsEnded recording limit input.file input.left bytes waits then_waits has_ended
+    → input.now.opened ≡ true → AllReadsGood input
+    → IsEnded recording limit input.before.file input.now.left bytes waits then_waits has_ended
     → traces ≡ map (trace_for (recording true bytes)) asked
     → ((names : Vocabulary) → IsTrace (segments_for names (recording true bytes).stretches))
     → IsWhole asked recording limit input traces

@@ -2,6 +2,7 @@
 use Rattle.std.proofs.Common.{◌≡◌, ◌∙◌, ◌+◌, ◌-◌, ◌≤◌, ◌≢◌, ℕ, Bool, true, false, List, [], ◌∷◌, ◌++◌, length, take, Option, None, Some, IfSome, Result, Ok, Err, refl, sym, ap, subst, arith, length-append, append-nil}
 use Rattle.std.specs.Io.KnownBytes.{Consumes, Keeps, IsAtEnd}
 use Rattle.std.proofs.KnownBytes.{Consumes-trans}
+use Rattle.tre_io.specs.Told.{SourceTold}
 use Rattle.tre_trace.specs.Reading.{Recording, Stretch}
 use Rattle.tre_feed.specs.Input.{HasReadCause, IsPiece, KeepsSource}
 use Rattle.tre_feed.specs.Stops.{IsOfReaders, IsPieceFed, StopsPiece, TakesIn}
@@ -442,40 +443,39 @@ same_cause T U before now Write cause = cause
 same_cause T U before now Read cause = cause
 same_cause T U before now Memory cause = cause
 
-module _ {S : Type 0} {opened sound : S → Bool} {faults : S → ℕ} {before now : S} {T U : Type 0}
-  where
-    -- whatever was told of a source that was read
-    pub KeepsSource-ok : {value : T} {other : U}
-        → KeepsSource opened sound faults before now (Ok value)
-        → KeepsSource opened sound faults before now (Ok other)
-    KeepsSource-ok keeps = record {
-      cause = keeps.cause;
-      no_failure = λ good is. cc;
-      same_opened = keeps.same_opened;
-      same_sound = keeps.same_sound;
-    }
+module _ {before now : SourceTold} {T U : Type 0} where
+  -- whatever was told of a source that was read
+  pub KeepsSource-ok : {value : T} {other : U}
+      → KeepsSource before now (Ok value)
+      → KeepsSource before now (Ok other)
+  KeepsSource-ok keeps = record {
+    cause = keeps.cause;
+    no_failure = λ good is. cc;
+    same_opened = keeps.same_opened;
+    same_sound = keeps.same_sound;
+  }
 
-    -- a fault that the readers had
-    pub KeepsSource-readers : {value : T} (fault : Fault) → IsOfReaders (Err fault)
-        → KeepsSource opened sound faults before now (Ok value)
-        → KeepsSource {T = U} opened sound faults before now (Err fault)
-    KeepsSource-readers fault told keeps = record {
-      cause = cause_of U (faults before) (faults now) fault told keeps.cause;
-      no_failure = λ good is. let same : fault ≡ Read = cc in never_read fault told same;
-      same_opened = keeps.same_opened;
-      same_sound = keeps.same_sound;
-    }
+  -- a fault that the readers had
+  pub KeepsSource-readers : {value : T} (fault : Fault) → IsOfReaders (Err fault)
+      → KeepsSource before now (Ok value)
+      → KeepsSource {T = U} before now (Err fault)
+  KeepsSource-readers fault told keeps = record {
+    cause = cause_of U before.faults now.faults fault told keeps.cause;
+    no_failure = λ good is. let same : fault ≡ Read = cc in never_read fault told same;
+    same_opened = keeps.same_opened;
+    same_sound = keeps.same_sound;
+  }
 
-    -- a fault that the read had
-    pub KeepsSource-err : (fault : Fault)
-        → KeepsSource {T = T} opened sound faults before now (Err fault)
-        → KeepsSource {T = U} opened sound faults before now (Err fault)
-    KeepsSource-err fault keeps = record {
-      cause = same_cause T U (faults before) (faults now) fault keeps.cause;
-      no_failure = λ good is. let same : fault ≡ Read = cc in keeps.no_failure good (ap Err same);
-      same_opened = keeps.same_opened;
-      same_sound = keeps.same_sound;
-    }
+  -- a fault that the read had
+  pub KeepsSource-err : (fault : Fault)
+      → KeepsSource {T = T} before now (Err fault)
+      → KeepsSource {T = U} before now (Err fault)
+  KeepsSource-err fault keeps = record {
+    cause = same_cause T U before.faults now.faults fault keeps.cause;
+    no_failure = λ good is. let same : fault ≡ Read = cc in keeps.no_failure good (ap Err same);
+    same_opened = keeps.same_opened;
+    same_sound = keeps.same_sound;
+  }
 
 -- A turn whose read took no byte, and what the readers then took in at the end.
 pub record FindsEnd (were_fed : List ℕ → Type 0) (recording : Bool → List ℕ → Recording)

@@ -17,8 +17,7 @@ outcome_from closed (Some fault) = refuses fault
 outcome_from true None = completes
 outcome_from false None = exceeds
 
--- What the bytes of an input say that may have `limit` of them. Bytes past the limit are not
--- judged, and the input is closed only where there are none past it.
+-- What bytes say that may be `limit`: those past it aren't judged, and keep the input from closing.
 abbrev pub recording_within : (Bool → List ℕ → Recording) → ℕ → List ℕ → Recording
 recording_within recording limit bytes =
     recording (nat_le (length bytes) limit) (take limit bytes)
@@ -28,8 +27,7 @@ unfoldable pub outcome_of : (Bool → List ℕ → Recording) → ℕ → List �
 outcome_of recording limit bytes =
     outcome_from (nat_le (length bytes) limit) (recording_within recording limit bytes).fault
 
--- The bytes that were read of an input come to this. So do all its bytes, where the source tells
--- them, and within the limit they say the same stretches.
+-- What was read comes to this, and so do all bytes, with the same stretches within the limit.
 pub record ComesTo (recording : Bool → List ℕ → Recording) (limit : ℕ)
     (file left : Option (List ℕ)) (outcome : Outcome) : Type 0 where
   pub bytes : List ℕ

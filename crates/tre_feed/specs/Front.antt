@@ -6,19 +6,18 @@ use Rattle.tre_feed.specs.Input.{InputTold, AllReadsGood}
 use Rattle.tre_feed.specs.declared.fault.Fault.{Fault}
 use Rattle.tre_feed.specs.declared.fault.Fault.TheVariants.{Read, Memory}
 
--- The input was read from its first byte on, and these are its bytes: all of them, or as many as it
--- may have.
+-- These bytes were read from the first on: all of the input, or as many as it may have.
 pub record IsFront (most : ℕ) (input : InputTold) (bytes : List ℕ) : Type 0 where
-  pub opened : IsTrue input.opened
+  pub opened : IsTrue input.now.opened
   pub reads : AllReadsGood input
-  pub front : Consumes input.file input.left bytes
+  pub front : Consumes input.before.file input.now.left bytes
   pub few : length bytes ≤ most
-  pub all : length bytes < most → IsAtEnd input.left
+  pub all : length bytes < most → IsAtEnd input.now.left
 
 -- The input of this name couldn't be opened or read.
 pub record IsUnreadable (name : List ℕ) (input : InputTold) : Type 0 where
-  pub cause : input.faults_now ≡ counted input.faults_before
-  pub unsound : IsTrue input.sound → input.name ≢ Some name
+  pub cause : input.now.faults ≡ counted input.before.faults
+  pub unsound : IsTrue input.before.sound → input.before.name ≢ Some name
 
 -- Why it wasn't read.
 abbrev pub StopsFront : List ℕ → InputTold → Fault → Type 0

@@ -2,52 +2,34 @@
 use Rattle.std.specs.Prelude.{◌≡◌, ℕ, ◌+◌, ◌<◌, ◌≤◌, Bool, false, List, [], ◌++◌, length, take, Option, IfSome, IsTrue, IsErrOf, Result, Ok, Err}
 use Rattle.std.specs.Io.KnownBytes.{Consumes, IsAtEnd}
 use Rattle.tre_io.specs.Faults.{counted}
+use Rattle.tre_io.specs.Told.{SourceTold}
 use Rattle.tre_feed.specs.declared.TheConstants.{PIECE}
 use Rattle.tre_feed.specs.declared.fault.Fault.{Fault}
 use Rattle.tre_feed.specs.declared.fault.Fault.TheVariants.{Read}
 
--- What a source tells and counts, before it is opened and at the end.
+-- What a source tells before it is opened, and at the end.
 pub record InputTold : Type 0 where
-  pub name : Option (List ℕ)
-  pub file : Option (List ℕ)
-  pub sound : Bool
-  pub opened : Bool
-  pub left : Option (List ℕ)
-  pub found : Option (List ℕ)
-  pub faults_before : ℕ
-  pub faults_now : ℕ
+  pub before : SourceTold
+  pub now : SourceTold
 
--- what these meanings of a source tell of it as it was and as it is
-abbrev pub input_told : {S : Type 0} → (S → Option (List ℕ)) → (S → Option (List ℕ)) →
-    (S → Bool) → (S → Bool) → (S → Option (List ℕ)) → (S → Option (List ℕ)) → (S → ℕ) → S → S →
-    InputTold
-input_told name file sound opened left found faults before now = record {
-  name = name before;
-  file = file before;
-  sound = sound before;
-  opened = opened now;
-  left = left now;
-  found = found now;
-  faults_before = faults before;
-  faults_now = faults now;
-}
+abbrev pub input_told : SourceTold → SourceTold → InputTold
+input_told before now = record { before = before; now = now }
 
 -- no read failed
 abbrev pub AllReadsGood : InputTold → Type 0
-AllReadsGood input = input.faults_now ≡ input.faults_before
+AllReadsGood input = input.now.faults ≡ input.before.faults
 
--- These bytes were read: they and what is left are all that the input had, where it tells them. Of
--- an input that isn't open nothing was read.
+-- These bytes were read, and the others are left. Of an input that isn't open none was read.
 pub record WereRead (input : InputTold) (bytes : List ℕ) : Type 0 where
-  pub of_open : IsTrue input.opened → Consumes input.file input.left bytes
-  pub of_closed : input.opened ≡ false → bytes ≡ []
+  pub of_open : IsTrue input.now.opened → Consumes input.before.file input.now.left bytes
+  pub of_closed : input.now.opened ≡ false → bytes ≡ []
 
 -- The input was read to its end, and these are all its bytes.
 pub record AreAllBytes (input : InputTold) (bytes : List ℕ) : Type 0 where
-  pub opened : IsTrue input.opened
+  pub opened : IsTrue input.now.opened
   pub read : WereRead input bytes
-  pub all_read : IsAtEnd input.left
-  pub whole : IfSome input.file (λ told. told ≡ bytes)
+  pub all_read : IsAtEnd input.now.left
+  pub whole : IfSome input.before.file (λ told. told ≡ bytes)
 
 -- The input was read to its end, and this is so of its bytes.
 pub record OfAllBytes (input : InputTold) (IsSo : List ℕ → Type 0) : Type 0 where
@@ -61,8 +43,8 @@ pub record HasLastPiece (input : InputTold) (bytes : List ℕ) : Type 0 where
   pub piece : List ℕ
   pub split : bytes ≡ earlier ++ piece
   pub short : length piece ≤ PIECE
-  pub behind : IsTrue input.opened →
-      IfSome input.file (λ all. IfSome input.found (λ rest. all ≡ earlier ++ rest))
+  pub behind : IsTrue input.now.opened →
+      IfSome input.before.file (λ all. IfSome input.now.found (λ rest. all ≡ earlier ++ rest))
 
 -- Of the file's bytes at most this many were taken, from its front.
 pub record TakesAtMost (most : ℕ) (file left : Option (List ℕ)) : Type 0 where
@@ -78,12 +60,12 @@ HasReadCause before now (Err _) = now ≡ before
 
 -- A source that may have been read is as open and as sound as it was. A failed read was counted,
 -- and of a sound source none fails.
-pub record KeepsSource {S T : Type 0} (opened sound : S → Bool) (faults : S → ℕ) (before now : S)
-    (result : Result T Fault) : Type 0 where
-  pub cause : HasReadCause (faults before) (faults now) result
-  pub no_failure : IsTrue (sound before) → IsErrOf result Read → ⊥
-  pub same_opened : opened now ≡ opened before
-  pub same_sound : sound now ≡ sound before
+pub record KeepsSource {T : Type 0} (before now : SourceTold) (result : Result T Fault)
+    : Type 0 where
+  pub cause : HasReadCause before.faults now.faults result
+  pub no_failure : IsTrue before.sound → IsErrOf result Read → ⊥
+  pub same_opened : now.opened ≡ before.opened
+  pub same_sound : now.sound ≡ before.sound
 
 -- What a read took into the front of a buffer: so many bytes, and none only at the end.
 pub record IsPiece (before now : Option (List ℕ)) (buffer : List ℕ) (count : ℕ) : Type 0 where

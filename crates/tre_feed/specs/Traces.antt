@@ -43,15 +43,15 @@ pub record IsWhole (asked : List Vocabulary) (recording : Bool → List ℕ → 
 -- The input comes to this, whatever of it is still to be read.
 pub record IsDecided (recording : Bool → List ℕ → Recording) (limit : ℕ) (input : InputTold)
     (outcome : Outcome) : Type 0 where
-  pub opened : IsTrue input.opened
-  pub cause : ComesTo recording limit input.file input.left outcome
+  pub opened : IsTrue input.now.opened
+  pub cause : ComesTo recording limit input.before.file input.now.left outcome
   pub reads : AllReadsGood input
 
 -- The input of this name couldn't be opened or read where it might go on.
 pub record IsUnread (recording : Bool → List ℕ → Recording) (limit : ℕ) (name : List ℕ)
     (input : InputTold) : Type 0 where
-  pub cause : input.faults_now ≡ counted input.faults_before
-  pub unsound : IsTrue input.sound → input.name ≢ Some name
+  pub cause : input.now.faults ≡ counted input.before.faults
+  pub unsound : IsTrue input.before.sound → input.before.name ≢ Some name
   pub goes_on : MayGoOn recording limit input
 
 -- Why an input of this name was read as no traces within the limit.

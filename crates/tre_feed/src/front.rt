@@ -18,17 +18,15 @@ pub fn read_front<S: Source>(
     most: usize,
     input: &mut S,
 ) -> Result<Vec<u8>, Fault>
-    requires closed { S.opened input.old ≡ false }
+    requires closed { (S.told input.old).opened ≡ false }
     ensures read { IfOk result (λ bytes. IsFront most
-        (input_told S.file_name S.file S.sound S.opened S.left S.found S.faults input.old
-        input.new) bytes.items) }
+        (input_told (S.told input.old) (S.told input.new)) bytes.items) }
     ensures stops { IfErr result (StopsFront name.now
-        (input_told S.file_name S.file S.sound S.opened S.left S.found S.faults input.old
-        input.new)) }
-    ensures bounded { IsTrue (S.opened input.new) →
-        TakesAtMost most (S.file input.old) (S.left input.new) }
-    ensures by_name { IsTrue (S.opened input.new) →
-        IfSome (S.file_name input.old) (λ told. told ≡ name.now) }
+        (input_told (S.told input.old) (S.told input.new))) }
+    ensures bounded { IsTrue (S.told input.new).opened →
+        TakesAtMost most (S.told input.old).file (S.told input.new).left }
+    ensures by_name { IsTrue (S.told input.new).opened →
+        IfSome (S.told input.old).name (λ told. told ≡ name.now) }
 {
     input.open(name)?;
     let mut bytes = Vec::new(alloc);
@@ -48,19 +46,19 @@ fn read_more<S: Source>(
     buffer: &mut [u8],
     input: &mut S,
 ) -> Result<bool, Fault>
-    requires opened { IsTrue (S.opened input.old) }
+    requires opened { IsTrue (S.told input.old).opened }
     requires room { 0 < length buffer.old }
     requires few { length bytes.old.items ≤ most }
-    ensures read { IsReadOn most bytes.old.items bytes.new.items (S.left input.old)
-        (S.left input.new) result }
+    ensures read { IsReadOn most bytes.old.items bytes.new.items (S.told input.old).left
+        (S.told input.new).left result }
     ensures end { IfOk result (λ more. more ≡ false → length bytes.new.items < most →
-        IsAtEnd (S.left input.new)) }
+        IsAtEnd (S.told input.new).left) }
     ensures rises { IfOk result (λ more. IsTrue more →
         length bytes.old.items < length bytes.new.items) }
     ensures length { length buffer.new ≡ length buffer.old }
     ensures named { IfErr result (λ fault. fault ≢ Fault.Read → fault ≢ Fault.Memory →
         ⊥) }
-    ensures source { KeepsSource S.opened S.sound S.faults input.old input.new result }
+    ensures source { KeepsSource (S.told input.old) (S.told input.new) result }
 {
     let room = buffer.len().min(most - bytes.len());
     if room == 0 {

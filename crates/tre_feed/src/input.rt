@@ -91,20 +91,21 @@ impl<R: TraceReader + Drop> Input<R> {
 
     /// Opens the source under this name, to be read from its first byte on.
     pub fn open<S: Source>(&self, name: &str, source: &mut S) -> Result<(), Fault>
-        requires closed { S.opened source.old ≡ false }
-        ensures opened { OnOk result (IsTrue (S.opened source.new)) }
+        requires closed { (S.told source.old).opened ≡ false }
+        ensures opened { OnOk result (IsTrue (S.told source.new).opened) }
         ensures fed { IsNew R.terms R.represents R.names self.now → OnOk result
             (IsFed (WereFed R.terms R.represents self.now) (limit_of self.now)
-            (S.file source.old) (S.left source.new) (S.found source.new)
+            (S.told source.old).file (S.told source.new).left (S.told source.new).found
             (taken_of self.now) []) }
-        ensures by_name { IsTrue (S.opened source.new) →
-            IfSome (S.file_name source.old) (λ told. told ≡ name.now) }
+        ensures by_name { IsTrue (S.told source.new).opened →
+            IfSome (S.told source.old).name (λ told. told ≡ name.now) }
         ensures read { IfErr result (λ fault. fault ≡ Fault.Read) }
-        ensures refused { OnErr result (S.opened source.new ≡ false) }
-        ensures cause { HasReadCause (S.faults source.old) (S.faults source.new) result }
-        ensures sound { IsTrue (S.sound source.old) → S.file_name source.old ≡ Some name.now →
+        ensures refused { OnErr result ((S.told source.new).opened ≡ false) }
+        ensures cause { HasReadCause (S.told source.old).faults (S.told source.new).faults result }
+        ensures sound { IsTrue (S.told source.old).sound → (S.told source.old).name ≡ Some
+            name.now →
             IsErrOf result Fault.Read → ⊥ }
-        ensures same_sound { S.sound source.new ≡ S.sound source.old }
+        ensures same_sound { (S.told source.new).sound ≡ (S.told source.old).sound }
     {
         source.open(name)?;
         Ok(())
@@ -114,27 +115,27 @@ impl<R: TraceReader + Drop> Input<R> {
     /// whether it may go on. The stretches that become complete wait behind those that did, also
     /// where it stops.
     pub fn next<S: Source>(&mut self, source: &mut S) -> Result<bool, Fault>
-        requires opened { IsTrue (S.opened source.old) }
+        requires opened { IsTrue (S.told source.old).opened }
         requires reads_on { CanReadOn R.terms R.represents self.old }
         ensures read { (file : Option (List ℕ)) (bytes : List ℕ) →
             IsFed (WereFed R.terms R.represents self.old) (limit_of self.old) file
-            (S.left source.old) (S.found source.old) (taken_of self.old) bytes →
+            (S.told source.old).left (S.told source.old).found (taken_of self.old) bytes →
             HasRead (recording_of R.recording R.terms self.old) (limit_of self.old) file
-            (S.left source.new) (S.found source.new) bytes (Wait R.names self.old)
+            (S.told source.new).left (S.told source.new).found bytes (Wait R.names self.old)
             (Wait R.names self.new) result }
         ensures ends { (file : Option (List ℕ)) (bytes : List ℕ) →
             IsFed (WereFed R.terms R.represents self.old) (limit_of self.old) file
-            (S.left source.old) (S.found source.old) (taken_of self.old) bytes →
+            (S.told source.old).left (S.told source.old).found (taken_of self.old) bytes →
             EndsTurn (WereFed R.terms R.represents self.new)
             (recording_of R.recording R.terms self.old) (limit_of self.old) file
-            (S.left source.new) (S.found source.new) (taken_of self.new) bytes
+            (S.told source.new).left (S.told source.new).found (taken_of self.new) bytes
             (Wait R.names self.old) (Wait R.names self.new) (HasEnded R.names self.new) result }
         ensures taken { IfOk result (λ more. IsTrue more → HasTaken self.old self.new) }
         ensures same { IsAsked R.names R.terms R.recording self.old self.new }
-        ensures cause { HasReadCause (S.faults source.old) (S.faults source.new) result }
-        ensures sound { IsTrue (S.sound source.old) → IsErrOf result Fault.Read → ⊥ }
-        ensures same_opened { S.opened source.new ≡ S.opened source.old }
-        ensures same_sound { S.sound source.new ≡ S.sound source.old }
+        ensures cause { HasReadCause (S.told source.old).faults (S.told source.new).faults result }
+        ensures sound { IsTrue (S.told source.old).sound → IsErrOf result Fault.Read → ⊥ }
+        ensures same_opened { (S.told source.new).opened ≡ (S.told source.old).opened }
+        ensures same_sound { (S.told source.new).sound ≡ (S.told source.old).sound }
     {
         feed_next(
             self.limit,
@@ -209,19 +210,17 @@ impl<R: TraceReader + Drop> Input<R> {
         name: &str,
         source: &mut S,
     ) -> Result<Vec<Trace>, Fault>
-        requires closed { S.opened source.old ≡ false }
+        requires closed { (S.told source.old).opened ≡ false }
         requires new { IsNew R.terms R.represents R.names self }
         ensures read { (asked : List Vocabulary) → Asks R.names self asked →
             IfOk result (λ traces. IsWhole asked (recording_of R.recording R.terms self)
-            (limit_of self) (input_told S.file_name S.file S.sound S.opened S.left S.found
-            S.faults source.old source.new) traces.items) }
+            (limit_of self) (input_told (S.told source.old) (S.told source.new)) traces.items) }
         ensures stops { IfErr result (StopsReading (recording_of R.recording R.terms self)
-            (limit_of self) name.now (input_told S.file_name S.file S.sound S.opened S.left
-            S.found S.faults source.old source.new)) }
-        ensures bounded { IsTrue (S.opened source.new) →
-            TakesAtMost (limit_of self + 1) (S.file source.old) (S.left source.new) }
-        ensures by_name { IsTrue (S.opened source.new) →
-            IfSome (S.file_name source.old) (λ told. told ≡ name.now) }
+            (limit_of self) name.now (input_told (S.told source.old) (S.told source.new))) }
+        ensures bounded { IsTrue (S.told source.new).opened →
+            TakesAtMost (limit_of self + 1) (S.told source.old).file (S.told source.new).left }
+        ensures by_name { IsTrue (S.told source.new).opened →
+            IfSome (S.told source.old).name (λ told. told ≡ name.now) }
     {
         self.open(name, source)?;
         loop {

@@ -15,14 +15,15 @@ pub(crate) fn buffer_of(alloc: Global, len: usize) -> Result<Vec<u8>, AllocError
 
 // Reads once, into the front of the buffer.
 pub(crate) fn read_piece<S: Source>(input: &mut S, buffer: &mut [u8]) -> Result<usize, Fault>
-    requires opened { IsTrue (S.opened input.old) }
+    requires opened { IsTrue (S.told input.old).opened }
     requires room { 0 < length buffer.old }
-    ensures read { IfOk result (IsPiece (S.left input.old) (S.left input.new) buffer.new) }
+    ensures read { IfOk result (IsPiece (S.told input.old).left (S.told input.new).left
+        buffer.new) }
     ensures length { length buffer.new ≡ length buffer.old }
-    ensures finds { Keeps (S.found input.new) (S.left input.old) }
+    ensures finds { Keeps (S.told input.new).found (S.told input.old).left }
     ensures failed { IfErr result (λ fault. fault ≡ Fault.Read) }
-    ensures kept { OnErr result (Keeps (S.left input.old) (S.left input.new)) }
-    ensures source { KeepsSource S.opened S.sound S.faults input.old input.new result }
+    ensures kept { OnErr result (Keeps (S.told input.old).left (S.told input.new).left) }
+    ensures source { KeepsSource (S.told input.old) (S.told input.new) result }
 {
     let count = input.read(buffer)?;
     Ok(count)

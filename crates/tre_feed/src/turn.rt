@@ -21,20 +21,21 @@ fn feed_piece<S: Source, R: TraceReader + Drop>(
     each: &mut [Fed<R>],
     source: &mut S,
 ) -> Result<usize, Fault>
-    requires opened { IsTrue (S.opened source.old) }
+    requires opened { IsTrue (S.told source.old).opened }
     requires room { 0 < length buffer.old }
     requires some { 0 < length each.old }
     requires fits { AllByRecursion (λ fed. R.fed_of fed.reader + allowed ≤ FED_MAX) each.old }
-    ensures read { IfOk result (IsPiece (S.left source.old) (S.left source.new) buffer.new) }
+    ensures read { IfOk result (IsPiece (S.told source.old).left (S.told source.new).left
+        buffer.new) }
     ensures feeds { (bytes : List ℕ) → AllWereFed R.terms R.represents each.old bytes →
         EndsPiece (AllWereFed R.terms R.represents each.new)
         (recording_by R.recording R.terms each.old) allowed (length buffer.old) buffer.new bytes
-        (S.left source.old) (S.left source.new) (AllWait R.names each.old)
+        (S.told source.old).left (S.told source.new).left (AllWait R.names each.old)
         (AllWait R.names each.new) result }
     ensures same { all_asked R.names R.terms each.new ≡ all_asked R.names R.terms each.old }
     ensures length { length buffer.new ≡ length buffer.old }
-    ensures finds { Keeps (S.found source.new) (S.left source.old) }
-    ensures source { KeepsSource S.opened S.sound S.faults source.old source.new result }
+    ensures finds { Keeps (S.told source.new).found (S.told source.old).left }
+    ensures source { KeepsSource (S.told source.old) (S.told source.new) result }
 {
     let count = read_piece(source, buffer)?;
     feed_all(each, &buffer[..count.min(allowed)])?;
@@ -50,26 +51,27 @@ pub fn feed_next<S: Source, R: TraceReader + Drop>(
     each: &mut [Fed<R>],
     source: &mut S,
 ) -> Result<bool, Fault>
-    requires opened { IsTrue (S.opened source.old) }
+    requires opened { IsTrue (S.told source.old).opened }
     requires fits { limit ≤ FED_MAX }
     requires readers { WereGiven R.fed_of taken.old each.old }
     requires buffer { HasPieceRoom buffer.old }
     ensures read { (file : Option (List ℕ)) (bytes : List ℕ) →
-        IsFed (AllWereFed R.terms R.represents each.old) limit file (S.left source.old)
-        (S.found source.old) taken.old bytes →
-        HasRead (recording_by R.recording R.terms each.old) limit file (S.left source.new)
-        (S.found source.new) bytes (AllWait R.names each.old) (AllWait R.names each.new) result }
+        IsFed (AllWereFed R.terms R.represents each.old) limit file (S.told source.old).left
+        (S.told source.old).found taken.old bytes →
+        HasRead (recording_by R.recording R.terms each.old) limit file (S.told source.new).left
+        (S.told source.new).found bytes (AllWait R.names each.old) (AllWait R.names each.new)
+        result }
     ensures ends { (file : Option (List ℕ)) (bytes : List ℕ) →
-        IsFed (AllWereFed R.terms R.represents each.old) limit file (S.left source.old)
-        (S.found source.old) taken.old bytes →
+        IsFed (AllWereFed R.terms R.represents each.old) limit file (S.told source.old).left
+        (S.told source.old).found taken.old bytes →
         EndsTurn (AllWereFed R.terms R.represents each.new)
-        (recording_by R.recording R.terms each.old) limit file (S.left source.new)
-        (S.found source.new) taken.new bytes (AllWait R.names each.old)
+        (recording_by R.recording R.terms each.old) limit file (S.told source.new).left
+        (S.told source.new).found taken.new bytes (AllWait R.names each.old)
         (AllWait R.names each.new) (AllEnded R.names each.new) result }
     ensures taken { IfOk result (λ more. IsTrue more → HasTakenMore limit taken.old taken.new) }
     ensures same { all_asked R.names R.terms each.new ≡ all_asked R.names R.terms each.old }
     ensures length { length buffer.new ≡ length buffer.old }
-    ensures source { KeepsSource S.opened S.sound S.faults source.old source.new result }
+    ensures source { KeepsSource (S.told source.old) (S.told source.new) result }
 {
     if *taken > limit {
         return Err(Fault::TooLong);

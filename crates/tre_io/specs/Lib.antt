@@ -1,6 +1,7 @@
 -- What a reader must believe.
 pub mod Faults
 pub mod Written
+pub mod Told
 pub mod Calls
 pub mod MemoryInput
 pub mod MemoryOutput

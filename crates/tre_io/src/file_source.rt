@@ -98,19 +98,15 @@ impl<'a, R: Files + Input> FileSource<'a, R> {
 }
 
 impl<'a, R: Files + Input> Source for FileSource<'a, R> {
-    ghost file_name = { λ _. None };
-
-    ghost file = { λ _. None };
-
-    ghost left = { λ source. source.left };
-
-    ghost found = { λ _. None };
-
-    ghost opened = { λ source. source.opened };
-
-    ghost sound = { λ _. false };
-
-    ghost faults = { λ source. source.faults };
+    ghost told = { λ source. record {
+      name = None;
+      file = None;
+      left = source.left;
+      found = None;
+      opened = source.opened;
+      sound = false;
+      faults = source.faults;
+    } };
 
     ghost found_told = { λ _ told. told };
 

@@ -58,9 +58,7 @@ impl MemSink {
 }
 
 impl Sink for MemSink {
-    ghost written = { λ sink. Some sink.written };
-
-    ghost faults = { λ sink. sink.calls.faults };
+    ghost told = { λ sink. record { written = Some sink.written; faults = sink.calls.faults } };
 
     /// Fails where this call is to fail, and where it finds no memory. Else it takes as many bytes
     /// as `most` allows.

@@ -64,19 +64,15 @@ impl MemSource {
 }
 
 impl Source for MemSource {
-    ghost file_name = { λ source. Some source.name };
-
-    ghost file = { λ source. Some source.bytes };
-
-    ghost left = { λ source. Some source.left };
-
-    ghost found = { λ source. Some source.found };
-
-    ghost opened = { λ source. source.opened };
-
-    ghost sound = { is_sound };
-
-    ghost faults = { λ source. source.calls.faults };
+    ghost told = { λ source. record {
+      name = Some source.name;
+      file = Some source.bytes;
+      left = Some source.left;
+      found = Some source.found;
+      opened = source.opened;
+      sound = is_sound source;
+      faults = source.calls.faults;
+    } };
 
     ghost found_told = { λ source told. told };
 

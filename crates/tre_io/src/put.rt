@@ -11,9 +11,11 @@ use crate::sink::Sink;
 ///
 /// At `Failed` the sink has taken a first part of them, which may be empty and isn't the whole.
 pub fn put_all<K: Sink>(sink: &mut K, bytes: &[u8]) -> Result<(), Failed>
-    ensures all { OnOk result (Appends (K.written sink.old) (K.written sink.new) bytes.now) }
-    ensures part { OnErr result (AppendsPart (K.written sink.old) (K.written sink.new) bytes.now) }
-    ensures cause { HasCause (K.faults sink.old) (K.faults sink.new) result }
+    ensures all { OnOk result
+        (Appends (K.told sink.old).written (K.told sink.new).written bytes.now) }
+    ensures part { OnErr result
+        (AppendsPart (K.told sink.old).written (K.told sink.new).written bytes.now) }
+    ensures cause { HasCause (K.told sink.old).faults (K.told sink.new).faults result }
 {
     let mut done = 0;
     while done < bytes.len() {

@@ -52,9 +52,7 @@ impl<W: Write> StdSink<W> {
 }
 
 impl<W: Write> Sink for StdSink<W> {
-    ghost written = { λ sink. sink.written };
-
-    ghost faults = { λ sink. sink.faults };
+    ghost told = { λ sink. record { written = sink.written; faults = sink.faults } };
 
     fn write(&mut self, bytes: &[u8]) -> Result<usize, Failed> {
         match self.writer.write(bytes) {

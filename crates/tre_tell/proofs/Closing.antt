@@ -255,7 +255,7 @@ BlocksStand-none watched output none = record {
   accounts = map start_account watched.patterns;
   are = start_accounts watched.patterns;
   written = rw (none.unwritten, start_text watched.scale (map start_account watched.patterns))
-      (Appends-none output.written_before);
+      (Appends-none output.before.written);
 }
 
 -- no row of a pattern

@@ -52,7 +52,8 @@ pub turn_stops : (were_fed : List ℕ → Type 0) (recording : Bool → List ℕ
     (file left found : Option (List ℕ)) (count : ℕ) (bytes : List ℕ)
     (waits then_waits : List Stretch → Type 0) (has_ended : (List ℕ → Bool) → Type 0)
     (result : Result Bool Fault)
-    → EndsTurn were_fed recording limit file left found count bytes waits then_waits has_ended result
+    → EndsTurn were_fed recording limit file left found count bytes waits then_waits has_ended
+    result
     → IfErr result (StopsTurn recording limit file left bytes waits then_waits)
 turn_stops were_fed recording limit file left found count bytes waits then_waits has_ended (Ok more)
     ends = tt
@@ -174,10 +175,11 @@ module _ {R Terms : Type 0} (recording : Terms → Bool → List ℕ → Recordi
 none_taken : (limit : ℕ) → take {A = ℕ} limit [] ≡ []
 none_taken limit = take_all {A = ℕ} limit [] (omega arith)
 
-none_read : (input : InputTold) → (IsTrue input.opened → Keeps input.file input.left)
+none_read : (input : InputTold) → (IsTrue input.now.opened → Keeps input.before.file input.now.left)
     → WereRead input []
 none_read input kept = record {
-  of_open = λ is_open. Consumes-keeps input.file input.file input.left [] (Consumes-nil input.file)
+  of_open = λ is_open. Consumes-keeps input.before.file input.before.file input.now.left []
+      (Consumes-nil input.before.file)
       (kept is_open);
   of_closed = λ closed. refl;
 }
@@ -199,8 +201,8 @@ module _ (labels : List (List ℕ)) (patterns : List Pattern)
 
   -- no block stands there
   pub FirstBlocksStand-unread : (input : InputTold) (output : OutputTold)
-      → (IsTrue input.opened → Keeps input.file input.left)
-      → (IsTrue input.opened → Keeps input.found input.file) → NothingWritten output
+      → (IsTrue input.now.opened → Keeps input.before.file input.now.left)
+      → (IsTrue input.now.opened → Keeps input.now.found input.before.file) → NothingWritten output
       → FirstBlocksStand (watched_by labels patterns recording limit scale) input output
   FirstBlocksStand-unread input output kept finds none = record {
     recording = recording false [];
@@ -217,8 +219,8 @@ module _ (labels : List (List ℕ)) (patterns : List Pattern)
         piece = [];
         split = refl;
         short = omega arith;
-        behind = λ is_open. found_behind input.file input.file input.found []
-            (Consumes-nil input.file) (finds is_open);
+        behind = λ is_open. found_behind input.before.file input.before.file input.now.found []
+            (Consumes-nil input.before.file) (finds is_open);
       };
       prompt = rw (none_taken limit, nothing) (omega arith);
     };
@@ -229,11 +231,12 @@ module _ (labels : List (List ℕ)) (patterns : List Pattern)
   -- it couldn't be opened, or memory was wanting then
   pub EndsTelling-unread : (name : List ℕ) (input : InputTold) (output : OutputTold)
       (fault : Fault) → (recording false []).fault ≡ None
-      → (IsTrue input.opened → Keeps input.file input.left)
-      → (IsTrue input.opened → Keeps input.found input.file)
-      → HasReadCause {T = Bool} input.faults_before input.faults_now (Err fault)
+      → (IsTrue input.now.opened → Keeps input.before.file input.now.left)
+      → (IsTrue input.now.opened → Keeps input.now.found input.before.file)
+      → HasReadCause {T = Bool} input.before.faults input.now.faults (Err fault)
       → (fault ≢ Read → fault ≢ Memory → ⊥)
-      → (IsTrue input.sound → input.name ≡ Some name → fault ≢ Read) → NothingWritten output
+      → (IsTrue input.before.sound → input.before.name ≡ Some name → fault ≢ Read) → NothingWritten
+      output
       → EndsTelling {T = Unit {0}} (watched_by labels patterns recording limit scale) name input
       output (Err fault)
   EndsTelling-unread name input output Read faultless kept finds read only sound none = record {
@@ -245,12 +248,8 @@ module _ (labels : List (List ℕ)) (patterns : List Pattern)
       within = omega arith;
       faultless = faultless;
     };
-    stands = record {
-      bytes = [];
-      read = none_read input kept;
-      stand = rw (none_taken limit, nothing)
-          (BlocksStand-none (watched_by labels patterns recording limit scale) output none);
-    };
+    stands = rw nothing
+        (BlocksStand-none (watched_by labels patterns recording limit scale) output none);
   }
   EndsTelling-unread name input output Memory faultless kept finds read only sound none = record {
     reads = read;

@@ -27,21 +27,22 @@ use Rattle.tre_online.specs.Watch.{Watches}
 use Rattle.tre_tell.proofs.Stretches.{blocks_for-rows, ending_for-rows, pushed_for, quiet_rows}
 
 -- the bytes of an open input
-were_read : (input : InputTold) (bytes : List ℕ) → input.opened ≡ true
-    → Consumes input.file input.left bytes → WereRead input bytes
+were_read : (input : InputTold) (bytes : List ℕ) → input.now.opened ≡ true
+    → Consumes input.before.file input.now.left bytes → WereRead input bytes
 were_read input bytes opened front = record {
   of_open = λ is_open. front;
   of_closed = λ closed. cc;
 }
 
 -- of one that was read to its end
-all_bytes : (input : InputTold) (bytes : List ℕ) → input.opened ≡ true
-    → Consumes input.file input.left bytes → IsAtEnd input.left → AreAllBytes input bytes
+all_bytes : (input : InputTold) (bytes : List ℕ) → input.now.opened ≡ true
+    → Consumes input.before.file input.now.left bytes → IsAtEnd input.now.left → AreAllBytes input
+    bytes
 all_bytes input bytes opened front all = record {
   opened = opened;
   read = were_read input bytes opened front;
   all_read = all;
-  whole = Consumes-whole input.file input.left bytes _ front all refl;
+  whole = Consumes-whole input.before.file input.now.left bytes _ front all refl;
 }
 
 -- of two ways to cut a list, the shorter front is the front of the longer
@@ -89,7 +90,7 @@ module _ (watched : Watched) (some : 0 < length watched.patterns) where
   -- the blocks of these stretches were written
   abbrev pub Written : OutputTold → List Stretch → Type 0
   Written output stretches = BlocksWritten watched.scale watched.patterns
-      (rows_for asked stretches) output.written_before output.written_now
+      (rows_for asked stretches) output.before.written output.now.written
 
   -- they stand there
   pub stand_by : (stretches : List Stretch) (output : OutputTold) → AllWritesGood output
@@ -114,10 +115,11 @@ module _ (watched : Watched) (some : 0 < length watched.patterns) where
     -- A turn that read on behind these bytes, where nothing waited before.
     pub record IsTurn (input : InputTold) (bytes : List ℕ) (fed : Result Bool Fault)
         : Type 0 where
-      pub has : HasRead watched.recording watched.limit input.file input.left input.found bytes
+      pub has : HasRead watched.recording watched.limit input.before.file input.now.left
+          input.now.found bytes
           waits then_waits fed
       pub none : waits []
-      pub opened : input.opened ≡ true
+      pub opened : input.now.opened ≡ true
 
     -- Whatever waits was written behind the blocks before the turn.
     abbrev pub AllWritten : OutputTold → List ℕ → Type 0
@@ -254,13 +256,14 @@ module _ (watched : Watched) (some : 0 < length watched.patterns) where
         abbrev pub StopsAtOne : OutputTold → Fault → Type 0
         StopsAtOne output fault = (waiting : List Stretch) → then_waits waiting
             → StopsWithin watched.scale watched.patterns (before_turn bytes).stretches waiting
-            output.written_before output.written_now fault
+            output.before.written output.now.written fault
 
         -- then no read failed
         reads_good : (result : Result Bool Fault) (output : OutputTold) (fault : Fault)
             → StopsAtOne output fault
-            → HasReadCause input.faults_before input.faults_now result
-            → IfErr result (StopsTurn watched.recording watched.limit input.file input.left bytes
+            → HasReadCause input.before.faults input.now.faults result
+            → IfErr result (StopsTurn watched.recording watched.limit input.before.file
+            input.now.left bytes
             waits then_waits) → AllReadsGood input
         reads_good (Ok more) output fault one cause stops = cause
         reads_good (Err (Trace first)) output fault one cause stops = cause
@@ -278,10 +281,11 @@ module _ (watched : Watched) (some : 0 < length watched.patterns) where
 
         -- the telling stopped at a stretch
         pub EndsTelling-within : (name : List ℕ) (output : OutputTold) (fault : Fault)
-            → HasReadCause input.faults_before input.faults_now fed
-            → IfErr fed (StopsTurn watched.recording watched.limit input.file input.left bytes
+            → HasReadCause input.before.faults input.now.faults fed
+            → IfErr fed (StopsTurn watched.recording watched.limit input.before.file input.now.left
+            bytes
             waits then_waits)
-            → HasWriteCause {T = Watch} output.faults_before output.faults_now (Err fault)
+            → HasWriteCause {T = Watch} output.before.faults output.now.faults (Err fault)
             → StopsAtOne output fault
             → EndsTelling {T = Unit {0}} watched name input output (Err fault)
         EndsTelling-within name output Write read stops write one =
@@ -355,9 +359,10 @@ module _ (watched : Watched) (some : 0 < length watched.patterns) where
       -- the input stopped, and all that it gave was told
       pub EndsTelling-stopped : (input : InputTold) (bytes : List ℕ) (fault : Fault)
           (name : List ℕ) (output : OutputTold) → IsTurn input bytes (Err fault)
-          → HasReadCause {T = Bool} input.faults_before input.faults_now (Err fault)
-          → (IsTrue input.sound → fault ≢ Read)
-          → StopsTurn watched.recording watched.limit input.file input.left bytes waits then_waits
+          → HasReadCause {T = Bool} input.before.faults input.now.faults (Err fault)
+          → (IsTrue input.before.sound → fault ≢ Read)
+          → StopsTurn watched.recording watched.limit input.before.file input.now.left bytes waits
+          then_waits
           fault → (before_turn bytes).fault ≡ None → AllWritesGood output
           → AllWritten output bytes
           → EndsTelling {T = Unit {0}} watched name input output (Err fault)
@@ -389,13 +394,12 @@ module _ (watched : Watched) (some : 0 < length watched.patterns) where
               faultless = subst (λ all. (watched.recording false all).fault ≡ None)
                   (take_all watched.limit bytes stops.within) none;
             };
-            stands = record {
-              bytes = bytes;
-              read = were_read input bytes turn.opened stops.front;
-              stand = stand_by (before_turn bytes).stretches output writes
-                  (rw (append-nil (before_turn bytes).stretches) at
-                  (written [] (stops.kept.same [] turn.none)));
-            };
+            stands = subst
+                (λ all. BlocksStand watched (watched.recording false all).stretches output)
+                (take_all watched.limit bytes stops.within)
+                (stand_by (before_turn bytes).stretches output writes
+                (rw (append-nil (before_turn bytes).stretches) at
+                (written [] (stops.kept.same [] turn.none))));
           }
       EndsTelling-stopped input bytes Memory name output turn read sound stops none writes
           written = record {
@@ -417,9 +421,9 @@ module _ (watched : Watched) (some : 0 < length watched.patterns) where
       ap (λ rest. trace_for said pattern.names ∷ rest) (lines_whole said patterns)
 
   module _ (input : InputTold) (name bytes : List ℕ) (laws : HasLaws watched.recording)
-      (front : Consumes input.file input.left bytes) (all_read : IsAtEnd input.left)
+      (front : Consumes input.before.file input.now.left bytes) (all_read : IsAtEnd input.now.left)
       (within : length bytes ≤ watched.limit)
-      (whole : (watched.recording true bytes).fault ≡ None) (opened : input.opened ≡ true) where
+      (whole : (watched.recording true bytes).fault ≡ None) (opened : input.now.opened ≡ true) where
     -- what all bytes say
     abbrev pub said : Recording
     said = watched.recording true bytes
@@ -460,7 +464,7 @@ module _ (watched : Watched) (some : 0 < length watched.patterns) where
     -- all was told, with what the end completes
     pub EndsTelling-done : (output : OutputTold) → AllReadsGood input → AllWritesGood output
         → HasClosed watched.scale watched.patterns whole_rows (timelines whole_rows whole_lasts)
-        output.written_before output.written_now
+        output.before.written output.now.written
         → EndsTelling {T = Unit {0}} watched name input output (Ok tt)
     EndsTelling-done output reads writes told = record {
       reads = reads;
@@ -477,7 +481,7 @@ module _ (watched : Watched) (some : 0 < length watched.patterns) where
     -- all was told, and a write failed within what the end completes
     end_is_cut : (output : OutputTold)
         → ClosingIsCut watched.scale watched.patterns whole_rows
-        (timelines whole_rows whole_lasts) output.written_before output.written_now
+        (timelines whole_rows whole_lasts) output.before.written output.now.written
         → AnswerIsCut watched output bytes
     unfolding right_text
     end_is_cut output cut = record {
@@ -491,12 +495,12 @@ module _ (watched : Watched) (some : 0 < length watched.patterns) where
         (turn : IsTurn waits then_waits input bytes fed)
         → TakesOn waits then_waits (before_turn bytes) said → (output : OutputTold)
         (fault : Fault) → AllReadsGood input
-        → HasWriteCause {T = Unit {0}} output.faults_before output.faults_now (Err fault)
+        → HasWriteCause {T = Unit {0}} output.before.faults output.now.faults (Err fault)
         → ((waiting : List Stretch) → then_waits waiting
         → StopsAtEnd watched.scale watched.patterns
         (rows_for asked ((before_turn bytes).stretches ++ waiting))
         (timelines (rows_for asked ((before_turn bytes).stretches ++ waiting)) whole_lasts)
-        output.written_before output.written_now fault)
+        output.before.written output.now.written fault)
         → EndsTelling {T = Unit {0}} watched name input output (Err fault)
     EndsTelling-cut waits then_waits fed turn takes output Write reads write stops = record {
       cause = write;

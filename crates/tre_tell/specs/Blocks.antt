@@ -9,8 +9,7 @@ use Rattle.tre_zone.specs.declared.zone_bounds.ZoneBounds.{ZoneBounds}
 use Rattle.tre_tell.specs.Sought.{Sought}
 use Rattle.tre_tell.specs.Transcript.{Account, IsTranscript}
 
--- The accounts are those of these patterns over these traces, one for each, and the blocks of each
--- are right.
+-- The accounts are those of these patterns over these traces, and the blocks of each are right.
 pub record AreAccounts (patterns : List Sought) (traces : List Timeline)
     (accounts : List Account) : Type 0 where
   pub of_patterns : map (λ account. account.pattern) accounts ≡ patterns

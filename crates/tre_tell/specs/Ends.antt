@@ -6,7 +6,7 @@ use Rattle.tre_feed.specs.Outcome.{IsInputKind}
 use Rattle.tre_feed.specs.Comes.{ComesTo, MayGoOn, Outcome, refuses, exceeds, recording_within}
 use Rattle.tre_io.specs.Faults.{counted}
 use Rattle.tre_tell.specs.Outputs.{OutputTold, AllWritesGood}
-use Rattle.tre_tell.specs.Standing.{BlocksStand, BlocksSoFarStand, FirstBlocksStand, BlockIsCut, IsOnlineAnswer, EndIsCut}
+use Rattle.tre_tell.specs.Standing.{BlocksStand, FirstBlocksStand, BlockIsCut, IsOnlineAnswer, EndIsCut}
 use Rattle.tre_tell.specs.Watched.{Watched}
 use Rattle.tre_feed.specs.declared.fault.Fault.{Fault}
 use Rattle.tre_feed.specs.declared.fault.Fault.TheVariants.{Trace, TooLong, Read, Write, Memory}
@@ -17,13 +17,13 @@ pub record IsTold (watched : Watched) (input : InputTold) (output : OutputTold) 
   pub text : List ℕ
   pub right : OfAllBytes input (λ bytes. IsOnlineAnswer watched bytes text)
   pub writes : AllWritesGood output
-  pub written : Appends output.written_before output.written_now text
+  pub written : Appends output.before.written output.now.written text
 
 -- The bytes of the input come to this, which is no trace, and all blocks before that were told.
 pub record IsToldToFault (watched : Watched) (input : InputTold) (output : OutputTold)
     (outcome : Outcome) : Type 0 where
-  pub opened : IsTrue input.opened
-  pub cause : ComesTo watched.recording watched.limit input.file input.left outcome
+  pub opened : IsTrue input.now.opened
+  pub cause : ComesTo watched.recording watched.limit input.before.file input.now.left outcome
   pub reads : AllReadsGood input
   pub stands : BlocksStand watched
       (recording_within watched.recording watched.limit cause.bytes).stretches output
@@ -32,15 +32,15 @@ pub record IsToldToFault (watched : Watched) (input : InputTold) (output : Outpu
 -- counted, and a source that is sound under the name has none. All that was complete was told.
 pub record IsToldToFailedRead (watched : Watched) (name : List ℕ) (input : InputTold)
     (output : OutputTold) : Type 0 where
-  pub cause : input.faults_now ≡ counted input.faults_before
-  pub unsound : IsTrue input.sound → input.name ≢ Some name
+  pub cause : input.now.faults ≡ counted input.before.faults
+  pub unsound : IsTrue input.before.sound → input.before.name ≢ Some name
   pub goes_on : MayGoOn watched.recording watched.limit input
-  pub stands : BlocksSoFarStand watched input output
+  pub stands : BlocksStand watched (watched.recording false goes_on.bytes).stretches output
 
 -- A write failed, within the block of a segment or behind all blocks: one failure was counted.
 pub record IsToldToFailedWrite (watched : Watched) (input : InputTold) (output : OutputTold)
     : Type 0 where
-  pub cause : output.faults_now ≡ counted output.faults_before
+  pub cause : output.now.faults ≡ counted output.before.faults
   pub reads : AllReadsGood input
   pub stands : BlockIsCut watched input output ⊎ EndIsCut watched input output
 

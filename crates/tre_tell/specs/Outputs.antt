@@ -1,30 +1,23 @@
--- What an output tells and counts.
+-- What is written to an output.
 use Rattle.std.specs.Prelude.{◌≡◌, ℕ, ◌≤◌, List, length, Option}
+use Rattle.tre_io.specs.Told.{SinkTold}
 use Rattle.tre_io.specs.Written.{AppendsPart}
 
--- What an output tells and counts, before something is told and then.
+-- What a sink tells before something is written, and then.
 pub record OutputTold : Type 0 where
-  pub written_before : Option (List ℕ)
-  pub written_now : Option (List ℕ)
-  pub faults_before : ℕ
-  pub faults_now : ℕ
+  pub before : SinkTold
+  pub now : SinkTold
 
--- what these meanings of a sink tell of it as it was and as it is
-abbrev pub output_told : {O : Type 0} → (O → Option (List ℕ)) → (O → ℕ) → O → O → OutputTold
-output_told written faults before now = record {
-  written_before = written before;
-  written_now = written now;
-  faults_before = faults before;
-  faults_now = faults now;
-}
+abbrev pub output_told : SinkTold → SinkTold → OutputTold
+output_told before now = record { before = before; now = now }
 
 -- no write failed
 abbrev pub AllWritesGood : OutputTold → Type 0
-AllWritesGood output = output.faults_now ≡ output.faults_before
+AllWritesGood output = output.now.faults ≡ output.before.faults
 
 -- nothing was written, and no write failed
 pub record NothingWritten (output : OutputTold) : Type 0 where
-  pub unwritten : output.written_now ≡ output.written_before
+  pub unwritten : output.now.written ≡ output.before.written
   pub writes : AllWritesGood output
 
 -- A first part of the text was written, with all of its front in it.

@@ -20,27 +20,17 @@ pub record BlocksStand (watched : Watched) (stretches : List Stretch) (output : 
   pub writes : AllWritesGood output
   pub accounts : List Account
   pub are : AreAccounts watched.patterns (fronts watched.patterns stretches) accounts
-  pub written : Appends output.written_before output.written_now
+  pub written : Appends output.before.written output.now.written
       (blocks_for watched accounts stretches)
 
--- The blocks of all stretches that the bytes read complete stand there. The input wasn't seen to
--- end, so the bytes behind its last complete stretch say nothing.
-pub record BlocksSoFarStand (watched : Watched) (input : InputTold) (output : OutputTold) : Type 0
-  where
-    pub bytes : List ℕ
-    pub read : WereRead input bytes
-    pub stand : BlocksStand watched
-        (watched.recording false (take watched.limit bytes)).stretches output
-
--- This is what the bytes that were read say. The input is closed only where nothing of it is left,
--- and it has no byte past the limit. No more than `count` stretches were complete when the last
--- read began: of those the blocks weren't held back.
+-- This is what the bytes that were read say, closed only at the end, within the limit. No more than
+-- `count` stretches were complete when the last read began: of those no block was held back.
 pub record IsPrompt (watched : Watched) (input : InputTold) (recording : Recording) (count : ℕ)
     : Type 0 where
   pub bytes : List ℕ
   pub read : WereRead input bytes
   pub closed : Bool
-  pub all_read : closed ≡ true → IsAtEnd input.left
+  pub all_read : closed ≡ true → IsAtEnd input.now.left
   pub within : closed ≡ true → length bytes ≤ watched.limit
   pub known : recording ≡ watched.recording closed (take watched.limit bytes)
   pub last : HasLastPiece input bytes
@@ -58,7 +48,7 @@ pub record FirstBlocksStand (watched : Watched) (input : InputTold) (output : Ou
 
 -- The block of a stretch is cut, and those of all stretches before it stand there.
 pub record BlockIsCut (watched : Watched) (input : InputTold) (output : OutputTold) : Type 0 where
-  pub opened : IsTrue input.opened
+  pub opened : IsTrue input.now.opened
   pub recording : Recording
   pub count : ℕ
   pub prompt : IsPrompt watched input recording count
@@ -68,10 +58,9 @@ pub record BlockIsCut (watched : Watched) (input : InputTold) (output : OutputTo
       (fronts watched.patterns (take (suc count) recording.stretches)) accounts
   pub cut : IsCutBehind (blocks_for watched accounts (take count recording.stretches))
       (blocks_for watched accounts (take (suc count) recording.stretches))
-      output.written_before output.written_now
+      output.before.written output.now.written
 
--- The text is right where all of an input of these bytes is told: the blocks of all stretches, and
--- what the end completes.
+-- The text tells all of an input of these bytes: the blocks, and what the end completes.
 pub record IsOnlineAnswer (watched : Watched) (bytes text : List ℕ) : Type 0 where
   pub traces : List Timeline
   pub are : AreTraces watched bytes traces
@@ -88,7 +77,7 @@ pub record AnswerIsCut (watched : Watched) (output : OutputTold) (bytes : List �
   pub right : IsOnlineAnswer watched bytes text
   pub cut : IsCutBehind
       (blocks_for watched right.accounts (watched.recording true bytes).stretches)
-      text output.written_before output.written_now
+      text output.before.written output.now.written
 
 -- The whole input was read, and the end of its right answer is cut.
 abbrev pub EndIsCut : Watched → InputTold → OutputTold → Type 0

@@ -25,9 +25,8 @@ abbrev pub block_before : ℕ → List (List ZoneBounds) → List ZoneBounds
 block_before zero blocks = []
 block_before (suc i) blocks = get_or blocks i []
 
--- Zones that are told behind an earlier block. They are a set as an answer over a whole trace is
--- one, in the order in which they are printed; each of their pairs ends at `from` or later, and at
--- `to` or earlier; and none of them is told again of which the earlier block tells all.
+-- Zones that are told behind an earlier block, in the order in which they are printed. Their pairs
+-- end between `from` and `to`, and none of them is told again of which the earlier block tells all.
 pub record AreTold (earlier : List ZoneBounds) (from to : ℕ) (zones : List ZoneBounds) : Type 0
   where
     pub apart : IsApart zones
@@ -37,24 +36,21 @@ pub record AreTold (earlier : List ZoneBounds) (from to : ℕ) (zones : List Zon
         → (from * n ≤ b) × (b ≤ to * n)
     pub new : All (λ zone. ¬ Any (λ other. Includes other zone) earlier) zones
 
--- The block of the segment at place i, counted from 0. With the blocks before it, it tells exactly
--- the matches over the trace up to its segment's end. Its pairs end within the segment, its begin
--- and end included.
+-- The block of the segment at place i, counted from 0. With those before it, it tells exactly the
+-- matches over the trace up to its segment's end. Its pairs end within the segment.
 pub record IsBlock (account : Account) (i : ℕ) : Type 0 where
   pub so_far : HoldExactly (zones_of (take (suc i) account.blocks))
       (Matches account.pattern.tree (quiet (take (suc i) account.trace.segments)))
   pub told : AreTold (block_before i account.blocks) (end_of 0 (take i account.trace.segments))
       (end_of 0 (take (suc i) account.trace.segments)) (get_or account.blocks i [])
 
--- One block for each segment of the trace. So the first tells exactly the matches over the first
--- segment, and all together exactly those over the trace.
+-- One block for each segment. So all together tell exactly the matches over the trace.
 pub record IsTranscript (account : Account) : Type 0 where
   pub count : length account.blocks ≡ length account.trace.segments
   pub each : (i : ℕ) → i < length account.trace.segments → IsBlock account i
 
--- What the end of the trace completes, where a block was told for each of its segments. Where no
--- event happens there, that is nothing. Else all that is told is exactly the matches over the
--- trace. The pairs end where the trace does.
+-- What the end of the trace completes: nothing, where no event happens there. Else all that is told
+-- is exactly the matches over the trace. The pairs end where the trace does.
 pub record IsClosing (account : Account) : Type 0 where
   pub none : account.trace.last ≡ 0 → account.closing ≡ []
   pub all : account.trace.last ≢ 0 → HoldExactly (zones_of account.blocks ++ account.closing)

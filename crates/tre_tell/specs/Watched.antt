@@ -6,8 +6,7 @@ use Rattle.tre_trace.specs.Reading.{Recording, Stretch, segments_for}
 use Rattle.tre_trace.specs.Trace.{Timeline, IsTrace, quiet}
 use Rattle.tre_tell.specs.Sought.{Sought, sought_by}
 
--- The patterns, what bytes say where they are closed or not yet, how many bytes the input may have,
--- and the scale at which texts are written.
+-- The patterns, what bytes say, closed or not yet, how many there may be, and the texts' scale.
 pub record Watched : Type 0 where
   pub patterns : List Sought
   pub recording : Bool → List ℕ → Recording

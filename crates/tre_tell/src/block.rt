@@ -48,14 +48,17 @@ pub fn tell_block<O: Sink>(
     ensures trees { IfOk result (λ then. trees_of then ≡ trees_of watch) }
     ensures told { (patterns : List Sought) (rows : List (List Segment))
         (before : Option (List ℕ)) →
-        HasTold watch (map string_bytes labels.now) scale patterns rows before (O.written out.old) →
+        HasTold watch (map string_bytes labels.now) scale patterns rows before
+        (O.told out.old).written →
         IfOk result (λ then. HasTold then (map string_bytes labels.now) scale patterns
-        (pushed_each rows column.now) before (O.written out.new)) }
+        (pushed_each rows column.now) before (O.told out.new).written) }
     ensures stops { (patterns : List Sought) (rows : List (List Segment))
         (before : Option (List ℕ)) →
-        HasTold watch (map string_bytes labels.now) scale patterns rows before (O.written out.old) →
-        IfErr result (StopsAtColumn scale patterns rows column.now before (O.written out.new)) }
-    ensures cause { HasWriteCause (O.faults out.old) (O.faults out.new) result }
+        HasTold watch (map string_bytes labels.now) scale patterns rows before
+        (O.told out.old).written →
+        IfErr result (StopsAtColumn scale patterns rows column.now before
+        (O.told out.new).written) }
+    ensures cause { HasWriteCause (O.told out.old).faults (O.told out.new).faults result }
 {
     let (watch, told) = told_of(column, watch)?;
     write_sets(labels, told.into_sets(), "at ", watch.at(), scale, text)?;
@@ -78,15 +81,17 @@ pub fn tell_end<O: Sink>(
     requires scale { scale ≤ SCALE_MAX }
     ensures told { (patterns : List Sought) (rows : List (List Segment))
         (before : Option (List ℕ)) →
-        HasTold watch (map string_bytes labels.now) scale patterns rows before (O.written out.old) →
+        HasTold watch (map string_bytes labels.now) scale patterns rows before
+        (O.told out.old).written →
         OnOk result (HasClosed scale patterns rows (timelines rows lasts.now) before
-        (O.written out.new)) }
+        (O.told out.new).written) }
     ensures stops { (patterns : List Sought) (rows : List (List Segment))
         (before : Option (List ℕ)) →
-        HasTold watch (map string_bytes labels.now) scale patterns rows before (O.written out.old) →
+        HasTold watch (map string_bytes labels.now) scale patterns rows before
+        (O.told out.old).written →
         IfErr result (StopsAtEnd scale patterns rows (timelines rows lasts.now) before
-        (O.written out.new)) }
-    ensures cause { HasWriteCause (O.faults out.old) (O.faults out.new) result }
+        (O.told out.new).written) }
+    ensures cause { HasWriteCause (O.told out.old).faults (O.told out.new).faults result }
 {
     let end = watch.at();
     let told = watch.close(lasts)?;

@@ -9,10 +9,11 @@ use tre_io::{Sink, put_all};
 
 /// Writes a text, in one call of `put_all`.
 pub fn write_text<O: Sink>(text: &str, out: &mut O) -> Result<(), Fault>
-    ensures all { OnOk result (Appends (O.written out.old) (O.written out.new) text.now) }
-    ensures good { OnOk result (O.faults out.new ≡ O.faults out.old) }
-    ensures part { OnErr result (AppendsPart (O.written out.old) (O.written out.new) text.now) }
-    ensures cause { OnErr result (O.faults out.new ≡ counted (O.faults out.old)) }
+    ensures all { OnOk result (Appends (O.told out.old).written (O.told out.new).written text.now) }
+    ensures good { OnOk result ((O.told out.new).faults ≡ (O.told out.old).faults) }
+    ensures part { OnErr result (AppendsPart (O.told out.old).written (O.told out.new).written
+        text.now) }
+    ensures cause { OnErr result ((O.told out.new).faults ≡ counted (O.told out.old).faults) }
     ensures fault { IfErr result (λ fault. fault ≡ Fault.Write) }
 {
     match put_all(out, text.as_bytes()) {

@@ -53,15 +53,15 @@ fn tell_blocks<R: TraceReader + Drop, O: Sink>(
     ensures told { (patterns : List Sought) (told waiting : List Stretch)
         (before : Option (List ℕ)) → Asks R.names input.now (all_names patterns) →
         Wait R.names input.now waiting → HasTold watch (map string_bytes labels.now) scale patterns
-        (rows_for (all_names patterns) told) before (O.written out.old) →
+        (rows_for (all_names patterns) told) before (O.told out.old).written →
         IfOk result (λ then. HasTold then (map string_bytes labels.now) scale patterns
-        (rows_for (all_names patterns) (told ++ waiting)) before (O.written out.new)) }
+        (rows_for (all_names patterns) (told ++ waiting)) before (O.told out.new).written) }
     ensures stops { (patterns : List Sought) (told waiting : List Stretch)
         (before : Option (List ℕ)) → Asks R.names input.now (all_names patterns) →
         Wait R.names input.now waiting → HasTold watch (map string_bytes labels.now) scale patterns
-        (rows_for (all_names patterns) told) before (O.written out.old) →
-        IfErr result (StopsWithin scale patterns told waiting before (O.written out.new)) }
-    ensures cause { HasWriteCause (O.faults out.old) (O.faults out.new) result }
+        (rows_for (all_names patterns) told) before (O.told out.old).written →
+        IfErr result (StopsWithin scale patterns told waiting before (O.told out.new).written) }
+    ensures cause { HasWriteCause (O.told out.old).faults (O.told out.new).faults result }
 {
     let mut watch = watch;
     for place in 0..input.waiting() {
@@ -84,7 +84,7 @@ pub fn tell_matches<S: Source, R: TraceReader + Drop, O: Sink>(
     source: &mut S,
     out: &mut O,
 ) -> Result<(), Fault>
-    requires closed { S.opened source.old ≡ false }
+    requires closed { (S.told source.old).opened ≡ false }
     requires scale { scale ≤ SCALE_MAX }
     requires some { 0 < length patterns.now }
     requires labels { length labels.now ≡ length patterns.now }
@@ -92,12 +92,12 @@ pub fn tell_matches<S: Source, R: TraceReader + Drop, O: Sink>(
     requires new { IsNew R.terms R.represents R.names input.old }
     ensures ends { EndsTelling (watched_by (map string_bytes labels.now) patterns.now
         (recording_of R.recording R.terms input.old) (limit_of input.old) scale) name.now
-        (input_told S.file_name S.file S.sound S.opened S.left S.found S.faults source.old
-        source.new) (output_told O.written O.faults out.old out.new) result }
-    ensures bounded { IsTrue (S.opened source.new) →
-        TakesAtMost (limit_of input.old + 1) (S.file source.old) (S.left source.new) }
-    ensures by_name { IsTrue (S.opened source.new) →
-        IfSome (S.file_name source.old) (λ told. told ≡ name.now) }
+        (input_told (S.told source.old) (S.told source.new))
+        (output_told (O.told out.old) (O.told out.new)) result }
+    ensures bounded { IsTrue (S.told source.new).opened →
+        TakesAtMost (limit_of input.old + 1) (S.told source.old).file (S.told source.new).left }
+    ensures by_name { IsTrue (S.told source.new).opened →
+        IfSome (S.told source.old).name (λ told. told ≡ name.now) }
 {
     let mut watch = Watch::new(alloc, patterns)?;
     let mut room = Room::new(alloc);

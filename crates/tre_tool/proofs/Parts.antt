@@ -1,5 +1,5 @@
 -- The end of a run by the parts that it is made of.
-use Rattle.std.proofs.Common.{◌≡◌, ◌≢◌, List, ℕ, Result, Ok, Err, OnOk, OnErr, refl, sym, subst, inl, inr}
+use Rattle.std.proofs.Common.{◌≡◌, ◌≢◌, List, ℕ, Option, None, Some, IfSome, Result, Ok, Err, OnOk, OnErr, refl, sym, subst, inl, inr}
 use Rattle.std.specs.Io.KnownBytes.{Appends}
 use Rattle.tre_answer.specs.Ends.{ReadsInput, EndsOver, EndsDone}
 use Rattle.tre_answer.specs.Request.{Request, request_for, sought_in}
@@ -163,9 +163,9 @@ never_first FaultMemory first = first
 
 -- a call that tells a line, or fails
 pub IsLineTold-of : {T : Type 0} (output : OutputTold) (line : List ℕ) (result : Result T Failed)
-    → HasCause output.faults_before output.faults_now result
-    → OnOk result (Appends output.written_before output.written_now line)
-    → OnErr result (AppendsPart output.written_before output.written_now line)
+    → HasCause output.before.faults output.now.faults result
+    → OnOk result (Appends output.before.written output.now.written line)
+    → OnErr result (AppendsPart output.before.written output.now.written line)
     → IsLineTold output line
 IsLineTold-of output line (Ok value) cause all part = inl (cause.ok, all)
 IsLineTold-of output line (Err fault) cause all part = inr (cause.failed, part)
@@ -193,6 +193,15 @@ pub of_file : (words : List (List ℕ)) (job other : Job) (file : List ℕ)
 of_file words job other file IsSo gives gives' watches so =
     so file (subst (λ (j : Job). j.mode ≡ WatchMode file)
     (sym (job_unique words job other gives gives')) watches)
+
+-- a name that is told is that of the file of each watch, where it is so for each of them
+pub of_watch : (name : Option (List ℕ)) (words : List (List ℕ))
+    → ((job : Job) (file : List ℕ) → GivesJob words job → job.mode ≡ WatchMode file
+    → IfSome name (λ told. told ≡ file))
+    → IfSome name (λ told. (job : Job) (file : List ℕ) → GivesJob words job
+    → job.mode ≡ WatchMode file → told ≡ file)
+of_watch None words each = tt
+of_watch (Some told) words each = each
 
 -- only a watch reads a file of checks
 pub kept_by : (words : List (List ℕ)) (job : Job) (Kept : Type 0) → GivesJob words job

@@ -74,7 +74,8 @@ ChecksWereRead-of checks scale bytes outcome front comes = record {
   bytes = bytes;
   front = front;
   comes = comes;
-  whole = whole_as_front scale bytes checks.file checks.left outcome front.front front.all comes;
+  whole = whole_as_front scale bytes checks.before.file checks.now.left outcome front.front
+      front.all comes;
 }
 
 -- ---- a plan

@@ -39,13 +39,13 @@ told_as scale bytes one other file told whole comes =
 pub read_as_told : (checks : InputTold) (scale : ℕ) (one other : ChecksOutcome)
     → ChecksWereRead checks scale one → ChecksAreTold checks scale other → one ≡ other
 read_as_told checks scale one other read told =
-    told_as scale told.bytes one other checks.file told.told read.whole told.comes
+    told_as scale told.bytes one other checks.before.file told.told read.whole told.comes
 
 -- its bytes come to one thing
 pub told_once : (checks : InputTold) (scale : ℕ) (one other : ChecksOutcome)
     → ChecksAreTold checks scale one → ChecksAreTold checks scale other → one ≡ other
 told_once checks scale one other told told' =
-    told_as scale told'.bytes one other checks.file told'.told
+    told_as scale told'.bytes one other checks.before.file told'.told
     (rw told.told told.comes) told'.comes
 
 -- ---- what must come
@@ -92,15 +92,15 @@ many_completes request bytes zones traces are =
 -- a run that is done, in each mode that reads its input
 done_in : (mode : Mode) (request : Request) (input : InputTold) (text : List ℕ)
     → IsAnswerIn mode request input text → ReadsInput mode
-    → IfSome input.file (λ bytes. IsStatusFor (outcome_for request bytes) Done)
+    → IfSome input.before.file (λ bytes. IsStatusFor (outcome_for request bytes) Done)
 done_in Offline request input text right reads =
-    weaker input.file _ _ (λ told is. rw is (done_completes request right.bytes
+    weaker input.before.file _ _ (λ told is. rw is (done_completes request right.bytes
     right.is_so.right.traces right.is_so.right.are)) right.all.whole
 done_in Online request input text right reads =
-    weaker input.file _ _ (λ told is. rw is (done_completes request right.bytes
+    weaker input.before.file _ _ (λ told is. rw is (done_completes request right.bytes
     right.is_so.traces right.is_so.are)) right.all.whole
 done_in (WatchMode file) request input text right reads =
-    weaker input.file _ _ (λ told is. rw is (done_completes request right.bytes
+    weaker input.before.file _ _ (λ told is. rw is (done_completes request right.bytes
     right.is_so.traces right.is_so.are)) right.all.whole
 done_in Show request input text right reads = absurd reads
 done_in (Generate count) request input text right reads = absurd reads
@@ -108,29 +108,29 @@ done_in (Generate count) request input text right reads = absurd reads
 module _ (request : Request) (input : InputTold) (output : OutputTold) where
   -- what must come of a request whose input is read
   answered_read : (answer : Answer) → EndsOver request input output answer
-      → ReadsInput request.job.mode → ¬ Rises input.faults_before input.faults_now
-      → ¬ Rises output.faults_before output.faults_now
-      → IfSome input.file (λ bytes.
+      → ReadsInput request.job.mode → ¬ Rises input.before.faults input.now.faults
+      → ¬ Rises output.before.faults output.now.faults
+      → IfSome input.before.file (λ bytes.
       IsStatusFor (outcome_for request bytes) (answered_status answer))
   answered_read (Ok value) done reads read written =
       done_in request.job.mode request input done.text done.right reads
   answered_read (Err (FaultTrace fault)) found reads read written =
-      weaker input.file _ _ (λ bytes e. rw e (inl refl)) found.1.cause.whole
+      weaker input.before.file _ _ (λ bytes e. rw e (inl refl)) found.1.cause.whole
   answered_read (Err FaultTooLong) found reads read written =
-      weaker input.file _ _ (λ bytes e. rw e (inl refl)) found.cause.whole
+      weaker input.before.file _ _ (λ bytes e. rw e (inl refl)) found.cause.whole
   answered_read (Err (FaultTooMany zones)) many reads read written =
-      weaker input.file _ _ (λ told is. rw is (many_completes request many.cause.bytes zones
+      weaker input.before.file _ _ (λ told is. rw is (many_completes request many.cause.bytes zones
       many.cause.is_so.right.traces many.cause.is_so.right.are)) many.cause.all.whole
   answered_read (Err FaultRead) found reads read written =
       absurd (read (one_more _ _ found.unread.cause))
   answered_read (Err FaultWrite) found reads read written =
       absurd (written (one_more _ _ found.cause))
   answered_read (Err FaultMemory) found reads read written =
-      free input.file _ (λ bytes. memory_is_free (outcome_for request bytes))
+      free input.before.file _ (λ bytes. memory_is_free (outcome_for request bytes))
 
   -- what must come of one whose input isn't
   answered_unread : (answer : Answer) → EndsOver request input output answer
-      → ¬ ReadsInput request.job.mode → ¬ Rises output.faults_before output.faults_now
+      → ¬ ReadsInput request.job.mode → ¬ Rises output.before.faults output.now.faults
       → IsUnlessMemory Done (answered_status answer)
   answered_unread (Ok value) done unread written = inl refl
   answered_unread (Err (FaultTrace fault)) found unread written =
@@ -156,7 +156,7 @@ module _ (Gives : Job → Type 0) (once : GiveOne Gives) (checks input : InputTo
 
   -- a file that couldn't be read is that of the job
   failed : (job other : Job) (file : List ℕ) → Gives job → Gives other
-      → job.mode ≡ WatchMode file → checks.faults_now ≡ counted checks.faults_before
+      → job.mode ≡ WatchMode file → checks.now.faults ≡ counted checks.before.faults
       → ChecksFailed other.mode checks
   failed job other file gives gives' watches cause =
       subst (λ (j : Job). ChecksFailed j.mode checks) (once job other gives gives')
@@ -165,9 +165,9 @@ module _ (Gives : Job → Type 0) (once : GiveOne Gives) (checks input : InputTo
   read_as : (request : Request) (status : Status) → AsksFor Gives (ChecksAreTold checks) request
       → Ended Gives checks input output status → ReadsInput request.job.mode
       → ¬ ChecksFailed request.job.mode checks
-      → ¬ Rises input.faults_before input.faults_now
-      → ¬ Rises output.faults_before output.faults_now
-      → IfSome input.file (λ bytes. IsStatusFor (outcome_for request bytes) status)
+      → ¬ Rises input.before.faults input.now.faults
+      → ¬ Rises output.before.faults output.now.faults
+      → IfSome input.before.file (λ bytes. IsStatusFor (outcome_for request bytes) status)
   read_as request status asks (by_usage is ends) reads known read written =
       absurd (ends request.job asks.gives)
   read_as request status asks (by_refusal ends) reads known read written =
@@ -177,7 +177,7 @@ module _ (Gives : Job → Type 0) (once : GiveOne Gives) (checks input : InputTo
       absurd (known (failed ends.job request.job ends.file ends.gives asks.gives ends.watches
       ends.unread.cause))
   read_as request status asks (by_memory is ends) reads known read written =
-      rw is (free input.file _ (λ bytes. memory_is_free (outcome_for request bytes)))
+      rw is (free input.before.file _ (λ bytes. memory_is_free (outcome_for request bytes)))
   read_as request status asks (by_answer answer is some) reads known read written =
       rw is (answered_read request input output answer
       (the_request Gives once (ChecksWereRead checks) (ChecksAreTold checks) same request
@@ -185,7 +185,7 @@ module _ (Gives : Job → Type 0) (once : GiveOne Gives) (checks input : InputTo
 
   unread_as : (request : Request) (status : Status)
       → AsksFor Gives (ChecksAreTold checks) request → Ended Gives checks input output status
-      → ¬ ReadsInput request.job.mode → ¬ Rises output.faults_before output.faults_now
+      → ¬ ReadsInput request.job.mode → ¬ Rises output.before.faults output.now.faults
       → IsUnlessMemory Done status
   unread_as request status asks (by_usage is ends) unread written =
       absurd (ends request.job asks.gives)

@@ -7,18 +7,17 @@ use Rattle.tre_tell.specs.Sought.{Sought}
 use Rattle.tre_watch.specs.Outcome.{Outcome, SpeltPattern, planned, IsOutcome}
 use Rattle.tre_watch.specs.declared.reader.TheConstants.{FILE_MAX}
 
--- The file was read to its end, or to one byte past what it may have, and comes to this at the
--- scale. So do all its bytes, where they are told.
+-- What was read of the file comes to this at the scale. So do all its bytes, where they are told.
 pub record ChecksWereRead (checks : InputTold) (scale : ℕ) (outcome : Outcome) : Type 0 where
   pub bytes : List ℕ
   pub front : IsFront (FILE_MAX + 1) checks bytes
   pub comes : IsOutcome scale bytes outcome
-  pub whole : IfSome checks.file (λ all. IsOutcome scale all outcome)
+  pub whole : IfSome checks.before.file (λ all. IsOutcome scale all outcome)
 
 -- The file is told, and comes to this at the scale.
 pub record ChecksAreTold (checks : InputTold) (scale : ℕ) (outcome : Outcome) : Type 0 where
   pub bytes : List ℕ
-  pub told : checks.file ≡ Some bytes
+  pub told : checks.before.file ≡ Some bytes
   pub comes : IsOutcome scale bytes outcome
 
 -- the patterns of a plan; the label of each is its name and a space

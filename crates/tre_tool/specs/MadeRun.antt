@@ -20,14 +20,14 @@ pub record SummaryWritten (count : ℕ) (output : OutputTold) : Type 0 where
   pub text : List ℕ
   pub right : IsSummary fixed_tree count text
   pub writes : AllWritesGood output
-  pub written : Appends output.written_before output.written_now text
+  pub written : Appends output.before.written output.now.written text
 
 -- A first part of it was, and one failure to write was counted.
 pub record SummaryIsCut (count : ℕ) (output : OutputTold) : Type 0 where
   pub text : List ℕ
   pub right : IsSummary fixed_tree count text
-  pub cause : output.faults_now ≡ counted output.faults_before
-  pub written : AppendsPart output.written_before output.written_now text
+  pub cause : output.now.faults ≡ counted output.before.faults
+  pub written : AppendsPart output.before.written output.now.written text
 
 -- The end of a made run of so many segments, status by status. No other status comes.
 abbrev pub EndsMadeRun : ℕ → OutputTold → Status → Type 0

@@ -37,13 +37,11 @@ Spell scale (text ∷ texts) (pattern ∷ patterns) =
     × Spell scale texts patterns
 Spell scale texts patterns = ⊥
 
--- the texts of patterns: of the one that is looked for, and of the one that is taken away, if there
--- is one
+-- the texts of the pattern that is looked for, and of the one that is taken away, if there is one
 abbrev pub texts_with : List ℕ → Option (List ℕ) → List (List ℕ)
 texts_with text taken = text ∷ option_to_list taken
 
--- The patterns of a job in this mode: those of its texts, or of the file of checks that a watch
--- names. A made run has one of its own, whatever the text is.
+-- The patterns of a job: those of its texts, or of the file of a watch. A made run has its own.
 abbrev pub ArePatterns : Mode → (ℕ → Outcome → Type 0) → Job → List Sought → Type 0
 ArePatterns (Generate count) Says job patterns = patterns ≡ alone fixed_tree fixed_vocabulary
 ArePatterns (Watch file) Says job patterns = SayPatterns Says job.scale patterns
@@ -55,8 +53,7 @@ text_read Show text = None
 text_read (Generate count) text = None
 text_read mode text = text
 
--- The parts of a text are these definitions, as the format has them: of columns, or of the signals
--- of a dump.
+-- The parts of a text are these definitions: of columns, or of the signals of a dump.
 abbrev pub AreDefinedIn : Format → List (List ℕ) → List Defined → List SignalDefined → Type 0
 AreDefinedIn Csv parts lets signals = Define parts lets × (signals ≡ [])
 AreDefinedIn Vcd parts lets signals = (lets ≡ []) × DefineSignals parts signals

@@ -1,17 +1,18 @@
 -- The promise of a run: how it ends, what each status means, and what was written. `Gives` is the
 -- job that the words give, and `checks` the source of the file of checks that a watch names.
-use Rattle.std.specs.Prelude.{◌≡◌, ◌⊎◌, ℕ, List, IfSome, false}
+use Rattle.std.specs.Prelude.{◌≡◌, ◌⊎◌, ℕ, List, IfSome, IsTrue, String, false, map, string_bytes}
 use Rattle.std.specs.Io.KnownBytes.{Appends}
 use Rattle.tre_answer.specs.Ends.{ReadsInput, StandsAtMemory, EndsDone, EndsAtInput, EndsTooMany, EndsReadFault, EndsWriteFault}
 use Rattle.tre_answer.specs.Recorded.{outcome_for}
 use Rattle.tre_answer.specs.Request.{Request}
 use Rattle.tre_feed.specs.Front.{IsUnreadable}
-use Rattle.tre_feed.specs.Input.{InputTold, AllReadsGood}
+use Rattle.tre_feed.specs.Input.{InputTold, AllReadsGood, TakesAtMost}
 use Rattle.tre_feed.specs.Comes.{Outcome, completes, refuses, exceeds}
 use Rattle.tre_feed.specs.Outcome.{IsInputKind}
 use Rattle.tre_io.specs.Faults.{counted, Rises}
 use Rattle.tre_io.specs.Written.{AppendsPart}
 use Rattle.tre_tell.specs.Outputs.{OutputTold, AllWritesGood, NothingWritten}
+use Rattle.tre_words.specs.Job.{GivesJob}
 use Rattle.tre_words.specs.declared.job.Job.{Job}
 use Rattle.tre_words.specs.declared.job.Mode.{Mode}
 use Rattle.tre_words.specs.declared.job.Mode.TheVariants.{Watch}
@@ -20,18 +21,24 @@ use Rattle.tre_tool.specs.Request.{AsksFor, Asks, IsRefused, GiveNone}
 use Rattle.tre_tool.specs.declared.status.Status.{Status}
 use Rattle.tre_tool.specs.declared.status.Status.TheVariants.{Done, Usage, Expression, Minus, Definitions, Watch as WatchStatus, Trace, InputTooLong, TooManyZones, ReadFault, WriteFault, Memory}
 
+-- the job that these words give
+abbrev pub Gives : {Z : Type 0} → List (String Z) → Job → Type 0
+Gives words = GivesJob (map string_bytes words)
+
+-- What was opened has such a name, and at most so many of its bytes were taken.
+abbrev pub IsFrontOf : (List ℕ → Type 0) → ℕ → InputTold → Type 0
+IsFrontOf IsName most input =
+    IsTrue input.now.opened → IfSome input.before.name IsName × TakesAtMost most input.before.file
+    input.now.left
+
 -- The modes of a run that reads a file of checks.
 abbrev pub ReadsChecks : Mode → Type 0
 ReadsChecks (Watch file) = Unit {0}
 ReadsChecks mode = ⊥
 
--- No job that is given reads one.
-abbrev pub ReadNoChecks : (Job → Type 0) → Type 0
-ReadNoChecks Gives = (job : Job) → Gives job → ReadsChecks job.mode → ⊥
-
 -- One failure to read the file of checks was counted, where one is read.
 abbrev pub ChecksFailed : Mode → InputTold → Type 0
-ChecksFailed (Watch file) checks = Rises checks.faults_before checks.faults_now
+ChecksFailed (Watch file) checks = Rises checks.before.faults checks.now.faults
 ChecksFailed mode checks = ⊥
 
 -- The statuses of words that give no job, and of those whose job is refused.
@@ -45,7 +52,7 @@ ComesFirst status = ⊥
 
 -- The input wasn't opened, no failure was counted, and nothing was written.
 pub record NothingDone (input : InputTold) (output : OutputTold) : Type 0 where
-  pub unopened : input.opened ≡ false
+  pub unopened : input.now.opened ≡ false
   pub reads : AllReadsGood input
   pub unwritten : NothingWritten output
 
@@ -63,8 +70,7 @@ pub record EndsUnread (Gives : Job → Type 0) (checks input : InputTold) (outpu
 abbrev pub AsksAs : (Job → Type 0) → InputTold → (Request → Type 0) → Type 0
 AsksAs Gives checks IsSo = Asks Gives (ChecksWereRead checks) IsSo
 
--- `Memory`: it may come at any time. No failure was counted, and either the input wasn't open yet,
--- or in the output stands what stands there in the mode that the words ask for.
+-- `Memory` may come at any time: before the input is open, or with what then stands in the output.
 pub record EndsMemory (Gives : Job → Type 0) (checks input : InputTold) (output : OutputTold)
     : Type 0 where
   pub checks_read : AllReadsGood checks
@@ -75,12 +81,11 @@ pub record EndsMemory (Gives : Job → Type 0) (checks input : InputTold) (outpu
 -- A line was told whole, or one failure to tell it was counted, and a first part of it was told.
 abbrev pub IsLineTold : OutputTold → List ℕ → Type 0
 IsLineTold output line =
-    (AllWritesGood output × Appends output.written_before output.written_now line)
-    ⊎ ((output.faults_now ≡ counted output.faults_before)
-    × AppendsPart output.written_before output.written_now line)
+    (AllWritesGood output × Appends output.before.written output.now.written line)
+    ⊎ ((output.now.faults ≡ counted output.before.faults)
+    × AppendsPart output.before.written output.now.written line)
 
--- The end of a run, status by status. Words that give no job, and a job that is refused, are told
--- before the input is looked at.
+-- The end of a run, status by status. What is refused is told before the input is looked at.
 abbrev pub EndsAs : (Job → Type 0) → InputTold → InputTold → OutputTold → Status → Type 0
 EndsAs Gives checks input output Done =
     AsksAs Gives checks (λ request. EndsDone request input output)
@@ -115,9 +120,8 @@ IsStatusFor completes status = IsAnswered status ⊎ (status ≡ Memory)
 IsStatusFor (refuses fault) status = IsUnlessMemory (Trace fault) status
 IsStatusFor exceeds status = IsUnlessMemory InputTooLong status
 
--- What the words ask for decides the status, where no fault was counted: that they give no job is
--- told, and so is a refusal, and the bytes of the input come to one outcome, where it is read. Of a
--- watch they ask what the file of checks says, where its bytes are told.
+-- What the words ask for decides the status, where no fault was counted: no job, a refusal, or what
+-- the input comes to, where its bytes are told and those of the file of checks, if there is one.
 pub record IsComplete (Gives : Job → Type 0) (checks input : InputTold) (output : OutputTold)
     (status : Status) : Type 0 where
   pub no_job : GiveNone Gives → IsUnlessMemory Usage status
@@ -125,9 +129,9 @@ pub record IsComplete (Gives : Job → Type 0) (checks input : InputTold) (outpu
       ¬ ChecksFailed told.job.mode checks → IsUnlessMemory refusal status
   pub read : (request : Request) → AsksFor Gives (ChecksAreTold checks) request →
       ReadsInput request.job.mode → ¬ ChecksFailed request.job.mode checks →
-      ¬ Rises input.faults_before input.faults_now →
-      ¬ Rises output.faults_before output.faults_now →
-      IfSome input.file (λ bytes. IsStatusFor (outcome_for request bytes) status)
+      ¬ Rises input.before.faults input.now.faults →
+      ¬ Rises output.before.faults output.now.faults →
+      IfSome input.before.file (λ bytes. IsStatusFor (outcome_for request bytes) status)
   pub unread : (request : Request) → AsksFor Gives (ChecksAreTold checks) request →
-      ¬ ReadsInput request.job.mode → ¬ Rises output.faults_before output.faults_now →
+      ¬ ReadsInput request.job.mode → ¬ Rises output.before.faults output.now.faults →
       IsUnlessMemory Done status

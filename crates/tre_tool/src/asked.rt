@@ -204,20 +204,19 @@ fn asked_of_made_run(alloc: Global) -> Result<Question, Status>
 /// What a job asks for: the first of its texts that is refused ends the run, and definitions are
 /// the last. A watch reads its file of checks from `checks`; no other job looks at that.
 pub fn asked_by<P: Source>(alloc: Global, job: &Job, checks: &mut P) -> Result<Question, Status>
-    requires closed { P.opened checks.old ≡ false }
+    requires closed { (P.told checks.old).opened ≡ false }
     requires job { IsJob job.now }
     ensures asks { IfOk result (λ question. IsAskedBy job.now
-        (input_told P.file_name P.file P.sound P.opened P.left P.found P.faults checks.old
-        checks.new) question.asked question.definitions.columns.items
+        (input_told (P.told checks.old) (P.told checks.new)) question.asked
+        question.definitions.columns.items
         question.definitions.signals.items) }
     ensures stops { IfErr result (StopsAsking job.now
-        (input_told P.file_name P.file P.sound P.opened P.left P.found P.faults checks.old
-        checks.new)) }
+        (input_told (P.told checks.old) (P.told checks.new))) }
     ensures untouched { (ReadsChecks job.now.mode → ⊥) → checks.new ≡ checks.old }
-    ensures bounded { IsTrue (P.opened checks.new) →
-        TakesAtMost (FILE_MAX + 1) (P.file checks.old) (P.left checks.new) }
-    ensures by_name { IsTrue (P.opened checks.new) → (file : List ℕ) →
-        job.now.mode ≡ Watch file → IfSome (P.file_name checks.old) (λ told. told ≡ file) }
+    ensures bounded { IsTrue (P.told checks.new).opened →
+        TakesAtMost (FILE_MAX + 1) (P.told checks.old).file (P.told checks.new).left }
+    ensures by_name { IsTrue (P.told checks.new).opened → (file : List ℕ) →
+        job.now.mode ≡ Watch file → IfSome (P.told checks.old).name (λ told. told ≡ file) }
 {
     match &job.mode {
         Mode::Generate { .. } => {

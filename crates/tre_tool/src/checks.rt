@@ -63,24 +63,21 @@ pub fn asked_of_checks<P: Source>(
     scale: u8,
     checks: &mut P,
 ) -> Result<Asked, Status>
-    requires closed { P.opened checks.old ≡ false }
+    requires closed { (P.told checks.old).opened ≡ false }
     requires scale { scale ≤ SCALE_MAX }
     ensures patterns { IfOk result (λ asked. SayPatterns (ChecksWereRead
-        (input_told P.file_name P.file P.sound P.opened P.left P.found P.faults checks.old
-        checks.new)) scale (sought_in asked)) }
+        (input_told (P.told checks.old) (P.told checks.new))) scale (sought_in asked)) }
     ensures labels { IfOk result (λ asked.
         length asked.labels.items ≡ length asked.patterns.items) }
     ensures some { IfOk result (λ asked. 0 < length asked.patterns.items) }
     ensures good { OnOk result (AllReadsGood
-        (input_told P.file_name P.file P.sound P.opened P.left P.found P.faults checks.old
-        checks.new)) }
+        (input_told (P.told checks.old) (P.told checks.new))) }
     ensures stops { IfErr result (StopsChecks file.now scale
-        (input_told P.file_name P.file P.sound P.opened P.left P.found P.faults checks.old
-        checks.new)) }
-    ensures bounded { IsTrue (P.opened checks.new) →
-        TakesAtMost (FILE_MAX + 1) (P.file checks.old) (P.left checks.new) }
-    ensures by_name { IsTrue (P.opened checks.new) →
-        IfSome (P.file_name checks.old) (λ told. told ≡ file.now) }
+        (input_told (P.told checks.old) (P.told checks.new))) }
+    ensures bounded { IsTrue (P.told checks.new).opened →
+        TakesAtMost (FILE_MAX + 1) (P.told checks.old).file (P.told checks.new).left }
+    ensures by_name { IsTrue (P.told checks.new).opened →
+        IfSome (P.told checks.old).name (λ told. told ≡ file.now) }
 {
     let bytes = read_front(alloc, file, FILE_MAX + 1, checks)?;
     let plan = read_plan(alloc, &bytes, scale)?;

@@ -63,11 +63,11 @@ fn fault_number(fault: &ParseFault) -> Option<u64>
 }
 
 fn put_pieces<E: Sink>(err: &mut E, pieces: &[&str]) -> Result<(), Failed>
-    ensures all { OnOk result (Appends (E.written err.old) (E.written err.new)
+    ensures all { OnOk result (Appends (E.told err.old).written (E.told err.new).written
         (flat_map (λ piece. piece.now) pieces.now)) }
-    ensures part { OnErr result (AppendsPart (E.written err.old) (E.written err.new)
+    ensures part { OnErr result (AppendsPart (E.told err.old).written (E.told err.new).written
         (flat_map (λ piece. piece.now) pieces.now)) }
-    ensures cause { HasCause (E.faults err.old) (E.faults err.new) result }
+    ensures cause { HasCause (E.told err.old).faults (E.told err.new).faults result }
 {
     for piece in pieces {
         put_all(err, piece.as_bytes())?;
@@ -77,11 +77,11 @@ fn put_pieces<E: Sink>(err: &mut E, pieces: &[&str]) -> Result<(), Failed>
 
 // Tells of a refused pattern, behind these words.
 fn tell_fault<E: Sink>(front: &'static str, fault: &ParseFault, err: &mut E) -> Result<(), Failed>
-    ensures line { OnOk result (Appends (E.written err.old) (E.written err.new)
+    ensures line { OnOk result (Appends (E.told err.old).written (E.told err.new).written
         (front.now ++ refusal_words fault.now)) }
-    ensures part { OnErr result (AppendsPart (E.written err.old) (E.written err.new)
+    ensures part { OnErr result (AppendsPart (E.told err.old).written (E.told err.new).written
         (front.now ++ refusal_words fault.now)) }
-    ensures cause { HasCause (E.faults err.old) (E.faults err.new) result }
+    ensures cause { HasCause (E.told err.old).faults (E.told err.new).faults result }
 {
     let words = fault_words(fault);
     match fault_number(fault) {
@@ -96,11 +96,11 @@ fn tell_fault<E: Sink>(front: &'static str, fault: &ParseFault, err: &mut E) -> 
 
 // Tells of refused definitions.
 fn tell_definitions<E: Sink>(fault: &LetFault, err: &mut E) -> Result<(), Failed>
-    ensures line { OnOk result (Appends (E.written err.old) (E.written err.new)
+    ensures line { OnOk result (Appends (E.told err.old).written (E.told err.new).written
         (error_line (Status.Definitions fault.now))) }
-    ensures part { OnErr result (AppendsPart (E.written err.old) (E.written err.new)
+    ensures part { OnErr result (AppendsPart (E.told err.old).written (E.told err.new).written
         (error_line (Status.Definitions fault.now))) }
-    ensures cause { HasCause (E.faults err.old) (E.faults err.new) result }
+    ensures cause { HasCause (E.told err.old).faults (E.told err.new).faults result }
 {
     match fault {
         LetFault::BadLet { at } => tell_number(err, "montre: definitions: BadLet at ", *at),
@@ -111,11 +111,11 @@ fn tell_definitions<E: Sink>(fault: &LetFault, err: &mut E) -> Result<(), Failed
 
 // Tells a line that ends with a number.
 fn tell_number<E: Sink>(err: &mut E, front: &'static str, number: u64) -> Result<(), Failed>
-    ensures line { OnOk result (Appends (E.written err.old) (E.written err.new)
+    ensures line { OnOk result (Appends (E.told err.old).written (E.told err.new).written
         (front.now ++ (decimal number ++ codes "\n"))) }
-    ensures part { OnErr result (AppendsPart (E.written err.old) (E.written err.new)
+    ensures part { OnErr result (AppendsPart (E.told err.old).written (E.told err.new).written
         (front.now ++ (decimal number ++ codes "\n"))) }
-    ensures cause { HasCause (E.faults err.old) (E.faults err.new) result }
+    ensures cause { HasCause (E.told err.old).faults (E.told err.new).faults result }
 {
     let mut buffer = Buffer::new();
     let digits = buffer.format(number);
@@ -124,11 +124,11 @@ fn tell_number<E: Sink>(err: &mut E, front: &'static str, number: u64) -> Result
 
 // Tells of a refused check, behind the number of its line.
 fn tell_check<E: Sink>(line: u64, fault: &ParseFault, err: &mut E) -> Result<(), Failed>
-    ensures line { OnOk result (Appends (E.written err.old) (E.written err.new)
+    ensures line { OnOk result (Appends (E.told err.old).written (E.told err.new).written
         (error_line (Status.Watch (WatchFault.Pattern line fault.now)))) }
-    ensures part { OnErr result (AppendsPart (E.written err.old) (E.written err.new)
+    ensures part { OnErr result (AppendsPart (E.told err.old).written (E.told err.new).written
         (error_line (Status.Watch (WatchFault.Pattern line fault.now)))) }
-    ensures cause { HasCause (E.faults err.old) (E.faults err.new) result }
+    ensures cause { HasCause (E.told err.old).faults (E.told err.new).faults result }
 {
     let words = fault_words(fault);
     let mut line_buffer = Buffer::new();
@@ -146,11 +146,11 @@ fn tell_check<E: Sink>(line: u64, fault: &ParseFault, err: &mut E) -> Result<(),
 
 // Tells of a refused file of checks.
 fn tell_watch<E: Sink>(fault: &WatchFault, err: &mut E) -> Result<(), Failed>
-    ensures line { OnOk result (Appends (E.written err.old) (E.written err.new)
+    ensures line { OnOk result (Appends (E.told err.old).written (E.told err.new).written
         (error_line (Status.Watch fault.now))) }
-    ensures part { OnErr result (AppendsPart (E.written err.old) (E.written err.new)
+    ensures part { OnErr result (AppendsPart (E.told err.old).written (E.told err.new).written
         (error_line (Status.Watch fault.now))) }
-    ensures cause { HasCause (E.faults err.old) (E.faults err.new) result }
+    ensures cause { HasCause (E.told err.old).faults (E.told err.new).faults result }
 {
     match fault {
         WatchFault::TooLarge => put_pieces(err, &["montre: watch: TooLarge\n"]),
@@ -168,10 +168,10 @@ fn tell_watch<E: Sink>(fault: &WatchFault, err: &mut E) -> Result<(), Failed>
 /// At `Failed` a first part of the line was taken, which may be empty and isn't the whole.
 pub fn tell_status<E: Sink>(status: &Status, err: &mut E) -> Result<(), Failed>
     ensures line { OnOk result
-        (Appends (E.written err.old) (E.written err.new) (error_line status.now)) }
+        (Appends (E.told err.old).written (E.told err.new).written (error_line status.now)) }
     ensures part { OnErr result
-        (AppendsPart (E.written err.old) (E.written err.new) (error_line status.now)) }
-    ensures cause { HasCause (E.faults err.old) (E.faults err.new) result }
+        (AppendsPart (E.told err.old).written (E.told err.new).written (error_line status.now)) }
+    ensures cause { HasCause (E.told err.old).faults (E.told err.new).faults result }
 {
     match status {
         Status::Done => Ok(()),

@@ -1,16 +1,13 @@
-ghost use Rattle.std.specs.Prelude.{◌≡◌, ◌+◌, ℕ, IsTrue, IfSome, List, false, map, string_bytes};
-ghost use Rattle.std.specs.Io.KnownBytes.{Appends};
+ghost use Rattle.std.specs.Prelude.{◌≡◌, ◌+◌, ℕ, IsTrue, IfSome, List, false};
 ghost use Rattle.tre_answer.specs.Ends.{ReadsInput};
 ghost use Rattle.tre_feed.specs.Input.{TakesAtMost, input_told};
-ghost use Rattle.tre_io.specs.Faults.{Rises};
 ghost use Rattle.tre_tell.specs.Outputs.{output_told};
 ghost use Rattle.tre_tool.specs.Checks.{ChecksAreTold};
 ghost use Rattle.tre_tool.specs.Parts.{status_of};
 ghost use Rattle.tre_tool.specs.Request.{AsksForNothing};
-ghost use Rattle.tre_tool.specs.Run.{ReadNoChecks, ComesFirst, EndsAs, IsComplete, IsLineTold};
+ghost use Rattle.tre_tool.specs.Run.{Gives, ReadsChecks, ComesFirst, EndsAs, IsComplete, IsLineTold, IsFrontOf};
 ghost use Rattle.tre_tool.specs.Status.{error_line};
 ghost use Rattle.tre_watch.specs.declared.reader.TheConstants.{FILE_MAX};
-ghost use Rattle.tre_words.specs.Job.{GivesJob};
 ghost use Rattle.tre_words.specs.declared.job.Job.{Job};
 ghost use Rattle.tre_words.specs.declared.job.Mode.TheVariants.{Watch};
 
@@ -30,33 +27,27 @@ fn run_words<P: Source, S: Source, O: Sink>(
     input: &mut S,
     out: &mut O,
 ) -> Result<(), Status>
-    requires checks { P.opened checks.old ≡ false }
-    requires input { S.opened input.old ≡ false }
-    ensures ends { EndsAs (GivesJob (map string_bytes words.now))
-        (input_told P.file_name P.file P.sound P.opened P.left P.found P.faults checks.old
-        checks.new)
-        (input_told S.file_name S.file S.sound S.opened S.left S.found S.faults input.old input.new)
-        (output_told O.written O.faults out.old out.new)
-        (status_of result) }
-    ensures untouched { AsksForNothing (GivesJob (map string_bytes words.now)) (ChecksAreTold
-        (input_told P.file_name P.file P.sound P.opened P.left P.found P.faults checks.old
-        checks.new)) → (input.new ≡ input.old) × (out.new ≡ out.old) }
+    requires checks { (P.told checks.old).opened ≡ false }
+    requires input { (S.told input.old).opened ≡ false }
+    ensures ends { EndsAs (Gives words.now) (input_told (P.told checks.old) (P.told checks.new))
+        (input_told (S.told input.old) (S.told input.new))
+        (output_told (O.told out.old) (O.told out.new)) (status_of result) }
+    ensures untouched { AsksForNothing (Gives words.now)
+        (ChecksAreTold (input_told (P.told checks.old) (P.told checks.new))) →
+        (input.new ≡ input.old) × (out.new ≡ out.old) }
     ensures nothing_first { ComesFirst (status_of result) →
         (input.new ≡ input.old) × (out.new ≡ out.old) }
-    ensures source_untouched { (job : Job) → GivesJob (map string_bytes words.now) job →
-        (ReadsInput job.mode → ⊥) → input.new ≡ input.old }
-    ensures checks_untouched { ReadNoChecks (GivesJob (map string_bytes words.now)) →
+    ensures source_untouched { (job : Job) → Gives words.now job → ¬ ReadsInput job.mode →
+        input.new ≡ input.old }
+    ensures checks_untouched { ((job : Job) → Gives words.now job → ¬ ReadsChecks job.mode) →
         checks.new ≡ checks.old }
-    ensures reads { (job : Job) → GivesJob (map string_bytes words.now) job →
-        IsTrue (S.opened input.new) →
-        IfSome (S.file_name input.old) (λ told. told ≡ job.input)
-        × TakesAtMost (job.max_bytes + 1) (S.file input.old) (S.left input.new) }
-    ensures checks_by_name { (job : Job) (file : List ℕ) →
-        GivesJob (map string_bytes words.now) job → job.mode ≡ Watch file →
-        IsTrue (P.opened checks.new) →
-        IfSome (P.file_name checks.old) (λ told. told ≡ file) }
-    ensures checks_at_most { IsTrue (P.opened checks.new) →
-        TakesAtMost (FILE_MAX + 1) (P.file checks.old) (P.left checks.new) }
+    ensures reads { (job : Job) → Gives words.now job → IsFrontOf (λ name. name ≡ job.input)
+        (job.max_bytes + 1) (input_told (S.told input.old) (S.told input.new)) }
+    ensures checks_by_name { (job : Job) (file : List ℕ) → Gives words.now job →
+        job.mode ≡ Watch file → IsTrue (P.told checks.new).opened →
+        IfSome (P.told checks.old).name (λ told. told ≡ file) }
+    ensures checks_at_most { IsTrue (P.told checks.new).opened →
+        TakesAtMost (FILE_MAX + 1) (P.told checks.old).file (P.told checks.new).left }
 {
     let job = read_words(alloc, words)?;
     let question = asked_by(alloc, &job, checks)?;
@@ -95,61 +86,45 @@ pub fn run_all<P: Source, S: Source, O: Sink, E: Sink>(
     out: &mut O,
     err: &mut E,
 ) -> Status
-    requires checks { P.opened checks.old ≡ false }
-    requires input { S.opened input.old ≡ false }
+    requires checks { (P.told checks.old).opened ≡ false }
+    requires input { (S.told input.old).opened ≡ false }
 
     // What the status means, what was written, and why the run ended so.
-    ensures ends { EndsAs (GivesJob (map string_bytes words.now))
-        (input_told P.file_name P.file P.sound P.opened P.left P.found P.faults checks.old
-        checks.new)
-        (input_told S.file_name S.file S.sound S.opened S.left S.found S.faults input.old input.new)
-        (output_told O.written O.faults out.old out.new) result }
+    ensures ends { EndsAs (Gives words.now) (input_told (P.told checks.old) (P.told checks.new))
+        (input_told (S.told input.old) (S.told input.new))
+        (output_told (O.told out.old) (O.told out.new)) result }
 
-    // Where no fault was counted, what the words and the file of checks ask for and the input comes
-    // to decides the status.
-    ensures complete { IsComplete (GivesJob (map string_bytes words.now))
-        (input_told P.file_name P.file P.sound P.opened P.left P.found P.faults checks.old
-        checks.new)
-        (input_told S.file_name S.file S.sound S.opened S.left S.found S.faults input.old input.new)
-        (output_told O.written O.faults out.old out.new) result }
+    // Where no fault was counted, what the words ask for and the input comes to decides it.
+    ensures complete { IsComplete (Gives words.now)
+        (input_told (P.told checks.old) (P.told checks.new))
+        (input_told (S.told input.old) (S.told input.new))
+        (output_told (O.told out.old) (O.told out.new)) result }
 
     // Words that ask for nothing, also by their file of checks, leave the input and the output as
     // they were. So does every run that says that they do.
-    ensures untouched { AsksForNothing (GivesJob (map string_bytes words.now)) (ChecksAreTold
-        (input_told P.file_name P.file P.sound P.opened P.left P.found P.faults checks.old
-        checks.new)) → (input.new ≡ input.old) × (out.new ≡ out.old) }
-
+    ensures untouched { AsksForNothing (Gives words.now)
+        (ChecksAreTold (input_told (P.told checks.old) (P.told checks.new))) →
+        (input.new ≡ input.old) × (out.new ≡ out.old) }
     ensures nothing_first { ComesFirst result → (input.new ≡ input.old) × (out.new ≡ out.old) }
 
-    // A run that shows the pattern's text, or makes its trace, reads no input.
-    ensures source_untouched { (job : Job) → GivesJob (map string_bytes words.now) job →
-        (ReadsInput job.mode → ⊥) → input.new ≡ input.old }
-
-    // Only a watch reads a file of checks.
-    ensures checks_untouched { ReadNoChecks (GivesJob (map string_bytes words.now)) →
+    // A run that shows the pattern's text, or makes its trace, reads no input, and only a watch
+    // reads a file of checks.
+    ensures source_untouched { (job : Job) → Gives words.now job → ¬ ReadsInput job.mode →
+        input.new ≡ input.old }
+    ensures checks_untouched { ((job : Job) → Gives words.now job → ¬ ReadsChecks job.mode) →
         checks.new ≡ checks.old }
 
-    // Standard error is told the status. A failure to tell it is one, counted once, and leaves a
-    // first part of the line.
-    ensures error_line { ¬ Rises (E.faults err.old) (E.faults err.new) →
-        Appends (E.written err.old) (E.written err.new) (error_line result) }
-    ensures error_part { IsLineTold (output_told E.written E.faults err.old err.new)
+    // Standard error is told the status.
+    ensures error { IsLineTold (output_told (E.told err.old) (E.told err.new))
         (error_line result) }
 
     // An input that was opened is the one that the words name, and it is read to its end, or to one
     // byte past the limit. So is the file of checks.
-    ensures reads_at_most { (job : Job) → GivesJob (map string_bytes words.now) job →
-        IsTrue (S.opened input.new) →
-        TakesAtMost (job.max_bytes + 1) (S.file input.old) (S.left input.new) }
-    ensures by_name { (job : Job) → GivesJob (map string_bytes words.now) job →
-        IsTrue (S.opened input.new) →
-        IfSome (S.file_name input.old) (λ told. told ≡ job.input) }
-    ensures checks_at_most { IsTrue (P.opened checks.new) →
-        TakesAtMost (FILE_MAX + 1) (P.file checks.old) (P.left checks.new) }
-    ensures checks_by_name { (job : Job) (file : List ℕ) →
-        GivesJob (map string_bytes words.now) job → job.mode ≡ Watch file →
-        IsTrue (P.opened checks.new) →
-        IfSome (P.file_name checks.old) (λ told. told ≡ file) }
+    ensures input { (job : Job) → Gives words.now job → IsFrontOf (λ name. name ≡ job.input)
+        (job.max_bytes + 1) (input_told (S.told input.old) (S.told input.new)) }
+    ensures file { IsFrontOf (λ name. (job : Job) (file : List ℕ) → Gives words.now job →
+        job.mode ≡ Watch file → name ≡ file) (FILE_MAX + 1)
+        (input_told (P.told checks.old) (P.told checks.new)) }
 {
     let status = ending(run_words(alloc, words, checks, input, out));
     let _ = tell_status(&status, err);

@@ -8,12 +8,12 @@ abbrev pub invariant-loop-buffer : goal.invariant-loop-buffer
 invariant-loop-buffer g l =
     let source = g.S.Source in
     record {
-      front : Consumes (source.file l.fn.input) (source.left l.input) l.bytes.items;
+      front : Consumes (source.told l.fn.input).file (source.told l.input).left l.bytes.items;
       few : length l.bytes.items ≤ l.most;
       room : length l.buffer.items ≡ PIECE;
-      opened : source.opened l.input ≡ true;
-      sound : source.sound l.input ≡ source.sound l.fn.input;
-      no_fault : source.faults l.input ≡ source.faults l.fn.input;
+      opened : (source.told l.input).opened ≡ true;
+      sound : (source.told l.input).sound ≡ (source.told l.fn.input).sound;
+      no_fault : (source.told l.input).faults ≡ (source.told l.fn.input).faults;
     }
 
 abbrev pub decreases-loop-buffer : goal.decreases-loop-buffer

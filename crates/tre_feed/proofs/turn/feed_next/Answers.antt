@@ -11,7 +11,8 @@ use Rattle.tre_feed.proofs.turn.feed_next.Goals as goal
 
 pub feed_piece-requires-clause-fits : goal.feed_piece-requires-clause-fits
 feed_piece-requires-clause-fits g c = room_each g.R.TraceReader.fed_of c.args.each.now
-    c.args.taken.now c.args.limit FED_MAX c.requires.readers.few c.if-taken-limit.false c.requires.fits
+    c.args.taken.now c.args.limit FED_MAX c.requires.readers.few c.if-taken-limit.false
+    c.requires.fits
 
 pub returns-then-taken-limit-clause-read : goal.returns-then-taken-limit-clause-read
 returns-then-taken-limit-clause-read g c =
@@ -42,10 +43,14 @@ returns-in_err-count-clause-read g c =
     let some : length piece_room ≤ c.args.limit - c.args.taken.now + 1
     = omega (arith, length-take {A = ℕ} c.min-room.result c.args.buffer.now, c.min-room.ensures) in
     let fits : length piece_room ≤ PIECE
-    = omega (arith, length-take {A = ℕ} c.min-room.result c.args.buffer.now, c.requires.buffer.short) in
+    = omega (
+      arith,
+      length-take {A = ℕ} c.min-room.result c.args.buffer.now,
+      c.requires.buffer.short,
+    ) in
     let p = err_from_is_err_and c.from_residual.result c.from_residual.ensures.1 in
     λ file bytes so_far. rw (p.1, p.2) (HasRead-stops so_far recording
-    (g.S.Source.left c.feed_piece.new.source) (g.S.Source.found c.feed_piece.new.source)
+    (g.S.Source.told c.feed_piece.new.source).left (g.S.Source.told c.feed_piece.new.source).found
     c.feed_piece.ensures.finds inside (length piece_room) some fits old
     (AllWait reader.names c.feed_piece.new.each) c.in_err-count.field-0.0
     (c.in_err-count.ensures.feeds bytes (IsFed-all so_far inside)))
@@ -60,10 +65,14 @@ returns-in_err-count-clause-ends g c =
     let some : length piece_room ≤ c.args.limit - c.args.taken.now + 1
     = omega (arith, length-take {A = ℕ} c.min-room.result c.args.buffer.now, c.min-room.ensures) in
     let fits : length piece_room ≤ PIECE
-    = omega (arith, length-take {A = ℕ} c.min-room.result c.args.buffer.now, c.requires.buffer.short) in
+    = omega (
+      arith,
+      length-take {A = ℕ} c.min-room.result c.args.buffer.now,
+      c.requires.buffer.short,
+    ) in
     let p = err_from_is_err_and c.from_residual.result c.from_residual.ensures.1 in
     λ file bytes so_far. rw (p.1, p.2) (StopsTurn-piece so_far recording
-    (g.S.Source.left c.feed_piece.new.source) (g.S.Source.found c.feed_piece.new.source)
+    (g.S.Source.told c.feed_piece.new.source).left (g.S.Source.told c.feed_piece.new.source).found
     c.feed_piece.ensures.finds inside (length piece_room) some fits old
     (AllWait reader.names c.feed_piece.new.each) c.in_err-count.field-0.0
     (grows_by reader.terms reader.recording g.met.R.TraceReader.grows c.args.each.now)
@@ -81,8 +90,9 @@ returns-in_err-finish_all-clause-read g c =
     c.from_residual-in_err-finish_all.ensures.1 in
     λ file bytes so_far.
     let end = FindsEnd-read recording (recording_by reader.recording reader.terms fed_now) said
-    (g.S.Source.left c.feed_piece.new.source) (g.S.Source.found c.feed_piece.new.source)
-    c.feed_piece.new.buffer c.in_ok-count.count (Err c.in_err-finish_all.field-0.0) so_far inside c.if-count-eq0.true
+    (g.S.Source.told c.feed_piece.new.source).left (g.S.Source.told c.feed_piece.new.source).found
+    c.feed_piece.new.buffer c.in_ok-count.count (Err c.in_err-finish_all.field-0.0) so_far inside
+    c.if-count-eq0.true
     c.in_ok-count.ensures.read c.feed_piece.ensures.finds
     (c.in_ok-count.ensures.feeds bytes (IsFed-all so_far inside))
     (c.in_err-finish_all.ensures.takes bytes) in
@@ -102,8 +112,9 @@ returns-in_err-finish_all-clause-ends g c =
     c.from_residual-in_err-finish_all.ensures.1 in
     λ file bytes so_far.
     let end = FindsEnd-read recording (recording_by reader.recording reader.terms fed_now) said
-    (g.S.Source.left c.feed_piece.new.source) (g.S.Source.found c.feed_piece.new.source)
-    c.feed_piece.new.buffer c.in_ok-count.count (Err c.in_err-finish_all.field-0.0) so_far inside c.if-count-eq0.true
+    (g.S.Source.told c.feed_piece.new.source).left (g.S.Source.told c.feed_piece.new.source).found
+    c.feed_piece.new.buffer c.in_ok-count.count (Err c.in_err-finish_all.field-0.0) so_far inside
+    c.if-count-eq0.true
     c.in_ok-count.ensures.read c.feed_piece.ensures.finds
     (c.in_ok-count.ensures.feeds bytes (IsFed-all so_far inside))
     (c.in_err-finish_all.ensures.takes bytes) in
@@ -121,7 +132,7 @@ returns-then-count-eq0-clause-read g c =
     let inside = c.if-taken-limit.false in
     λ file bytes so_far.
     let end = FindsEnd-read recording (recording_by reader.recording reader.terms fed_now) said
-    (g.S.Source.left c.feed_piece.new.source) (g.S.Source.found c.feed_piece.new.source)
+    (g.S.Source.told c.feed_piece.new.source).left (g.S.Source.told c.feed_piece.new.source).found
     c.feed_piece.new.buffer c.in_ok-count.count (Ok tt) so_far inside c.if-count-eq0.true
     c.in_ok-count.ensures.read c.feed_piece.ensures.finds
     (c.in_ok-count.ensures.feeds bytes (IsFed-all so_far inside))
@@ -140,7 +151,7 @@ returns-then-count-eq0-clause-ends g c =
     let inside = c.if-taken-limit.false in
     λ file bytes so_far.
     let end = FindsEnd-read recording (recording_by reader.recording reader.terms fed_now) said
-    (g.S.Source.left c.feed_piece.new.source) (g.S.Source.found c.feed_piece.new.source)
+    (g.S.Source.told c.feed_piece.new.source).left (g.S.Source.told c.feed_piece.new.source).found
     c.feed_piece.new.buffer c.in_ok-count.count (Ok tt) so_far inside c.if-count-eq0.true
     c.in_ok-count.ensures.read c.feed_piece.ensures.finds
     (c.in_ok-count.ensures.feeds bytes (IsFed-all so_far inside))
@@ -161,11 +172,15 @@ returns-clause-read g c =
     let some : length piece_room ≤ c.args.limit - c.args.taken.now + 1
     = omega (arith, length-take {A = ℕ} c.min-room.result c.args.buffer.now, c.min-room.ensures) in
     let fits : length piece_room ≤ PIECE
-    = omega (arith, length-take {A = ℕ} c.min-room.result c.args.buffer.now, c.requires.buffer.short) in
+    = omega (
+      arith,
+      length-take {A = ℕ} c.min-room.result c.args.buffer.now,
+      c.requires.buffer.short,
+    ) in
     let count = c.in_ok-count.count in
     let buffer = c.feed_piece.new.buffer in
     λ file bytes so_far. HasRead-fed so_far recording
-    (g.S.Source.left c.feed_piece.new.source) (g.S.Source.found c.feed_piece.new.source)
+    (g.S.Source.told c.feed_piece.new.source).left (g.S.Source.told c.feed_piece.new.source).found
     c.feed_piece.ensures.finds inside (length piece_room) some fits old
     (AllWait reader.names c.feed_piece.new.each) (take count buffer) true
     c.in_ok-count.ensures.read.taken
@@ -182,11 +197,15 @@ returns-clause-ends g c =
     let some : length piece_room ≤ c.args.limit - c.args.taken.now + 1
     = omega (arith, length-take {A = ℕ} c.min-room.result c.args.buffer.now, c.min-room.ensures) in
     let fits : length piece_room ≤ PIECE
-    = omega (arith, length-take {A = ℕ} c.min-room.result c.args.buffer.now, c.requires.buffer.short) in
+    = omega (
+      arith,
+      length-take {A = ℕ} c.min-room.result c.args.buffer.now,
+      c.requires.buffer.short,
+    ) in
     let count = c.in_ok-count.count in
     let buffer = c.feed_piece.new.buffer in
     λ file bytes so_far. GoesOn-fed so_far recording
-    (g.S.Source.left c.feed_piece.new.source) (g.S.Source.found c.feed_piece.new.source)
+    (g.S.Source.told c.feed_piece.new.source).left (g.S.Source.told c.feed_piece.new.source).found
     c.feed_piece.ensures.finds inside (length piece_room) some fits old
     (AllWait reader.names c.feed_piece.new.each)
     {were_fed' = AllWereFed reader.terms reader.represents

@@ -6,8 +6,9 @@ use Rattle.tre_io.proofs.put.put_all.Given as goal
 abbrev pub invariant-loop-done : goal.invariant-loop-done
 invariant-loop-done g l = record {
   within : l.done ≤ length l.bytes;
-  taken : Appends (g.K.Sink.written l.initial.sink) (g.K.Sink.written l.sink) (take l.done l.bytes);
-  steady : g.K.Sink.faults l.sink ≡ g.K.Sink.faults l.initial.sink;
+  taken : Appends (g.K.Sink.told l.initial.sink).written (g.K.Sink.told l.sink).written
+      (take l.done l.bytes);
+  steady : (g.K.Sink.told l.sink).faults ≡ (g.K.Sink.told l.initial.sink).faults;
 }
 
 abbrev pub decreases-loop-done : goal.decreases-loop-done

@@ -10,8 +10,7 @@ use Rattle.tre_tell.proofs.telling.tell_blocks.Given as goal
 abbrev pub invariant-loop-place : goal.invariant-loop-place
 invariant-loop-place g l =
     let names = g.R.TraceReader.names in
-    let written = g.O.Sink.written in
-    let faults = g.O.Sink.faults in
+    let sink = g.O.Sink in
     record {
       stands : (asked : List Vocabulary) (told waiting : List Stretch) → Asks names l.input asked
           → Wait names l.input waiting → Watches l.fn.watch (rows_for asked told)
@@ -20,8 +19,9 @@ invariant-loop-place g l =
       told : (patterns : List Sought) (told waiting : List Stretch) (before : Option (List ℕ))
           → Asks names l.input (all_names patterns) → Wait names l.input waiting
           → HasTold l.fn.watch (map string_bytes l.labels) l.scale patterns
-          (rows_for (all_names patterns) told) before (written l.fn.out)
+          (rows_for (all_names patterns) told) before (sink.told l.fn.out).written
           → HasTold l.watch (map string_bytes l.labels) l.scale patterns
-          (rows_for (all_names patterns) (told ++ take l.place waiting)) before (written l.out);
-      no_fault : faults l.out ≡ faults l.fn.out;
+          (rows_for (all_names patterns) (told ++ take l.place waiting)) before
+          (sink.told l.out).written;
+      no_fault : (sink.told l.out).faults ≡ (sink.told l.fn.out).faults;
     }

@@ -63,7 +63,7 @@ loop-room-init g c =
         told = HasTold-nothing (map string_bytes c.args.labels.now) c.args.patterns.now
             (recording_of reader.recording reader.terms c.args.input.now)
             (limit_of c.args.input.now) c.args.scale laws.starts c.in_ok-watch.watch
-            (g.O.Sink.written c.args.out.now)
+            (g.O.Sink.told c.args.out.now).written
             (length-map c.args.labels.now string_bytes ∙ c.requires.labels)
             c.in_ok-watch.ensures.stands c.in_ok-watch.ensures.ended c.in_ok-watch.ensures.trees;
       };
@@ -101,16 +101,15 @@ tell_blocks-requires-clause-comes g c =
     let then_waits = Wait reader.names c.next-read.new.self in
     let laws = laws_of reader.recording reader.terms met.starts met.grows met.is_trace
     c.args.input.now.each.items in
-    let input = input_told source.file_name source.file source.sound source.opened source.left
-    source.found source.faults c.args.source.now c.next-read.new.source in
+    let input = input_told (source.told c.args.source.now) (source.told c.next-read.new.source) in
     let turn : IsTurn watched some waits then_waits input tel.bytes c.next-read.result = record {
       has = rw (inv.same.said, inv.same.limit) at c.next-read.ensures.read
-          (source.file c.args.source.now) tel.bytes tel.fed;
+          (source.told c.args.source.now).file tel.bytes tel.fed;
       none = inv.none;
       opened = c.next-read.ensures.same_opened ∙ inv.opened;
     } in
-    let waiting = known watched some waits then_waits laws input tel.bytes c.next-read.result turn
-    in
+    let waiting = known watched some waits then_waits laws input tel.bytes c.next-read.result
+    turn in
     record {
       asked = all_names watched.patterns;
       waiting = waiting.added;
@@ -145,9 +144,8 @@ returns-in_err-watch-2-clause-ends g c =
     let then_waits = Wait reader.names c.next-read.new.self in
     let laws = laws_of reader.recording reader.terms met.starts met.grows met.is_trace
     c.args.input.now.each.items in
-    let file = source.file c.args.source.now in
-    let input = input_told source.file_name source.file source.sound source.opened source.left
-    source.found source.faults c.args.source.now c.next-read.new.source in
+    let file = (source.told c.args.source.now).file in
+    let input = input_told (source.told c.args.source.now) (source.told c.next-read.new.source) in
     let turn : IsTurn watched some waits then_waits input tel.bytes c.next-read.result = record {
       has = rw (inv.same.said, inv.same.limit) at c.next-read.ensures.read file tel.bytes
           tel.fed;
@@ -160,19 +158,19 @@ returns-in_err-watch-2-clause-ends g c =
     (rw (inv.same.said, inv.same.limit) at c.next-read.ensures.ends file tel.bytes tel.fed) in
     rw (p.1, p.2) (EndsTelling-within watched some waits then_waits laws input tel.bytes
     c.next-read.result turn c.args.name.now _ c.in_err-watch-2.field-0.0
-    (HasReadCause-from _ _ input.faults_now c.next-read.result inv.no_fault
+    (HasReadCause-from _ _ input.now.faults c.next-read.result inv.no_fault
     c.next-read.ensures.cause) stops
     (HasWriteCause-from {T = Watch} _ _ _ (Err c.in_err-watch-2.field-0.0)
     inv.good c.in_err-watch-2.ensures.cause)
     (λ waiting wait. c.in_err-watch-2.ensures.stops watched.patterns _ waiting
-    (g.O.Sink.written c.args.out.now) asks wait tel.told))
+    (g.O.Sink.told c.args.out.now).written asks wait tel.told))
 
 pub returns-in_err-watch-2-clause-bounded : goal.returns-in_err-watch-2-clause-bounded
 returns-in_err-watch-2-clause-bounded g c =
     let inv = c.loop-room.invariant in
     let tel = inv.telling in
     λ opened. TakesAtMost-read (rw inv.same.limit at c.next-read.ensures.read
-    (g.S.Source.file c.args.source.now) tel.bytes tel.fed)
+    (g.S.Source.told c.args.source.now).file tel.bytes tel.fed)
 
 pub returns-in_err-read-clause-ends : goal.returns-in_err-read-clause-ends
 returns-in_err-read-clause-ends g c =
@@ -193,9 +191,8 @@ returns-in_err-read-clause-ends g c =
     let then_waits = Wait reader.names c.next-read.new.self in
     let laws = laws_of reader.recording reader.terms met.starts met.grows met.is_trace
     c.args.input.now.each.items in
-    let file = source.file c.args.source.now in
-    let input = input_told source.file_name source.file source.sound source.opened source.left
-    source.found source.faults c.args.source.now c.next-read.new.source in
+    let file = (source.told c.args.source.now).file in
+    let input = input_told (source.told c.args.source.now) (source.told c.next-read.new.source) in
     let turn : IsTurn watched some waits then_waits input tel.bytes
     (Err c.in_err-read.field-0.0) = record {
       has = rw (inv.same.said, inv.same.limit) at c.in_err-read.ensures.read file tel.bytes
@@ -212,21 +209,21 @@ returns-in_err-read-clause-ends g c =
     c.loop-room.input fed tel.fed.fed) in
     rw (p.1, p.2) (EndsTelling-stopped watched some waits then_waits laws input tel.bytes
     c.in_err-read.field-0.0 c.args.name.now _ turn
-    (HasReadCause-from {T = Bool} _ _ input.faults_now (Err c.in_err-read.field-0.0) inv.no_fault
+    (HasReadCause-from {T = Bool} _ _ input.now.faults (Err c.in_err-read.field-0.0) inv.no_fault
     c.in_err-read.ensures.cause)
     (λ good is. c.in_err-read.ensures.sound (rw inv.sound good) (ap Err is))
     (rw (inv.same.said, inv.same.limit) at c.in_err-read.ensures.ends file tel.bytes tel.fed)
     none
     (c.in_ok-watch-2.ensures.cause ∙ inv.good)
     (λ waiting wait. (c.in_ok-watch-2.ensures.told watched.patterns _ waiting
-    (g.O.Sink.written c.args.out.now) asks wait tel.told).told))
+    (g.O.Sink.told c.args.out.now).written asks wait tel.told).told))
 
 pub returns-in_err-read-clause-bounded : goal.returns-in_err-read-clause-bounded
 returns-in_err-read-clause-bounded g c =
     let inv = c.loop-room.invariant in
     let tel = inv.telling in
     λ opened. TakesAtMost-read (rw inv.same.limit at c.next-read.ensures.read
-    (g.S.Source.file c.args.source.now) tel.bytes tel.fed)
+    (g.S.Source.told c.args.source.now).file tel.bytes tel.fed)
 
 pub loop-room-preserved : goal.loop-room-preserved
 loop-room-preserved g c =
@@ -237,7 +234,7 @@ loop-room-preserved g c =
     let asks = c.next-read.ensures.same.asks _ (inv.same.asks _ (rw (asked_sought labels
     c.args.patterns.now same) c.requires.asks)) in
     let more = rw (inv.same.said, inv.same.limit, c.if-not-branch.false) at
-    c.in_ok-read.ensures.ends (g.S.Source.file c.args.source.now) tel.bytes tel.fed in
+    c.in_ok-read.ensures.ends (g.S.Source.told c.args.source.now).file tel.bytes tel.fed in
     record {
       telling = record {
         bytes = tel.bytes ++ more.piece;
@@ -250,7 +247,7 @@ loop-room-preserved g c =
         };
         told = rw more.all.beyond (c.in_ok-watch-2.ensures.told
             (sought_by labels c.args.patterns.now) _ more.all.added
-            (g.O.Sink.written c.args.out.now) asks (more.all.then [] inv.none) tel.told);
+            (g.O.Sink.told c.args.out.now).written asks (more.all.then [] inv.none) tel.told);
       };
       none = c.clear.ensures.none;
       same = IsAsked-next (IsAsked-next inv.same c.next-read.ensures.same) c.clear.ensures.same;
@@ -279,9 +276,8 @@ returns-in_err-lasts-clause-ends g c =
     let then_waits = Wait reader.names c.next-read.new.self in
     let laws = laws_of reader.recording reader.terms met.starts met.grows met.is_trace
     c.args.input.now.each.items in
-    let file = source.file c.args.source.now in
-    let input = input_told source.file_name source.file source.sound source.opened source.left
-    source.found source.faults c.args.source.now c.next-read.new.source in
+    let file = (source.told c.args.source.now).file in
+    let input = input_told (source.told c.args.source.now) (source.told c.next-read.new.source) in
     let turn : IsTurn watched some waits then_waits input tel.bytes c.next-read.result = record {
       has = rw (inv.same.said, inv.same.limit) at c.next-read.ensures.read file tel.bytes
           tel.fed;
@@ -296,7 +292,7 @@ returns-in_err-lasts-clause-ends g c =
       reads = reads;
       stands = first_stand watched some waits then_waits laws input tel.bytes c.next-read.result
           turn _ writes (λ waiting wait. (c.in_ok-watch-2.ensures.told watched.patterns _ waiting
-          (g.O.Sink.written c.args.out.now) asks wait tel.told).told);
+          (g.O.Sink.told c.args.out.now).written asks wait tel.told).told);
     })
 
 pub returns-in_err-lasts-clause-bounded : goal.returns-in_err-lasts-clause-bounded
@@ -304,7 +300,7 @@ returns-in_err-lasts-clause-bounded g c =
     let inv = c.loop-room.invariant in
     let tel = inv.telling in
     λ opened. TakesAtMost-read (rw inv.same.limit at c.next-read.ensures.read
-    (g.S.Source.file c.args.source.now) tel.bytes tel.fed)
+    (g.S.Source.told c.args.source.now).file tel.bytes tel.fed)
 
 pub tell_end-requires-clause-reads : goal.tell_end-requires-clause-reads
 tell_end-requires-clause-reads g c =
@@ -315,9 +311,9 @@ tell_end-requires-clause-reads g c =
     let asks = c.next-read.ensures.same.asks _ (inv.same.asks _ (rw (asked_sought labels
     c.args.patterns.now same) c.requires.asks)) in
     let ended = rw (inv.same.said, inv.same.limit, c.if-not-branch.true) at
-    c.in_ok-read.ensures.ends (g.S.Source.file c.args.source.now) tel.bytes tel.fed in
+    c.in_ok-read.ensures.ends (g.S.Source.told c.args.source.now).file tel.bytes tel.fed in
     let told = c.in_ok-watch-2.ensures.told (sought_by labels c.args.patterns.now) _ _
-    (g.O.Sink.written c.args.out.now) asks (ended.all.then [] inv.none) tel.told in
+    (g.O.Sink.told c.args.out.now).written asks (ended.all.then [] inv.none) tel.told in
     record { rows = _; stands = told.stands }
 
 pub tell_end-requires-clause-count : goal.tell_end-requires-clause-count
@@ -329,7 +325,7 @@ tell_end-requires-clause-count g c =
     let asks = c.clear.ensures.same.asks _ (c.next-read.ensures.same.asks _ (inv.same.asks _
     (rw (asked_sought labels c.args.patterns.now same) c.requires.asks))) in
     let ended = rw (inv.same.said, inv.same.limit, c.if-not-branch.true) at
-    c.in_ok-read.ensures.ends (g.S.Source.file c.args.source.now) tel.bytes tel.fed in
+    c.in_ok-read.ensures.ends (g.S.Source.told c.args.source.now).file tel.bytes tel.fed in
     let asked = all_names (sought_by labels c.args.patterns.now) in
     let last = (recording_of g.R.TraceReader.recording g.R.TraceReader.terms c.args.input.now true
     tel.bytes).last in
@@ -348,9 +344,9 @@ tell_end-requires-clause-labels g c =
     let asks = c.next-read.ensures.same.asks _ (inv.same.asks _ (rw (asked_sought labels
     c.args.patterns.now same) c.requires.asks)) in
     let ended = rw (inv.same.said, inv.same.limit, c.if-not-branch.true) at
-    c.in_ok-read.ensures.ends (g.S.Source.file c.args.source.now) tel.bytes tel.fed in
+    c.in_ok-read.ensures.ends (g.S.Source.told c.args.source.now).file tel.bytes tel.fed in
     let told = c.in_ok-watch-2.ensures.told (sought_by labels c.args.patterns.now) _ _
-    (g.O.Sink.written c.args.out.now) asks (ended.all.then [] inv.none) tel.told in
+    (g.O.Sink.told c.args.out.now).written asks (ended.all.then [] inv.none) tel.told in
     sym (length-map c.args.labels.now string_bytes) ∙ labels_count told
 
 pub returns-in_err-tell_end-clause-ends : goal.returns-in_err-tell_end-clause-ends
@@ -372,9 +368,8 @@ returns-in_err-tell_end-clause-ends g c =
     let then_waits = Wait reader.names c.next-read.new.self in
     let laws = laws_of reader.recording reader.terms met.starts met.grows met.is_trace
     c.args.input.now.each.items in
-    let file = source.file c.args.source.now in
-    let input = input_told source.file_name source.file source.sound source.opened source.left
-    source.found source.faults c.args.source.now c.next-read.new.source in
+    let file = (source.told c.args.source.now).file in
+    let input = input_told (source.told c.args.source.now) (source.told c.next-read.new.source) in
     let opened = c.next-read.ensures.same_opened ∙ inv.opened in
     let turn : IsTurn watched some waits then_waits input tel.bytes c.next-read.result = record {
       has = rw (inv.same.said, inv.same.limit) at c.next-read.ensures.read file tel.bytes
@@ -395,15 +390,15 @@ returns-in_err-tell_end-clause-ends g c =
     (HasWriteCause-from {T = Unit {0}} _ _ _ (Err c.in_err-tell_end.field-0.0) writes
     c.in_err-tell_end.ensures.cause)
     (λ waiting wait. rw (c.deref.ensures.value, lasts) at c.in_err-tell_end.ensures.stops
-    watched.patterns _ (g.O.Sink.written c.args.out.now) (c.in_ok-watch-2.ensures.told
-    watched.patterns _ waiting (g.O.Sink.written c.args.out.now) asks wait tel.told)))
+    watched.patterns _ (g.O.Sink.told c.args.out.now).written (c.in_ok-watch-2.ensures.told
+    watched.patterns _ waiting (g.O.Sink.told c.args.out.now).written asks wait tel.told)))
 
 pub returns-in_err-tell_end-clause-bounded : goal.returns-in_err-tell_end-clause-bounded
 returns-in_err-tell_end-clause-bounded g c =
     let inv = c.loop-room.invariant in
     let tel = inv.telling in
     λ opened. TakesAtMost-read (rw inv.same.limit at c.next-read.ensures.read
-    (g.S.Source.file c.args.source.now) tel.bytes tel.fed)
+    (g.S.Source.told c.args.source.now).file tel.bytes tel.fed)
 
 pub returns-clause-ends : goal.returns-clause-ends
 returns-clause-ends g c =
@@ -423,22 +418,22 @@ returns-clause-ends g c =
     let asks = c.next-read.ensures.same.asks _ (inv.same.asks _ (rw (asked_sought labels
     c.args.patterns.now same) c.requires.asks)) in
     let ended = rw (inv.same.said, inv.same.limit, c.if-not-branch.true) at
-    c.in_ok-read.ensures.ends (source.file c.args.source.now) tel.bytes tel.fed in
+    c.in_ok-read.ensures.ends (source.told c.args.source.now).file tel.bytes tel.fed in
     let told = c.in_ok-watch-2.ensures.told watched.patterns _ _
-    (g.O.Sink.written c.args.out.now) asks (ended.all.then [] inv.none) tel.told in
+    (g.O.Sink.told c.args.out.now).written asks (ended.all.then [] inv.none) tel.told in
     let lasts = c.in_ok-lasts.ensures _ _ (c.clear.ensures.same.asks _ asks)
     (c.clear.ensures.ended _ ended.ended) in
-    EndsTelling-done watched some (input_told source.file_name source.file source.sound
-    source.opened source.left source.found source.faults c.args.source.now c.next-read.new.source)
+    EndsTelling-done watched some (input_told (source.told c.args.source.now)
+    (source.told c.next-read.new.source))
     c.args.name.now tel.bytes laws ended.front ended.all_read ended.within ended.whole
     (c.next-read.ensures.same_opened ∙ inv.opened) _ (c.in_ok-read.ensures.cause ∙ inv.no_fault)
     (c.in_ok-tell_end.ensures.cause ∙ (c.in_ok-watch-2.ensures.cause ∙ inv.good))
     (rw (sym ended.all.beyond) at (rw (c.deref.ensures.value, lasts) at
-    c.in_ok-tell_end.ensures.told watched.patterns _ (g.O.Sink.written c.args.out.now) told))
+    c.in_ok-tell_end.ensures.told watched.patterns _ (g.O.Sink.told c.args.out.now).written told))
 
 pub returns-clause-bounded : goal.returns-clause-bounded
 returns-clause-bounded g c =
     let inv = c.loop-room.invariant in
     let tel = inv.telling in
     λ opened. TakesAtMost-read (rw inv.same.limit at c.next-read.ensures.read
-    (g.S.Source.file c.args.source.now) tel.bytes tel.fed)
+    (g.S.Source.told c.args.source.now).file tel.bytes tel.fed)

@@ -14,15 +14,15 @@ invariant-loop-room g l =
     record {
       telling : IsTelling (watched_by (map string_bytes l.labels) l.patterns
           (recording_of reader.recording reader.terms l.fn.input) (limit_of l.fn.input) l.scale)
-          (WereFed reader.terms reader.represents l.input) (source.file l.fn.source)
-          (source.left l.source) (source.found l.source) (taken_of l.input) l.watch
-          (map string_bytes l.labels) (sink.written l.fn.out) (sink.written l.out);
+          (WereFed reader.terms reader.represents l.input) (source.told l.fn.source).file
+          (source.told l.source).left (source.told l.source).found (taken_of l.input) l.watch
+          (map string_bytes l.labels) (sink.told l.fn.out).written (sink.told l.out).written;
       none : Wait reader.names l.input [];
       same : IsAsked reader.names reader.terms reader.recording l.fn.input l.input;
-      opened : source.opened l.source ≡ true;
-      sound : source.sound l.source ≡ source.sound l.fn.source;
-      no_fault : source.faults l.source ≡ source.faults l.fn.source;
-      good : sink.faults l.out ≡ sink.faults l.fn.out;
+      opened : (source.told l.source).opened ≡ true;
+      sound : (source.told l.source).sound ≡ (source.told l.fn.source).sound;
+      no_fault : (source.told l.source).faults ≡ (source.told l.fn.source).faults;
+      good : (sink.told l.out).faults ≡ (sink.told l.fn.out).faults;
     }
 
 abbrev pub decreases-loop-room : goal.decreases-loop-room

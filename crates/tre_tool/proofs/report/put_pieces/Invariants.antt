@@ -5,10 +5,9 @@ use Rattle.tre_tool.proofs.report.put_pieces.Given as goal
 -- the pieces so far were appended, and no fault was counted
 abbrev pub invariant-loop-piece : goal.invariant-loop-piece
 invariant-loop-piece g l =
-    let written = g.E.Sink.written in
-    let faults = g.E.Sink.faults in
+    let told = g.E.Sink.told in
     record {
-      appended : Appends (written l.fn.err) (written l.err) (flat_map (λ piece. piece.now)
+      appended : Appends (told l.fn.err).written (told l.err).written (flat_map (λ piece. piece.now)
           (take l.piece-index l.pieces));
-      no_fault : faults l.err ≡ faults l.fn.err;
+      no_fault : (told l.err).faults ≡ (told l.fn.err).faults;
     }

@@ -45,7 +45,7 @@ pub returns-in_err-question-clause-checks_by_name :
     goal.returns-in_err-question-clause-checks_by_name
 returns-in_err-question-clause-checks_by_name g c = λ job file gives watches opened.
     of_file (map string_bytes c.args.words.now) c.in_ok-job.job job file
-    (λ name. IfSome (g.P.Source.file_name c.args.checks.now) (λ told. told ≡ name))
+    (λ name. IfSome (g.P.Source.told c.args.checks.now).name (λ told. told ≡ name))
     c.in_ok-job.ensures.ok gives watches (c.in_err-question.ensures.by_name opened)
 
 -- ---- an answer that ended before its end
@@ -91,15 +91,15 @@ returns-in_err-answer-clause-checks_untouched g c = λ never.
 pub returns-in_err-answer-clause-reads : goal.returns-in_err-answer-clause-reads
 returns-in_err-answer-clause-reads g c = λ job gives opened.
     of_job (map string_bytes c.args.words.now) c.in_ok-job.job job
-    (λ job. IfSome (g.S.Source.file_name c.args.input.now) (λ told. told ≡ job.input)
-    × TakesAtMost (job.max_bytes + 1) (g.S.Source.file c.args.input.now)
-    (g.S.Source.left c.answer.new.source)) c.in_ok-job.ensures.ok gives
+    (λ job. IfSome (g.S.Source.told c.args.input.now).name (λ told. told ≡ job.input)
+    × TakesAtMost (job.max_bytes + 1) (g.S.Source.told c.args.input.now).file
+    (g.S.Source.told c.answer.new.source).left) c.in_ok-job.ensures.ok gives
     (c.in_err-answer.ensures.by_name opened, c.in_err-answer.ensures.bounded opened)
 
 pub returns-in_err-answer-clause-checks_by_name : goal.returns-in_err-answer-clause-checks_by_name
 returns-in_err-answer-clause-checks_by_name g c = λ job file gives watches opened.
     of_file (map string_bytes c.args.words.now) c.in_ok-job.job job file
-    (λ name. IfSome (g.P.Source.file_name c.args.checks.now) (λ told. told ≡ name))
+    (λ name. IfSome (g.P.Source.told c.args.checks.now).name (λ told. told ≡ name))
     c.in_ok-job.ensures.ok gives watches (c.in_ok-question.ensures.by_name opened)
 
 -- ---- an answer
@@ -137,13 +137,13 @@ returns-clause-checks_untouched g c = λ never.
 pub returns-clause-reads : goal.returns-clause-reads
 returns-clause-reads g c = λ job gives opened.
     of_job (map string_bytes c.args.words.now) c.in_ok-job.job job
-    (λ job. IfSome (g.S.Source.file_name c.args.input.now) (λ told. told ≡ job.input)
-    × TakesAtMost (job.max_bytes + 1) (g.S.Source.file c.args.input.now)
-    (g.S.Source.left c.answer.new.source)) c.in_ok-job.ensures.ok gives
+    (λ job. IfSome (g.S.Source.told c.args.input.now).name (λ told. told ≡ job.input)
+    × TakesAtMost (job.max_bytes + 1) (g.S.Source.told c.args.input.now).file
+    (g.S.Source.told c.answer.new.source).left) c.in_ok-job.ensures.ok gives
     (c.in_ok-answer.ensures.by_name opened, c.in_ok-answer.ensures.bounded opened)
 
 pub returns-clause-checks_by_name : goal.returns-clause-checks_by_name
 returns-clause-checks_by_name g c = λ job file gives watches opened.
     of_file (map string_bytes c.args.words.now) c.in_ok-job.job job file
-    (λ name. IfSome (g.P.Source.file_name c.args.checks.now) (λ told. told ≡ name))
+    (λ name. IfSome (g.P.Source.told c.args.checks.now).name (λ told. told ≡ name))
     c.in_ok-job.ensures.ok gives watches (c.in_ok-question.ensures.by_name opened)

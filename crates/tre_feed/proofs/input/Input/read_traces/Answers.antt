@@ -11,8 +11,8 @@ pub returns-in_err-open-clause-stops : goal.returns-in_err-open-clause-stops
 returns-in_err-open-clause-stops g c =
     let p = err_from_is_err_and c.from_residual.result c.from_residual.ensures.1 in
     let reader = g.R.TraceReader in
-    let input = input_told g.S.Source.file_name g.S.Source.file g.S.Source.sound g.S.Source.opened
-    g.S.Source.left g.S.Source.found g.S.Source.faults c.args.source.now c.open.new.source in
+    let input = input_told (g.S.Source.told c.args.source.now)
+    (g.S.Source.told c.open.new.source) in
     rw (p.1, p.2) (StopsReading-unread (recording_of reader.recording reader.terms c.args.self)
     c.args.self.limit c.args.name.now input c.in_err-open.field-0.0 c.in_err-open.ensures.read
     (faultless_by reader.terms reader.recording reader.represents
@@ -50,14 +50,14 @@ returns-in_err-next-clause-stops g c =
     let reader = g.R.TraceReader in
     let inv = c.loop-self.invariant in
     let so_far = inv.collected in
-    let file = g.S.Source.file c.args.source.now in
-    let input = input_told g.S.Source.file_name g.S.Source.file g.S.Source.sound g.S.Source.opened
-    g.S.Source.left g.S.Source.found g.S.Source.faults c.args.source.now c.next.new.source in
+    let file = (g.S.Source.told c.args.source.now).file in
+    let input = input_told (g.S.Source.told c.args.source.now)
+    (g.S.Source.told c.next.new.source) in
     rw (p.1, p.2) (StopsReading-turn (recording_of reader.recording reader.terms c.args.self)
     c.args.self.limit c.args.name.now input so_far.bytes (Wait reader.names c.loop-self.self)
     (Wait reader.names c.next.new.self) c.in_err-next.field-0.0
     (c.next.ensures.same_opened ∙ inv.opened)
-    (subst (λ n. HasReadCause {T = Bool} n input.faults_now (Err c.in_err-next.field-0.0))
+    (subst (λ n. HasReadCause {T = Bool} n input.now.faults (Err c.in_err-next.field-0.0))
     inv.no_fault c.in_err-next.ensures.cause)
     (λ good is. c.in_err-next.ensures.sound (rw inv.sound good) (ap Err is))
     (rw (inv.same.said, inv.same.limit) at (faultless_by reader.terms reader.recording
@@ -70,7 +70,7 @@ pub returns-in_err-next-clause-bounded : goal.returns-in_err-next-clause-bounded
 returns-in_err-next-clause-bounded g c =
     let inv = c.loop-self.invariant in
     let so_far = inv.collected in
-    let file = g.S.Source.file c.args.source.now in
+    let file = (g.S.Source.told c.args.source.now).file in
     λ opened. HasRead-bounded (rw inv.same.limit at
     (c.in_err-next.ensures.read file so_far.bytes so_far.fed))
 
@@ -78,7 +78,7 @@ pub returns-in_err-traces-clause-bounded : goal.returns-in_err-traces-clause-bou
 returns-in_err-traces-clause-bounded g c =
     let inv = c.loop-self.invariant in
     let so_far = inv.collected in
-    let file = g.S.Source.file c.args.source.now in
+    let file = (g.S.Source.told c.args.source.now).file in
     λ opened. HasRead-bounded (rw inv.same.limit at
     (c.in_ok-next.ensures.read file so_far.bytes so_far.fed))
 
@@ -86,7 +86,7 @@ pub returns-clause-bounded : goal.returns-clause-bounded
 returns-clause-bounded g c =
     let inv = c.loop-self.invariant in
     let so_far = inv.collected in
-    let file = g.S.Source.file c.args.source.now in
+    let file = (g.S.Source.told c.args.source.now).file in
     λ opened. HasRead-bounded (rw inv.same.limit at
     (c.in_ok-next.ensures.read file so_far.bytes so_far.fed))
 
@@ -96,22 +96,23 @@ loop-self-preserved g c =
     let source = g.S.Source in
     let inv = c.loop-self.invariant in
     let so_far = inv.collected in
-    let file = source.file c.args.source.now in
+    let file = (source.told c.args.source.now).file in
     let old = c.loop-self.self in
     let new = c.next.new.self in
     let same = c.next.ensures.same in
     let read = IsCollected-more (recording_of reader.recording reader.terms old) old.limit file
-    (source.left c.next.new.source) (source.found c.next.new.source) new.taken so_far.bytes
+    (source.told c.next.new.source).left (source.told c.next.new.source).found new.taken
+    so_far.bytes
     (rw c.if-not-branch.false at (c.in_ok-next.ensures.ends file so_far.bytes so_far.fed))
     so_far.told in
     record {
       collected = subst (λ (said : Bool → List ℕ → Recording).
           IsCollected (WereFed reader.terms reader.represents new) (Wait reader.names new) said
-          new.limit file (source.left c.next.new.source) (source.found c.next.new.source)
+          new.limit file (source.told c.next.new.source).left (source.told c.next.new.source).found
           new.taken) (sym same.said)
           (subst (λ limit. IsCollected (WereFed reader.terms reader.represents new)
           (Wait reader.names new) (recording_of reader.recording reader.terms old) limit file
-          (source.left c.next.new.source) (source.found c.next.new.source) new.taken)
+          (source.told c.next.new.source).left (source.told c.next.new.source).found new.taken)
           (sym same.limit) read);
       same = record {
         asks = λ asked asks. same.asks asked (inv.same.asks asked asks);
@@ -127,7 +128,7 @@ pub into_traces-requires : goal.into_traces-requires
 into_traces-requires g c =
     let reader = g.R.TraceReader in
     let so_far = c.loop-self.invariant.collected in
-    let file = g.S.Source.file c.args.source.now in
+    let file = (g.S.Source.told c.args.source.now).file in
     let said = recording_of reader.recording reader.terms c.loop-self.self in
     let ended = rw c.if-not-branch.true at
     (c.in_ok-next.ensures.ends file so_far.bytes so_far.fed) in
@@ -146,9 +147,9 @@ returns-clause-read g c =
     let reader = g.R.TraceReader in
     let inv = c.loop-self.invariant in
     let so_far = inv.collected in
-    let file = g.S.Source.file c.args.source.now in
-    let input = input_told g.S.Source.file_name g.S.Source.file g.S.Source.sound g.S.Source.opened
-    g.S.Source.left g.S.Source.found g.S.Source.faults c.args.source.now c.next.new.source in
+    let file = (g.S.Source.told c.args.source.now).file in
+    let input = input_told (g.S.Source.told c.args.source.now)
+    (g.S.Source.told c.next.new.source) in
     let said = recording_of reader.recording reader.terms c.loop-self.self in
     let ended = rw c.if-not-branch.true at
     (c.in_ok-next.ensures.ends file so_far.bytes so_far.fed) in

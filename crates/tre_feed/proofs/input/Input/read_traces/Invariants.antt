@@ -12,12 +12,13 @@ invariant-loop-self g l =
     record {
       collected : IsCollected (WereFed reader.terms reader.represents l.self)
           (Wait reader.names l.self) (recording_of reader.recording reader.terms l.self)
-          l.self.limit (source.file l.fn.source) (source.left l.source) (source.found l.source)
+          l.self.limit (source.told l.fn.source).file (source.told l.source).left
+          (source.told l.source).found
           l.self.taken;
       same : IsAsked reader.names reader.terms reader.recording l.fn.self l.self;
-      opened : source.opened l.source ≡ true;
-      sound : source.sound l.source ≡ source.sound l.fn.source;
-      no_fault : source.faults l.source ≡ source.faults l.fn.source;
+      opened : (source.told l.source).opened ≡ true;
+      sound : (source.told l.source).sound ≡ (source.told l.fn.source).sound;
+      no_fault : (source.told l.source).faults ≡ (source.told l.fn.source).faults;
     }
 
 abbrev pub decreases-loop-self : goal.decreases-loop-self
