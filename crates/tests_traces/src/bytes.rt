@@ -17,7 +17,7 @@ fn trace(alloc: Global, bytes: &[u8], most: usize, fails: &[u64]) -> Result<MemS
 
 // All that is left, in at most eight pieces.
 fn rest<S: Source>(alloc: Global, source: &mut S) -> Result<Vec<u8>, Fail>
-    requires { IsTrue (S.opened source.old) }
+    requires { IsTrue (S.told source.old).opened }
 {
     let mut all = Vec::new(alloc);
     for _ in 0..8 {

@@ -3,7 +3,8 @@ use Rattle.std.proofs.Common.{◌≡◌, ℕ, ◌==◌, ◌||◌, ◌&&◌, Bool
 use Rattle.std.proofs.lemmas.Bool.Decides.{nat_tests}
 use Rattle.tre_vcd.specs.VcdReading.{Terms, Statement, scalar, Place, Open, change, is_scalar, is_defined, nothing, section, comment, vector, number, goes_to, command_says, value_says, token_at, token_says}
 use Rattle.tre_vcd.specs.Sections.{Holds, inside_of, is_nothing, tokens_of}
-use Rattle.tre_vcd.specs.declared.inside.Inside.TheVariants.{Nothing}
+use Rattle.tre_vcd.specs.declared.inside.Inside.{Inside}
+use Rattle.tre_vcd.specs.declared.inside.Inside.TheVariants.{Nothing, Section, Comment, Vector, Number}
 use Rattle.tre_vcd.specs.declared.token_reader.TheConstants.{KEPT_MAX}
 use Rattle.tre_vcd.specs.declared.token_reader.TokenReader.{TokenReader}
 use Rattle.tre_vcd.proofs.Groups.{scalar_value}
@@ -48,6 +49,20 @@ only_nothing (section command tokens) is = absurd (cc (is))
 only_nothing comment is = absurd (cc (is))
 only_nothing (vector letters) is = absurd (cc (is))
 only_nothing number is = absurd (cc (is))
+
+none_open : (inside : Inside) → is_nothing inside ≡ true → inside ≡ Nothing
+none_open Nothing is = refl
+none_open (Section command) is = absurd (cc (is))
+none_open Comment is = absurd (cc (is))
+none_open (Vector value) is = absurd (cc (is))
+none_open Number is = absurd (cc (is))
+
+pub nothing-open : (reader : TokenReader)
+    → (reader.past.is_defined && is_nothing reader.inside) ≡ true
+    → (reader.past.is_defined ≡ true) × (reader.inside ≡ Nothing)
+nothing-open reader reads =
+    let parts = both reader.past.is_defined (is_nothing reader.inside) reads in
+    (parts.0, none_open reader.inside parts.1)
 
 pub values-read : (reader : TokenReader) (place : Place) → Holds reader place
     → (reader.past.is_defined && is_nothing reader.inside) ≡ true → AmongValues reader place

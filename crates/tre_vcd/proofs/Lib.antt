@@ -19,6 +19,7 @@ mod Plain
 mod Reading
 mod Rows
 mod Scoping
+mod Skimming
 mod Standing
 mod Staying
 mod Testing

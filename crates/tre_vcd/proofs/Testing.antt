@@ -363,6 +363,16 @@ tests-changed all names kept past form identifier letters numbers values ended a
           ∙ value-told past form identifier letters (test_at list k);
     }
 
+-- no test reads an identifier that has no number
+pub tests-unread : (all : List SignalDefined) (names : List (List ℕ)) (kept : Tests)
+    (past : List Statement) (form : Form) (identifier letters : List ℕ) → is_defined past ≡ true
+    → ((k : ℕ) → MayBe kept.sieve identifier k → ⊥) → KnowsTests all names kept past
+    → KnowsTests all names kept (change form identifier letters ∷ past)
+tests-unread all names kept past form identifier letters ended none knows =
+    tests-changed all names kept past form identifier letters 0 kept.values ended
+    (λ k may. absurd (none k may)) (λ k set. absurd (omega (arith, set, bit_at-zero k)))
+    (λ k clear. refl) knows
+
 -- ---- one name more
 
 has-push : (kept : List (Option SignalDefined)) (own : Option SignalDefined) (k : ℕ)

@@ -649,6 +649,19 @@ unread all names kept past identifier numbers ended asked knows k clear =
     clear (asked k (subst (λ own. MayBe kept.sieve own k)
     ((bytes_eq-Decides one.identifier identifier).0 same) (knows.sieve ended k one is))))
 
+-- no event is the changes of an identifier that has no number
+pub changes-unread : (all : List SignalDefined) (names : List (List ℕ)) (kept : Changes)
+    (past : List Statement) (form : Form) (identifier letters : List ℕ) → is_defined past ≡ true
+    → ((k : ℕ) → MayBe kept.sieve identifier k → ⊥) → KnowsChanges all names kept past
+    → KnowsChanges all names kept (change form identifier letters ∷ past)
+changes-unread all names kept past form identifier letters ended none knows =
+    changes-changed all names kept past form identifier letters kept.list kept.said kept.happened
+    ended (refl, refl)
+    (λ k. watched-untold past form identifier letters (watched_at kept.list.items k)
+    (bit_at kept.said k) (bit_at kept.happened k)
+    (unread all names kept past identifier 0 ended (λ i may. absurd (none i may)) knows k
+    (λ set. absurd (omega (arith, set, bit_at-zero k)))) (knows.each k)) knows
+
 none-read : (definition : Option SignalDefined) → None ≡ part_read [] definition
 none-read None = refl
 none-read (Some one) = refl

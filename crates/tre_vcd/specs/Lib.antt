@@ -10,5 +10,6 @@ pub mod Signals
 pub mod Offers
 pub mod Letters
 pub mod Sections
+pub mod Taken
 -- Why the law of the format holds, which its impl cites.
 pub mod Times

@@ -30,6 +30,7 @@ mod past;
 mod scale;
 mod scopes;
 mod signals;
+mod skim;
 mod tests;
 mod token;
 mod token_reader;

@@ -107,9 +107,10 @@ impl Past {
 
     // A time is reached.
     pub fn reach(&mut self, ticks: u64)
-        ensures { (names event_names : List (List ℕ)) (past : List Statement) →
+        ensures knows { (names event_names : List (List ℕ)) (past : List Statement) →
             Knows names event_names self.old past →
             Knows names event_names self.new (time ticks ∷ past) }
+        ensures defined { self.new.is_defined ≡ self.old.is_defined }
     {
         if ticks != self.time {
             self.time = ticks;
@@ -120,12 +121,13 @@ impl Past {
     // An identifier changes to letters that end with this value, as a vector.
     #[inline(always)]
     pub fn change(&mut self, identifier: &[u8], value: bool)
-        ensures { (names event_names : List (List ℕ)) (past : List Statement) →
+        ensures knows { (names event_names : List (List ℕ)) (past : List Statement) →
             Knows names event_names self.old past →
             is_defined past ≡ true → (letters : List ℕ) → value ≡ ends_true letters →
             Knows names event_names self.new (change wide identifier.now letters ∷ past) }
+        ensures defined { self.new.is_defined ≡ self.old.is_defined }
     {
-        let changed = self.propositions.having(identifier);
+        let changed = self.propositions.having_soon(identifier);
         set_value(&mut self.values, changed, value);
     }
 
@@ -140,12 +142,13 @@ impl Past {
     // An identifier changes to letters that end with this value, as a scalar, which says its event.
     #[inline(always)]
     pub fn change_scalar(&mut self, identifier: &[u8], value: bool)
-        ensures { (names event_names : List (List ℕ)) (past : List Statement) →
+        ensures knows { (names event_names : List (List ℕ)) (past : List Statement) →
             Knows names event_names self.old past →
             is_defined past ≡ true → (letters : List ℕ) → value ≡ ends_true letters →
             Knows names event_names self.new (change scalar identifier.now letters ∷ past) }
+        ensures defined { self.new.is_defined ≡ self.old.is_defined }
     {
-        let changed = self.propositions.having(identifier);
+        let changed = self.propositions.having_soon(identifier);
         set_value(&mut self.values, changed, value);
         if self.reads_events() {
             let said = self.events.having_apart(identifier);

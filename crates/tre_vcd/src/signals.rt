@@ -2,6 +2,7 @@
 ghost use Rattle.std.specs.Prelude.{◌≡◌, ◌≢◌, ◌==◌, ◌∷◌, ℕ, List, [], length, true, false, Some, None, IfOk, OnOk};
 ghost use Rattle.tre_vcd.specs.VcdReading.{Form, Statement, var, change, time, definitions, is_defined, scopes_at, offer_in};
 ghost use Rattle.tre_vcd.specs.Kept.{IsQuiet};
+ghost use Rattle.tre_vcd.specs.Taken.{behind_if};
 ghost use Rattle.tre_vcd.specs.Signals.{offer_kept, KnowsTests, KnowsChanges};
 
 use crate::changes::Changes;
@@ -84,6 +85,36 @@ impl Signals {
     {
         self.tests.sift();
         self.changes.sift();
+    }
+
+    // Whether a definition may read values of this identifier.
+    #[inline(always)]
+    pub fn may_read(&self, identifier: &[u8]) -> bool
+        ensures { result ≡ false → (names events : List (List ℕ)) (past : List Statement)
+            (form : Form) (letters : List ℕ) → is_defined past ≡ true →
+            KnowsSignals names events self.now past →
+            KnowsSignals names events self.now (change form identifier.now letters ∷ past) }
+    {
+        if self.tests.may_read(identifier) {
+            return true;
+        }
+        self.changes.may_read(identifier)
+    }
+
+    // The tests are told that an identifier has a value of these letters, unless an event may be
+    // one of its changes. This says whether they were.
+    pub fn change_tests(&mut self, identifier: &[u8], letters: &[u8]) -> bool
+        ensures knows { (names events : List (List ℕ)) (past : List Statement) (form : Form) →
+            is_defined past ≡ true → KnowsSignals names events self.old past →
+            KnowsSignals names events self.new
+            (behind_if result (change form identifier.now letters.now) past) }
+        ensures kept { self.new.definitions ≡ self.old.definitions }
+    {
+        if self.changes.may_read(identifier) {
+            return false;
+        }
+        self.tests.change(identifier, letters);
+        true
     }
 
     // An identifier has a value of these letters.

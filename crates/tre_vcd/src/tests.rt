@@ -152,6 +152,17 @@ impl Tests {
         sift_each(&self.list, &mut self.sieve);
     }
 
+    // Whether one of them may read values of this identifier.
+    #[inline(always)]
+    pub fn may_read(&self, identifier: &[u8]) -> bool
+        ensures { result ≡ false → (all : List SignalDefined) (names : List (List ℕ))
+            (past : List Statement) (form : Form) (letters : List ℕ) → is_defined past ≡ true →
+            KnowsTests all names self.now past →
+            KnowsTests all names self.now (change form identifier.now letters ∷ past) }
+    {
+        self.sieve.may_be(identifier)
+    }
+
     // An identifier has a value of these letters.
     pub fn change(&mut self, identifier: &[u8], letters: &[u8])
         ensures { (all : List SignalDefined) (names : List (List ℕ))

@@ -79,6 +79,32 @@ pub fn is_bit(byte: u8) -> bool
     byte == b'0' || byte == b'1'
 }
 
+// Whether the byte begins a vector.
+#[inline(always)]
+fn is_vector(byte: u8) -> bool
+    ensures { result ≡ (byte == 98 || byte == 66) }
+{
+    byte == b'b' || byte == b'B'
+}
+
+/// The same as [`letter_of`], which is asked only where the byte isn't one of those that begin most
+/// tokens.
+#[inline(always)]
+pub fn frequent_letter_of(byte: u8) -> Letter
+    ensures { result ≡ letter_of byte }
+{
+    if is_bit(byte) {
+        return Letter::Scalar;
+    }
+    if is_vector(byte) {
+        return Letter::Vector;
+    }
+    if byte == b'#' {
+        return Letter::Time;
+    }
+    letter_of(byte)
+}
+
 /// Whether the value of a vector is true: its last byte is `1`.
 pub fn ends_true(value: &[u8]) -> bool
     ensures { result ≡ ends_true value.now }

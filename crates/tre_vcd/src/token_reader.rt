@@ -44,19 +44,19 @@ const KEPT_MAX: usize = 6;
 /// and of the names that the dump must declare those that it has declared.
 #[derive(Drop)]
 pub struct TokenReader {
-    names: Names,
-    events: Names,
-    needed: Vec<Found>,
+    pub(crate) names: Names,
+    pub(crate) events: Names,
+    pub(crate) needed: Vec<Found>,
     // No name that is asked or needed is longer.
-    longest: usize,
-    scale: Scale,
-    past: Past,
+    pub(crate) longest: usize,
+    pub(crate) scale: Scale,
+    pub(crate) past: Past,
     // What names read by their definitions.
-    signals: Signals,
-    inside: Inside,
-    tokens: Vec<Vec<u8>>,
+    pub(crate) signals: Signals,
+    pub(crate) inside: Inside,
+    pub(crate) tokens: Vec<Vec<u8>>,
     // Those of the vector that waits for its identifier, where there are definitions.
-    letters: Vec<u8>,
+    pub(crate) letters: Vec<u8>,
 }
 
 impl TokenReader {
@@ -621,9 +621,15 @@ impl PartReader for TokenReader {
         first_of::<White>(bytes)
     }
 
-    // Each token is read by itself.
+    #[inline(always)]
     fn skim(&mut self, bytes: &[u8], segments: &mut Vec<Segment>) -> Skimmed {
-        Skimmed { bytes: 0, parts: 0 }
+        if bytes.len() < 16 {
+            return Skimmed { bytes: 0, parts: 0 };
+        }
+        if !self.reads_values() {
+            return Skimmed { bytes: 0, parts: 0 };
+        }
+        self.skim_values(bytes, segments)
     }
 
     #[inline(always)]

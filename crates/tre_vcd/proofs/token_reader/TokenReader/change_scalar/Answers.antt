@@ -17,7 +17,7 @@ returns-then-is_empty-clause-tells c = λ past holds defined.
       is_held = record {
         knows = past-changed reader past scalar identifier (c.args.letter ∷ [])
             c.change_scalar.new.self reader.signals
-            (c.change_scalar.ensures reader.names reader.events past holds.knows.past defined
+            (c.change_scalar.ensures.knows reader.names reader.events past holds.knows.past defined
             (c.args.letter ∷ []) refl)
             (signals-undefined reader.names reader.events reader.signals past _
             (sym c.is_empty.ensures ∙ c.if-is_empty.true) holds.knows.signals) refl holds.knows;
@@ -41,7 +41,7 @@ returns-in-Ok-clause-tells c = λ past holds defined.
       is_held = record {
         knows = past-changed reader past scalar identifier (c.args.letter ∷ [])
             c.change_scalar.new.self c.change.new.self
-            (c.change_scalar.ensures reader.names reader.events past holds.knows.past defined
+            (c.change_scalar.ensures.knows reader.names reader.events past holds.knows.past defined
             (c.args.letter ∷ []) refl)
             (c.in-Ok.ensures.knows reader.names reader.events past scalar defined
             holds.knows.signals) c.in-Ok.ensures.kept holds.knows;

@@ -16,7 +16,7 @@ returns-then-is_empty-clause-tells c = λ past letters holds value_is.
       says = refl;
       is_held = record {
         knows = knows-kept _ Nothing reader.tokens reader.letters _ (past-changed reader past wide identifier letters c.change.new.self reader.signals
-            (c.change.ensures reader.names reader.events past holds.knows.past holds.suits letters
+            (c.change.ensures.knows reader.names reader.events past holds.knows.past holds.suits letters
             value_is)
             (signals-undefined reader.names reader.events reader.signals past _
             (sym c.is_empty.ensures ∙ c.if-is_empty.true) holds.knows.signals) refl holds.knows);
@@ -39,7 +39,7 @@ returns-in-Ok-clause-tells c = λ past letters holds value_is.
       is_held = record {
         knows = knows-kept _ Nothing reader.tokens reader.letters _ (past-changed reader past wide identifier letters c.change.new.self
             c.change-2.new.self
-            (c.change.ensures reader.names reader.events past holds.knows.past holds.suits letters
+            (c.change.ensures.knows reader.names reader.events past holds.knows.past holds.suits letters
             value_is)
             (subst (λ own. KnowsSignals reader.names reader.events c.change-2.new.self
             (change wide identifier own ∷ past)) said

@@ -23,7 +23,7 @@ returns-then-ticks-self-2-clause-tells c = λ past holds defined.
       is_held = record {
         knows = past-stays reader past (time ticks ∷ past) c.reach.new.self
             (λ test own. refl) (stays-time past ticks (c.if-ticks-self-2.true ∙ holds.knows.past.time))
-            (c.reach.ensures reader.names reader.events past holds.knows.past) holds.knows;
+            (c.reach.ensures.knows reader.names reader.events past holds.knows.past) holds.knows;
         inside = holds.inside;
         tokens = holds.tokens;
         suits = tt;
@@ -53,7 +53,7 @@ returns-clause-tells c = λ past holds defined.
             (λ e. c.if-ticks-self-2.false (e ∙ sym holds.knows.past.time)));
         is_held = record {
           knows = record {
-            past = c.reach-2.ensures reader.names reader.events past holds.knows.past;
+            past = c.reach-2.ensures.knows reader.names reader.events past holds.knows.past;
             needed = needed-same past (time ticks ∷ past) reader.needed.items
                 (λ test name. refl) holds.knows.needed;
             signals = record {

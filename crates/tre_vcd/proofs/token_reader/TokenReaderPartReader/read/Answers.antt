@@ -33,7 +33,7 @@ returns-then-is_empty-clause-tells c = λ state holds.
       is_held = record {
         knows = past-changed reader state.past scalar rest (letter ∷ []) c.change_scalar.new.self
             reader.signals
-            (c.change_scalar.ensures reader.names reader.events state.past holds.knows.past
+            (c.change_scalar.ensures.knows reader.names reader.events state.past holds.knows.past
             reads.defined (letter ∷ []) refl)
             (signals-undefined reader.names reader.events reader.signals state.past _
             (sym c.is_empty-then-not-is_empty.ensures ∙ c.if-is_empty.true)

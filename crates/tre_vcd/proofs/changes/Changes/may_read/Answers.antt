@@ -1,0 +1,7 @@
+use Rattle.tre_vcd.proofs.Watching.{changes-unread}
+use Rattle.tre_vcd.proofs.changes.Changes.may_read.Goals as goal
+
+pub returns : goal.returns
+returns c = λ is all names past form letters ended knows.
+    changes-unread all names c.args.self.now past form c.args.identifier.now letters ended
+    (c.may_be.ensures is) knows
