@@ -79,6 +79,27 @@ fn prefixes(rt: HostRuntime) {
     }
 }
 
+// A sign is the longest that stands there, a reserved word names no event, and no number is above
+// 2^40.
+const REFUSED: [(&str, ParseFault); 9] = [
+    ("p||q", ParseFault::Syntax { at: 1 }),
+    ("p| |q", ParseFault::Syntax { at: 3 }),
+    ("{p| |q}", ParseFault::Syntax { at: 2 }),
+    ("p&&q", ParseFault::Syntax { at: 1 }),
+    ("event(eps)", ParseFault::Syntax { at: 6 }),
+    ("event(event)", ParseFault::Syntax { at: 6 }),
+    ("p%[0,1099511627777]", ParseFault::Number { at: 5 }),
+    ("p%[0,1.]", ParseFault::BadByte { at: 6 }),
+    ("p%[0,1 .5]", ParseFault::BadByte { at: 7 }),
+];
+
+#[test]
+fn refused(rt: HostRuntime) {
+    for (text, want) in &REFUSED {
+        assert!(rt; fault(rt.alloc(), *text) == Some(*want), "{text}");
+    }
+}
+
 // Puts the names p0, p1 and so on behind a text, each between a head and a tail.
 fn put_names(text: &mut String, head: &str, count: u32, tail: &str) -> Result<(), AllocError> {
     let alloc = *text.allocator();
@@ -178,7 +199,7 @@ fn root(alloc: Global, text: &str) -> Result<&'static str, ParseFault> {
     })
 }
 
-const ROOTS: [(&str, &str); 31] = [
+const ROOTS: [(&str, &str); 36] = [
     ("p & q ; p", "&"),
     ("p ; q & p", "&"),
     ("p | q & p", "|"),
@@ -210,6 +231,11 @@ const ROOTS: [(&str, &str); 31] = [
     ("event(a) & event(b)", "&"),
     ("p;event(a)*", ";"),
     ("event(a)+ | p", "|"),
+    ("p+?", "|"),
+    ("p?+", ";"),
+    ("{p||q}", "literal"),
+    ("p|!q", "|"),
+    ("p%[0,1099511627776]", "%"),
 ];
 
 #[test]

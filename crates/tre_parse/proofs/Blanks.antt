@@ -8,11 +8,13 @@ use Rattle.tre_trace.specs.Reading.{Vocabulary}
 use Rattle.tre_syntax.specs.PatternTree.{PatternTree}
 use Rattle.tre_parse.specs.declared.lexeme.Lexeme.{Lexeme}
 use Rattle.tre_parse.specs.declared.lexeme.Lexeme.TheVariants.{Blank, Wrong, Name, Number, Sign}
-use Rattle.tre_parse.specs.Lexeme.{is_blank, word_lexeme, number_lexeme, sign_lexeme, lexeme_of, FitsIn}
+use Rattle.tre_parse.specs.Lexeme.{word_lexeme, number_lexeme, sign_lexeme, lexeme_of, FitsIn}
+use Rattle.tre_parse.specs.Written.{is_blank}
 use Rattle.tre_syntax.specs.declared.name_kind.NameKind.TheVariants.{Proposition, Event as EventKind}
-use Rattle.tre_parse.specs.Tokens.{RawToken, name, number, sign, RawTokenAt, RawTokens, raw_tokens_from, scanned, with_raw_token, raw_tokens_of, bad_byte, with_events, words_of, names_in, names_of, token_of}
+use Rattle.tre_parse.specs.Tokens.{RawToken, name, number, sign, RawTokenAt, with_events, names_in, token_of}
+use Rattle.tre_parse.specs.Scanned.{RawTokens, raw_tokens_from, scanned, with_raw_token, raw_tokens_of, bad_byte, words_of, names_of}
 use Rattle.tre_parse.specs.Grammar.{expr, Spells}
-use Rattle.tre_parse.specs.Outcome.{IsSpelling}
+use Rattle.tre_parse.specs.ScannedOutcome.{IsScannedSpelling}
 use Rattle.tre_parse.specs.Blanks.{counted_on, SaysAs}
 use Rattle.tre_parse.proofs.Fronts.{take_front, lexeme_front, lexeme_fits}
 
@@ -249,7 +251,8 @@ none_same None (Some at) e h = absurd (cc)
 none_same (Some b) (Some at) e h = absurd (cc)
 
 same_spelling : (scale : ℕ) (text other : List ℕ) (tree : PatternTree) (names : Vocabulary)
-    → SaysAs text other → IsSpelling scale text tree names → IsSpelling scale other tree names
+    → SaysAs text other → IsScannedSpelling scale text tree names
+    → IsScannedSpelling scale other tree names
 same_spelling scale text other tree names same spelling = record {
   tokens_alone = none_same (bad_byte text) (bad_byte other) same.bad spelling.tokens_alone;
   spells = subst (λ tokens. Spells expr tokens tree) (same.tokens scale) spelling.spells;
@@ -259,8 +262,8 @@ same_spelling scale text other tree names same spelling = record {
 -- Texts that say the same spell the same.
 pub spell_same : (scale : ℕ) (text other : List ℕ) (tree : PatternTree) (names : Vocabulary)
     → SaysAs text other →
-    (IsSpelling scale text tree names → IsSpelling scale other tree names)
-    × (IsSpelling scale other tree names → IsSpelling scale text tree names)
+    (IsScannedSpelling scale text tree names → IsScannedSpelling scale other tree names)
+    × (IsScannedSpelling scale other tree names → IsScannedSpelling scale text tree names)
 spell_same scale text other tree names same = (
   same_spelling scale text other tree names same,
   same_spelling scale other text tree names (record {

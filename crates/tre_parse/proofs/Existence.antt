@@ -11,7 +11,9 @@ use Rattle.tre_parse.specs.declared.token.Token.TheVariants.{Percent}
 use Rattle.tre_parse.specs.declared.fault.ParseFault.{ParseFault}
 use Rattle.tre_parse.specs.declared.fault.ParseFault.TheVariants.{Syntax, EmptyInterval}
 use Rattle.tre_parse.specs.Reader.{Reading, got, stop}
-use Rattle.tre_parse.specs.Outcome.{Outcome, spelt, refused, TextTokens, text_tokens_of, offset_of, byte_fault, limit_fault, size_fault, HasEmptyAt, IsFirstEmpty, IsOutcomeOfTree, IsOutcomeOfTokens, IsOutcome}
+use Rattle.tre_parse.specs.Outcome.{Outcome, spelt, refused, TextTokens, offset_of, limit_fault, size_fault, HasEmptyAt, IsFirstEmpty, IsOutcomeOfTree, IsOutcomeOfTokens, IsOutcome}
+use Rattle.tre_parse.specs.ScannedOutcome.{text_tokens_of, byte_fault, IsScannedOutcome}
+use Rattle.tre_parse.proofs.Agreement.{outcome_meant}
 use Rattle.tre_parse.specs.Unkept.{NoneEmptyBefore}
 use Rattle.tre_parse.proofs.Empties.{interval_from, stands, stands_empty, stands_read, read_stands, none_before_one, none_before_more, none_empty}
 use Rattle.tre_parse.proofs.Fixpoint.{left}
@@ -149,8 +151,14 @@ read_as words (got tree []) e =
     let judged = judged_as words tree (first_or words.tokens (length words.tokens) (omega arith)) in
     (judged.0, inr (tree, spelt_read words.tokens tree e, judged.1))
 
-pub outcome_is : (scale : ℕ) (text : List ℕ) → (outcome : Outcome) × IsOutcome scale text outcome
-outcome_is scale text =
+scanned_is : (scale : ℕ) (text : List ℕ)
+    → (outcome : Outcome) × IsScannedOutcome scale text outcome
+scanned_is scale text =
     let words = text_tokens_of scale text in
     fault_or (option_or (byte_fault text) (limit_fault words)) (IsOutcomeOfTokens words)
     (read_as words (read_whole words.tokens) refl)
+
+pub outcome_is : (scale : ℕ) (text : List ℕ) → (outcome : Outcome) × IsOutcome scale text outcome
+outcome_is scale text =
+    let is = scanned_is scale text in
+    (is.0, outcome_meant scale text is.0 is.1)

@@ -11,7 +11,8 @@ use Rattle.tre_state.specs.Name.{starts_name, continues_name}
 use Rattle.tre_parse.specs.declared.token.Token.{Token}
 use Rattle.tre_parse.specs.declared.lexeme.Lexeme.{Lexeme}
 use Rattle.tre_parse.specs.declared.lexeme.Lexeme.TheVariants.{Blank, Number, Sign}
-use Rattle.tre_parse.specs.Lexeme.{is_blank, reserved, named, first_sign, word_lexeme, decimals_len, number_lexeme, sign_lexeme, lexeme_of, FitsIn}
+use Rattle.tre_parse.specs.Lexeme.{named, first_sign, word_lexeme, decimals_len, number_lexeme, sign_lexeme, lexeme_of, FitsIn}
+use Rattle.tre_parse.specs.Written.{is_blank, reserved}
 use Rattle.tre_parse.specs.declared.lexeme.TheConstants.{SIGNS}
 use Rattle.tre_parse.proofs.Table.{Each}
 

@@ -23,16 +23,18 @@ use Rattle.tre_parse.proofs.Fixpoint.{left}
 use Rattle.tre_parse.proofs.Whole.{read_whole, IsCut, fault_at, spelt_read}
 use Rattle.tre_parse.specs.declared.cursor.Stop.{Stop}
 use Rattle.tre_parse.specs.declared.cursor.Stop.TheVariants.{Syntax as Stuck, Memory as Lacking}
-use Rattle.tre_parse.specs.Tokens.{RawTokenAt, raw_tokens_of, bad_byte}
+use Rattle.tre_parse.specs.Tokens.{RawTokenAt}
+use Rattle.tre_parse.specs.Scanned.{raw_tokens_of, bad_byte}
 use Rattle.tre_parse.specs.Known.{names_of_kind, Known, nothing_known, next_token, known_after, tokens_from, offsets_of}
 use Rattle.tre_syntax.specs.Expr.{tree_of}
 use Rattle.tre_syntax.specs.declared.expr.Expr.{Expr}
 use Rattle.tre_parse.specs.Joins.{Keeps}
 use Rattle.tre_parse.proofs.Counts.{kept_is}
-use Rattle.tre_parse.specs.Scan.{placed_from, IsScan}
+use Rattle.tre_parse.specs.Scan.{placed_from, IsBadByte, IsScan}
 use Rattle.tre_parse.specs.Front.{tokens_in, offsets_in}
 use Rattle.tre_parse.specs.Numbering.{IsNumberedByUse}
-use Rattle.tre_parse.specs.Outcome.{Outcome, spelt, refused, TextTokens, text_tokens_of, offset_of, is_big, is_past, deep_place, byte_fault, limit_fault, size_fault, IsSyntaxFaultAt, IsFirstEmpty, IsOutcomeOfTokens, IsOutcome}
+use Rattle.tre_parse.specs.Outcome.{Outcome, spelt, refused, TextTokens, offset_of, is_big, is_past, deep_place, limit_fault, size_fault, IsSyntaxFaultAt, IsFirstEmpty, IsOutcomeOfTokens}
+use Rattle.tre_parse.specs.ScannedOutcome.{text_tokens_of, byte_fault, IsScannedOutcome}
 use Rattle.tre_parse.specs.Answers.{Answers, text_tokens_in, IsFaultOf, IsOutcomeWithin}
 use Rattle.tre_parse.proofs.Numbers.{counts_alike}
 use Rattle.tre_parse.proofs.Named.{names_run, tokens_run}
@@ -40,7 +42,7 @@ use Rattle.tre_parse.proofs.NumberedWords.{text_numbered}
 use Rattle.tre_parse.proofs.Fine.{none_big, stand_fine, fine_intervals}
 use Rattle.tre_parse.specs.Unkept.{NoneEmpty, FindsUpTo}
 use Rattle.tre_parse.proofs.Unkept.{IsFound, finds_first}
-use Rattle.tre_parse.proofs.Outcomes.{outcome_once}
+use Rattle.tre_parse.proofs.Outcomes.{scanned_once}
 
 -- What was read stands for the expression that the tokens spell.
 pub record IsRepresented (words : TextTokens) (operand : Operand) : Type 0 where
@@ -247,7 +249,7 @@ spelt_outcome words operand tree names e w h q le same kept =
 
 -- The text as a whole.
 pub words_outcome : (scale : ℕ) (text : List ℕ) (outcome : Outcome) → byte_fault text ≡ None
-    → IsOutcomeWithin (text_tokens_of scale text) outcome → IsOutcome scale text outcome
+    → IsOutcomeWithin (text_tokens_of scale text) outcome → IsScannedOutcome scale text outcome
 words_outcome scale text outcome e h =
     let words = text_tokens_of scale text in
     let R = λ (m : Option ParseFault). MatchOption (option_or m (limit_fault words))
@@ -298,7 +300,7 @@ scan_numbered scale text scan s = let P = λ (w : TextTokens). IsNumberedByUse w
 pub answers_text : (scale : ℕ) (text : List ℕ) (scan : Scan) (result : Result Pattern ParseFault)
     → length text ≤ TEXT_MAX → IsScan scale text scan → Answers (IsOutcomeWithin
     (text_tokens_in scan))
-    result → Answers (IsOutcome scale text) result
+    result → Answers (IsScannedOutcome scale text) result
 answers_text scale text scan (Ok pattern) le s h =
     let P = λ (w : TextTokens). IsOutcomeWithin w (spelt (pattern_tree pattern)
     (names_of pattern)) in
@@ -312,11 +314,40 @@ answers_text scale text scan (Err fault) le s (inr h) =
 
 -- The outcome is what is answered.
 pub answered : (scale : ℕ) (text : List ℕ) (outcome : Outcome) (result : Result Pattern ParseFault)
-    → Answers (IsOutcome scale text) result → IsOutcome scale text outcome
+    → Answers (IsScannedOutcome scale text) result → IsScannedOutcome scale text outcome
     → Answers (λ answer. outcome ≡ answer) result
-answered scale text outcome (Ok pattern) h k = outcome_once scale text outcome _ k h
+answered scale text outcome (Ok pattern) h k = scanned_once scale text outcome _ k h
 answered scale text outcome (Err fault) (inl h) k = inl h
-answered scale text outcome (Err fault) (inr h) k = inr (outcome_once scale text outcome _ k h)
+answered scale text outcome (Err fault) (inr h) k = inr (scanned_once scale text outcome _ k h)
+
+-- A text that is too long, and one that has a byte at which no token begins.
+pub long_outcome : (scale : ℕ) (text : List ℕ) → TEXT_MAX < length text
+    → IsScannedOutcome scale text (refused TooLong)
+long_outcome scale text long =
+    let is : nat_lt TEXT_MAX (length text) ≡ true = grind (arith, nat_tests) in
+    let words = text_tokens_of scale text in
+    let P = λ (long : Bool). MatchOption (option_or (if long then Some TooLong
+    else option_map (λ at. BadByte at) (bad_byte text)) (limit_fault words))
+    (IsOutcomeOfTokens words (refused TooLong)) (λ fault. refused TooLong ≡ refused fault) in
+    subst P (sym is) refl
+
+bad_refused : (scale : ℕ) (text : List ℕ) (at : ℕ) → length text ≤ TEXT_MAX
+    → bad_byte text ≡ Some at → IsScannedOutcome scale text (refused (BadByte at))
+bad_refused scale text at few bad =
+    let is : nat_lt TEXT_MAX (length text) ≡ false = grind (arith, nat_tests) in
+    let words = text_tokens_of scale text in
+    let P = λ (long : Bool) (bad : Option ℕ). MatchOption (option_or (if long then Some TooLong
+    else option_map (λ at. BadByte at) bad) (limit_fault words))
+    (IsOutcomeOfTokens words (refused (BadByte at)))
+    (λ fault. refused (BadByte at) ≡ refused fault) in
+    subst (λ long. P long (bad_byte text)) (sym is) (subst (P false) (sym bad) refl)
+
+pub bad_outcome : (scale : ℕ) (text : List ℕ) (fault : ParseFault) → length text ≤ TEXT_MAX
+    → IsBadByte text 0 fault → (fault ≡ Memory) ⊎ IsScannedOutcome scale text (refused fault)
+bad_outcome scale text fault few (inl memory) = inl memory
+bad_outcome scale text fault few (inr bad) =
+    let P = λ (fault : ParseFault). IsScannedOutcome scale text (refused fault) in
+    inr (subst P (sym bad.1) (bad_refused scale text bad.0 few bad.2))
 
 pub limits_met : (words : TextTokens) → position is_big words.tokens ≡ None
     → deep_place 0 0 words.tokens ≡ None → limit_fault words ≡ None

@@ -15,6 +15,9 @@ pub mod Outcomes
 pub mod Numbers
 pub mod Fine
 pub mod Plain
+pub mod Signs
+pub mod Meant
+pub mod Agreement
 pub mod Named
 pub mod NumberedWords
 pub mod Judging

@@ -19,9 +19,11 @@ use Rattle.tre_parse.specs.declared.token.Token.{Token}
 use Rattle.tre_parse.specs.declared.token.Token.TheVariants.{Name as Numbered, EventName, LeftParen, Event}
 use Rattle.tre_parse.specs.declared.before.Before.{Before}
 use Rattle.tre_parse.specs.declared.before.Before.TheVariants.{EventWord, EventParen, Other}
-use Rattle.tre_parse.specs.Tokens.{RawToken, name, event_name, number, sign, RawTokenAt, raw_tokens_of, with_events, words_of, name_of, first_uses, names_in, names_of, token_of, tokens_of}
+use Rattle.tre_parse.specs.Tokens.{RawToken, name, event_name, number, sign, RawTokenAt, with_events, name_of, first_uses, names_in, token_of}
+use Rattle.tre_parse.specs.Scanned.{raw_tokens_of, words_of, names_of, tokens_of}
 use Rattle.tre_parse.specs.Known.{before_next, kind_behind, names_of_kind, names_with, vocabulary_with, Known, nothing_known, numbered, next_token, vocabulary_after, known_after, tokens_from, names_from, word_is_past, past_from, offsets_of}
-use Rattle.tre_parse.specs.Outcome.{is_past, text_tokens_of}
+use Rattle.tre_parse.specs.Outcome.{is_past}
+use Rattle.tre_parse.specs.ScannedOutcome.{text_tokens_of}
 use Rattle.tre_parse.specs.Past.{kind_after}
 use Rattle.tre_parse.specs.Numbering.{past_of, HasTokenAt}
 use Rattle.tre_parse.proofs.Plain.{IsNoName, IsPlain, ArePlain, raw_tokens_plain}

@@ -6,8 +6,10 @@ use Rattle.tre_syntax.specs.PatternTree.{PatternTree}
 use Rattle.tre_parse.specs.declared.token.Token.{Token}
 use Rattle.tre_parse.specs.declared.fault.ParseFault.{ParseFault}
 use Rattle.tre_parse.specs.declared.fault.ParseFault.TheVariants.{Syntax, EmptyInterval}
-use Rattle.tre_parse.specs.Outcome.{Outcome, spelt, refused, TextTokens, text_tokens_of, offset_of, byte_fault, limit_fault, size_fault, IsFirstEmpty, IsOutcomeOfTree, IsOutcomeOfTokens, IsOutcome}
+use Rattle.tre_parse.specs.Outcome.{Outcome, spelt, refused, TextTokens, offset_of, limit_fault, size_fault, IsFirstEmpty, IsOutcomeOfTree, IsOutcomeOfTokens, IsOutcome}
+use Rattle.tre_parse.specs.ScannedOutcome.{text_tokens_of, byte_fault, IsScannedOutcome}
 use Rattle.tre_parse.proofs.Whole.{spelt_once, fault_once}
+use Rattle.tre_parse.proofs.Agreement.{scanned_outcome}
 
 first_fault_once : (made : Option ParseFault) (Rest : Outcome → Type 0)
     → ((o q : Outcome) → Rest o → Rest q → o ≡ q) → (o q : Outcome) →
@@ -45,9 +47,14 @@ read_once words o q (inr a) (inr b) =
     let P = λ (t : PatternTree). IsOutcomeOfTree words t q in
     judged_once words a.0 o q a.2 (subst P same b.2)
 
-pub outcome_once : (scale : ℕ) (text : List ℕ) (o q : Outcome) → IsOutcome scale text o
-    → IsOutcome scale text q → o ≡ q
-outcome_once scale text =
+pub scanned_once : (scale : ℕ) (text : List ℕ) (o q : Outcome) → IsScannedOutcome scale text o
+    → IsScannedOutcome scale text q → o ≡ q
+scanned_once scale text =
     let words = text_tokens_of scale text in
     first_fault_once (option_or (byte_fault text) (limit_fault words)) (IsOutcomeOfTokens words)
     (read_once words)
+
+pub outcome_once : (scale : ℕ) (text : List ℕ) (o q : Outcome) → IsOutcome scale text o
+    → IsOutcome scale text q → o ≡ q
+outcome_once scale text o q h k =
+    scanned_once scale text o q (scanned_outcome scale text o h) (scanned_outcome scale text q k)

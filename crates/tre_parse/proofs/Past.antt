@@ -16,7 +16,8 @@ use Rattle.tre_syntax.specs.declared.name_kind.NameKind.{NameKind}
 use Rattle.tre_syntax.specs.declared.name_kind.NameKind.TheVariants.{Proposition, Event as EventKind}
 use Rattle.tre_parse.specs.declared.before.Before.{Before}
 use Rattle.tre_parse.specs.declared.before.Before.TheVariants.{Other}
-use Rattle.tre_parse.specs.Tokens.{RawToken, name, event_name, number, sign, RawTokenAt, raw_tokens_of}
+use Rattle.tre_parse.specs.Tokens.{RawToken, name, event_name, number, sign, RawTokenAt}
+use Rattle.tre_parse.specs.Scanned.{raw_tokens_of}
 use Rattle.tre_parse.specs.Known.{before_next, kind_behind, names_of_kind, names_with, vocabulary_with, Known, nothing_known, vocabulary_after, known_after, word_is_past, past_from}
 use Rattle.tre_parse.specs.Past.{before_from, use_of, use_at, uses_from, uses_in, AreNamesOf, UsesFew, IsOneTooMany}
 

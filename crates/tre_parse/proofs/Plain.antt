@@ -9,10 +9,12 @@ use Rattle.tre_parse.specs.declared.token.Token.{Token}
 use Rattle.tre_parse.specs.declared.token.Token.TheVariants.{Name as Numbered, EventName, Eps, Rise, Fall, Inf, True, Event}
 use Rattle.tre_parse.specs.declared.lexeme.Lexeme.{Lexeme}
 use Rattle.tre_parse.specs.declared.lexeme.Lexeme.TheVariants.{Blank, Wrong, Name, Number, Sign}
-use Rattle.tre_parse.specs.Lexeme.{is_blank, reserved, named, first_sign, word_lexeme, number_lexeme, sign_lexeme, lexeme_of}
+use Rattle.tre_parse.specs.Lexeme.{named, first_sign, word_lexeme, number_lexeme, sign_lexeme, lexeme_of}
+use Rattle.tre_parse.specs.Written.{is_blank, reserved}
 use Rattle.tre_parse.specs.declared.lexeme.TheConstants.{SIGNS}
 use Rattle.tre_parse.proofs.Table.{Each}
-use Rattle.tre_parse.specs.Tokens.{RawToken, name, event_name, number, sign, RawTokenAt, RawTokens, raw_tokens_from, scanned}
+use Rattle.tre_parse.specs.Tokens.{RawToken, name, event_name, number, sign, RawTokenAt}
+use Rattle.tre_parse.specs.Scanned.{RawTokens, raw_tokens_from, scanned}
 
 -- A token that is no name.
 abbrev pub IsNoName : Token → Type 0

@@ -5,12 +5,13 @@ use Rattle.tre_parse.specs.declared.token.Token.{Token}
 use Rattle.tre_parse.specs.declared.lexeme.Lexeme.TheVariants.{Blank, Name, Number, Sign}
 use Rattle.tre_parse.specs.declared.scan.Scan.{Scan}
 use Rattle.tre_parse.specs.Lexeme.{lexeme_of}
-use Rattle.tre_parse.specs.Tokens.{RawToken, name, number, sign, RawTokens, raw_tokens_from, scanned, with_raw_token}
+use Rattle.tre_parse.specs.Tokens.{RawToken, name, number, sign}
+use Rattle.tre_parse.specs.Scanned.{RawTokens, raw_tokens_from, scanned, with_raw_token}
 use Rattle.tre_parse.specs.Known.{known_after, names_from}
 use Rattle.tre_parse.specs.Scan.{rest_from, known_in, placed, placed_from, TakesToken, LeadsTo}
 
 -- The bytes of a word are passed over.
-raw_tokens_skip : (k at : ℕ) (bytes : List ℕ) → k ≤ length bytes → raw_tokens_from k at bytes
+pub raw_tokens_skip : (k at : ℕ) (bytes : List ℕ) → k ≤ length bytes → raw_tokens_from k at bytes
     ≡ raw_tokens_from 0 (at + k) (drop k bytes)
 raw_tokens_skip zero at bytes h = let e : at ≡ at + 0 = omega arith in
     ap (λ n. raw_tokens_from 0 n bytes) e

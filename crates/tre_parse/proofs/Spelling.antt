@@ -9,9 +9,11 @@ use Rattle.tre_syntax.specs.PatternTree.{PatternTree}
 use Rattle.tre_parse.specs.declared.fault.ParseFault.{ParseFault}
 use Rattle.tre_parse.specs.declared.fault.ParseFault.TheVariants.{TooLong, BadByte}
 use Rattle.tre_parse.specs.Grammar.{expr, Spells}
-use Rattle.tre_parse.specs.Tokens.{bad_byte, tokens_of}
-use Rattle.tre_parse.specs.Outcome.{IsSpelling, spelt, refused, text_tokens_of, byte_fault, limit_fault, size_fault, IsOutcomeOfTree, IsOutcomeOfTokens, IsOutcome}
+use Rattle.tre_parse.specs.Scanned.{bad_byte, tokens_of}
+use Rattle.tre_parse.specs.Outcome.{IsSpelling, spelt, refused, limit_fault, size_fault, IsOutcomeOfTree, IsOutcomeOfTokens}
+use Rattle.tre_parse.specs.ScannedOutcome.{IsScannedSpelling, text_tokens_of, byte_fault, IsScannedOutcome}
 use Rattle.tre_parse.specs.Answers.{Answers}
+use Rattle.tre_parse.proofs.Agreement.{spelling_meant}
 
 -- A pattern is no refusal.
 unrefused : (made : Option ParseFault) (P : Type 0) (tree : PatternTree) (names : Vocabulary)
@@ -36,7 +38,7 @@ verdict_spells t tree kept names e = (cc, cc)
 judged_spells : (scale : ℕ) (text : List ℕ) (t tree : PatternTree) (names : Vocabulary)
     → bad_byte text
     ≡ None → Spells expr (tokens_of scale text) t → IsOutcomeOfTree (text_tokens_of scale text) t
-    (spelt tree names) → IsSpelling scale text tree names
+    (spelt tree names) → IsScannedSpelling scale text tree names
 judged_spells scale text t tree names good h (inl k) = let no = k.2 in absurd (cc)
 judged_spells scale text t tree names good h (inr k) =
     let words = text_tokens_of scale text in
@@ -49,13 +51,13 @@ judged_spells scale text t tree names good h (inr k) =
 read_spells : (scale : ℕ) (text : List ℕ) (tree : PatternTree) (names : Vocabulary)
     → bad_byte text ≡ None
     → IsOutcomeOfTokens (text_tokens_of scale text) (spelt tree names)
-    → IsSpelling scale text tree names
+    → IsScannedSpelling scale text tree names
 read_spells scale text tree names good (inl h) = let no = h.1 in absurd (cc)
 read_spells scale text tree names good (inr h) = judged_spells scale text h.0 tree names good h.1
     h.2
 
 pub outcome_spells : (scale : ℕ) (text : List ℕ) (tree : PatternTree) (names : Vocabulary)
-    → IsOutcome scale text (spelt tree names) → IsSpelling scale text tree names
+    → IsScannedOutcome scale text (spelt tree names) → IsScannedSpelling scale text tree names
 outcome_spells scale text tree names h =
     let words = text_tokens_of scale text in
     let read = unrefused (option_or (byte_fault text) (limit_fault words))
@@ -64,7 +66,8 @@ outcome_spells scale text tree names h =
     read_spells scale text tree names (none_bad _ (bad_byte text) good) read.1
 
 pub answer_spells : (scale : ℕ) (text : List ℕ) (result : Result Pattern ParseFault)
-    → Answers (IsOutcome scale text) result → IfOk result (λ pattern. IsSpelling scale text
+    → Answers (IsScannedOutcome scale text) result → IfOk result (λ pattern. IsSpelling scale text
     (pattern_tree pattern) (names_of pattern))
-answer_spells scale text (Ok pattern) h = outcome_spells scale text _ _ h
+answer_spells scale text (Ok pattern) h =
+    spelling_meant scale text _ _ (outcome_spells scale text _ _ h)
 answer_spells scale text (Err fault) h = tt

@@ -13,7 +13,8 @@ use Rattle.tre_parse.specs.declared.token.Token.{Token}
 use Rattle.tre_parse.specs.declared.token.Token.TheVariants.{Eps, Rise, Fall, Inf, True, Event}
 use Rattle.tre_parse.specs.declared.lexeme.Lexeme.{Lexeme}
 use Rattle.tre_parse.specs.declared.lexeme.Lexeme.TheVariants.{Blank, Name, Number, Sign}
-use Rattle.tre_parse.specs.Lexeme.{is_blank, reserved, named, word_lexeme, first_sign, sign_lexeme, lexeme_of}
+use Rattle.tre_parse.specs.Lexeme.{named, word_lexeme, first_sign, sign_lexeme, lexeme_of}
+use Rattle.tre_parse.specs.Written.{is_blank, reserved}
 use Rattle.tre_parse.specs.declared.lexeme.TheConstants.{SIGNS}
 
 -- The front that passes a test does.
@@ -83,7 +84,7 @@ name_starts false true digit word sign n len never e = (refl, e)
 name_starts false false true word sign n len never e = absurd (cc)
 name_starts false false false word sign n len never e = absurd (never e)
 
-word_from : (b : ℕ) (bs : List ℕ) (len : ℕ) → starts_name b ≡ true
+pub word_from : (b : ℕ) (bs : List ℕ) (len : ℕ) → starts_name b ≡ true
     → prefix_len continues_name (b ∷ bs) ≡ len → IsWord (take len (b ∷ bs))
 word_from b bs len h e =
     let one = ap (λ t. cond t (1 + prefix_len continues_name bs) 0) (starts_continues b h) in

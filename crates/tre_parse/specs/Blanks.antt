@@ -1,6 +1,7 @@
 -- What a blank does in a text.
 use Rattle.std.specs.Prelude.{◌≡◌, ℕ, ◌+◌, is_none, List, map}
-use Rattle.tre_parse.specs.Tokens.{RawTokenAt, tokens_of, names_of, bad_byte}
+use Rattle.tre_parse.specs.Tokens.{RawTokenAt}
+use Rattle.tre_parse.specs.Scanned.{tokens_of, names_of, bad_byte}
 
 -- The words with their offsets counted on.
 abbrev pub counted_on : ℕ → List RawTokenAt → List RawTokenAt

@@ -1,8 +1,12 @@
 -- What a reader must believe: the grammar, the tokens of a text, and what becomes of it.
 pub mod Grammar
-pub mod Lexeme
 pub mod Tokens
+pub mod Written
 pub mod Outcome
+-- The same by what the scanner finds.
+pub mod Lexeme
+pub mod Scanned
+pub mod ScannedOutcome
 -- What the laws say in other words.
 pub mod Begins
 pub mod Signs

@@ -13,14 +13,16 @@ use Rattle.tre_parse.specs.declared.token.Token.TheVariants.{Name, EventName, Nu
 use Rattle.tre_parse.specs.declared.fault.ParseFault.{ParseFault}
 use Rattle.tre_parse.specs.declared.fault.ParseFault.TheVariants.{TooLong, BadByte, Number as TooBig, TooDeep, Syntax, EmptyInterval, TooManyNames, TooLarge}
 use Rattle.tre_parse.specs.Grammar.{expr, Spells, SpellsInterval}
-use Rattle.tre_parse.specs.Tokens.{raw_tokens_of, bad_byte, tokens_of, names_of}
+use Rattle.tre_parse.specs.Tokens.{RawTokenAt, names_among, tokens_among}
+use Rattle.tre_parse.specs.Written.{AreTokens}
 
 -- The text spells the expression at the scale, and its names are these.
 pub record IsSpelling (scale : ℕ) (text : List ℕ) (tree : PatternTree) (names : Vocabulary)
     : Type 0 where
-  pub tokens_alone : bad_byte text ≡ None
-  pub spells : Spells expr (tokens_of scale text) tree
-  pub numbered : names ≡ names_of text
+  pub raw_tokens : List RawTokenAt
+  pub are : AreTokens 0 text raw_tokens None
+  pub spells : Spells expr (tokens_among scale raw_tokens) tree
+  pub numbered : names ≡ names_among raw_tokens
 
 -- What becomes of a text.
 pub data Outcome : Type 0 where
@@ -34,13 +36,13 @@ pub record TextTokens : Type 0 where
   pub offsets : List ℕ
   pub names : Vocabulary
 
-abbrev pub text_tokens_of : ℕ → List ℕ → TextTokens
-text_tokens_of scale text =
+abbrev pub text_tokens_among : ℕ → List ℕ → List RawTokenAt → TextTokens
+text_tokens_among scale text raw_tokens =
     record {
       size = length text;
-      tokens = tokens_of scale text;
-      offsets = map (λ raw. raw.at) (raw_tokens_of text);
-      names = names_of text;
+      tokens = tokens_among scale raw_tokens;
+      offsets = map (λ raw. raw.at) raw_tokens;
+      names = names_among raw_tokens;
     }
 
 -- The offset of the token at a place, and the length of the text past the last.
@@ -77,10 +79,9 @@ deep_place depth place (token ∷ rest) =
     else deep_place (open_after depth token) (place + 1) rest
 
 -- A text that is too long, or has a byte at which no token begins.
-abbrev pub byte_fault : List ℕ → Option ParseFault
-byte_fault text =
-    if nat_lt TEXT_MAX (length text) then Some TooLong else option_map (λ at. BadByte at)
-    (bad_byte text)
+abbrev pub fault_of_bytes : List ℕ → Option ℕ → Option ParseFault
+fault_of_bytes text bad =
+    if nat_lt TEXT_MAX (length text) then Some TooLong else option_map (λ at. BadByte at) bad
 
 -- A number that is no number of units, or one above the latest time; or else too many open
 -- brackets.
@@ -142,9 +143,18 @@ IsOutcomeOfTokens words outcome =
     × (outcome ≡ refused (Syntax (offset_of words place))))
     ⊎ ((tree : PatternTree) × Spells expr words.tokens tree × IsOutcomeOfTree words tree outcome)
 
+-- What becomes of a text of these raw tokens, up to the first byte at which none begins.
+abbrev pub IsOutcomeOf : ℕ → List ℕ → List RawTokenAt → Option ℕ → Outcome → Type 0
+IsOutcomeOf scale text raw_tokens bad outcome =
+    MatchOption (option_or (fault_of_bytes text bad)
+    (limit_fault (text_tokens_among scale text raw_tokens)))
+    (IsOutcomeOfTokens (text_tokens_among scale text raw_tokens) outcome)
+    (λ fault. outcome ≡ refused fault)
+
 -- The text has this outcome at the scale. It has exactly one, and want of memory aside it is what
 -- `parse` answers.
-abbrev pub IsOutcome : ℕ → List ℕ → Outcome → Type 0
-IsOutcome scale text outcome =
-    MatchOption (option_or (byte_fault text) (limit_fault (text_tokens_of scale text)))
-    (IsOutcomeOfTokens (text_tokens_of scale text) outcome) (λ fault. outcome ≡ refused fault)
+pub record IsOutcome (scale : ℕ) (text : List ℕ) (outcome : Outcome) : Type 0 where
+  pub raw_tokens : List RawTokenAt
+  pub bad : Option ℕ
+  pub are : AreTokens 0 text raw_tokens bad
+  pub is : IsOutcomeOf scale text raw_tokens bad outcome

@@ -8,7 +8,8 @@ use Rattle.tre_parse.specs.declared.fault.ParseFault.TheVariants.{BadByte, Memor
 use Rattle.tre_parse.specs.declared.scan.Scan.{Scan}
 use Rattle.tre_parse.specs.declared.token.TokenAt.{TokenAt}
 use Rattle.tre_parse.specs.declared.token.Token.{Token}
-use Rattle.tre_parse.specs.Tokens.{RawToken, RawTokenAt, RawTokens, name, raw_tokens_from, raw_tokens_of, bad_byte}
+use Rattle.tre_parse.specs.Tokens.{RawToken, RawTokenAt, name}
+use Rattle.tre_parse.specs.Scanned.{RawTokens, raw_tokens_from, raw_tokens_of, bad_byte}
 use Rattle.tre_parse.specs.Known.{Known, nothing_known, kind_behind, number_of, next_token, known_after, names_from}
 
 -- The words from an offset on.

@@ -1,5 +1,5 @@
 //! Laws of the grammar, each as a function whose contract it is.
-ghost use Rattle.std.specs.Prelude.{◌≡◌, ℕ, ◌+◌, ◌≤◌, MatchOption, take, unwrap_or, true, Some, None, List, [], ◌∷◌, ◌++◌, length, ◌↔◌};
+ghost use Rattle.std.specs.Prelude.{◌≡◌, ℕ, ◌+◌, ◌≤◌, Option, MatchOption, take, unwrap_or, true, Some, None, List, [], ◌∷◌, ◌++◌, length, ◌↔◌};
 ghost use Rattle.std.specs.Option.{option_map};
 ghost use Rattle.tre_state.specs.declared.names.TheConstants.{NAMES_MAX};
 ghost use Rattle.tre_parse.specs.declared.limits.TheConstants.{DEPTH_MAX};
@@ -15,16 +15,19 @@ ghost use Rattle.std.specs.Char.{is_ascii_digit};
 ghost use Rattle.tre_state.specs.Name.{starts_name, continues_name};
 ghost use Rattle.tre_parse.specs.Ends.{bytes_in, EndsRun, EndsNumber};
 ghost use Rattle.tre_parse.specs.Past.{kind_after, UsesFew, IsOneTooMany};
-ghost use Rattle.tre_parse.specs.Lexeme.{is_blank, sign_lexeme, lexeme_of};
+ghost use Rattle.tre_parse.specs.Lexeme.{sign_lexeme, lexeme_of};
+ghost use Rattle.tre_parse.specs.Written.{is_blank, AreTokens};
 ghost use Rattle.tre_parse.specs.Signs.{IsSign, TakesSign};
 ghost use Rattle.tre_parse.specs.declared.lexeme.Lexeme.TheVariants.{Sign};
 ghost use Rattle.tre_state.specs.Names.{place_of};
 ghost use Rattle.tre_parse.specs.Numbering.{past_of, HasTokenAt, IsNumberedByUse};
-ghost use Rattle.tre_parse.specs.Tokens.{RawTokenAt, name, raw_tokens_of, bad_byte, tokens_of, names_of};
+ghost use Rattle.tre_parse.specs.Tokens.{RawTokenAt, name};
+ghost use Rattle.tre_parse.specs.Scanned.{raw_tokens_from, raw_tokens_of, bad_byte, tokens_of, names_of};
 ghost use Rattle.tre_parse.specs.Known.{names_of_kind, numbered};
 ghost use Rattle.tre_parse.specs.Blanks.{counted_on, SaysAs};
 ghost use Rattle.tre_parse.specs.declared.token.Token.{Token};
-ghost use Rattle.tre_parse.specs.Outcome.{text_tokens_of, deep_place, IsSpelling, Outcome, spelt, IsOutcome};
+ghost use Rattle.tre_parse.specs.Outcome.{deep_place, IsSpelling, Outcome, spelt, IsOutcome};
+ghost use Rattle.tre_parse.specs.ScannedOutcome.{text_tokens_of};
 
 /// A text spells at most one pattern at a scale.
 pub fn one_spelling()
@@ -43,6 +46,14 @@ pub fn longest_sign()
         TakesSign (spelling ++ rest) (length spelling) }
     ensures only { (bytes : List ℕ) (token : Token) (len : ℕ) →
         sign_lexeme bytes ≡ Sign token len → IsSign (take len bytes) token }
+{}
+
+/// The raw tokens of a text, by what writes them, are those that are scanned, and no others.
+pub fn longest_token()
+    ensures one { (at : ℕ) (bytes : List ℕ) (tokens : List RawTokenAt) (bad : Option ℕ) →
+        AreTokens at bytes tokens bad →
+        raw_tokens_from 0 at bytes ≡ record { raw_tokens = tokens; bad = bad } }
+    ensures some { (text : List ℕ) → AreTokens 0 text (raw_tokens_of text) (bad_byte text) }
 {}
 
 /// A word has as many bytes as can stand in a name, and a number as many digits as there are, and

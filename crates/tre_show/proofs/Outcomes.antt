@@ -18,10 +18,12 @@ use Rattle.tre_parse.specs.declared.token.Token.TheVariants.{Number, Percent}
 use Rattle.tre_parse.specs.declared.fault.ParseFault.{ParseFault}
 use Rattle.tre_parse.specs.declared.fault.ParseFault.TheVariants.{TooLong, BadByte, Number as TooBig, TooDeep, TooManyNames, TooLarge}
 use Rattle.tre_parse.specs.Grammar.{expr, Spells}
-use Rattle.tre_parse.specs.Tokens.{raw_tokens_from, tokens_of, bad_byte}
+use Rattle.tre_parse.specs.Scanned.{raw_tokens_from, tokens_of, bad_byte}
 use Rattle.tre_parse.specs.Known.{before_sign, nothing_known}
 use Rattle.tre_parse.specs.Unkept.{NoneEmpty}
-use Rattle.tre_parse.specs.Outcome.{IsSpelling, Outcome, spelt, refused, TextTokens, text_tokens_of, is_big, is_past, deep_place, offset_of, size_fault, IsOutcomeOfTokens, IsOutcome}
+use Rattle.tre_parse.specs.Outcome.{IsSpelling, Outcome, spelt, refused, TextTokens, is_big, is_past, deep_place, offset_of, size_fault, IsOutcomeOfTokens, IsOutcome}
+use Rattle.tre_parse.specs.ScannedOutcome.{text_tokens_of}
+use Rattle.tre_parse.proofs.Agreement.{scanned_outcome, outcome_meant, spelling_meant}
 use Rattle.tre_parse.proofs.Named.{names_run, tokens_run, past_run}
 use Rattle.tre_show.specs.Intervals.{HasIntervals}
 use Rattle.tre_show.specs.PatternText.{expression_text}
@@ -146,8 +148,10 @@ text_of_tree scale writes names tree list events pattern fine once =
       ),
     ) in
     record {
-      spelling = record { tokens_alone = is.good; spells = spells; numbered = sym names_same };
+      spelling = spelling_meant scale text tree names
+          (record { tokens_alone = is.good; spells = spells; numbered = sym names_same });
       outcome = λ outcome said. judged (nat_lt 16384 (length text)) (bad_byte text)
           (position is_big words.tokens) (deep_place 0 0 words.tokens) words tree names outcome
-          is.good big read (λ o so. once text o outcome so said) said;
+          is.good big read (λ o so. once text o outcome (outcome_meant scale text o so) said)
+          (scanned_outcome scale text outcome said);
     }

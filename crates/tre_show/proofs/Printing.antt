@@ -95,8 +95,9 @@ module _ (scale : ℕ) (tells : NumbersTell scale) where
   end_behind zone xs = range_text scale zone.end_low zone.end_high ++ (32 ∷ dur_behind zone xs)
 
   -- The text of a line tells its zone and what follows it.
-  line_once : (zone other : ZoneBounds) (xs ys : List ℕ) → IsCanonical zone → IsCanonical other
-      → line_of scale zone ++ xs ≡ line_of scale other ++ ys → (zone ≡ other) × (xs ≡ ys)
+  pub line_once : (zone other : ZoneBounds) (xs ys : List ℕ) → IsCanonical zone
+      → IsCanonical other → line_of scale zone ++ xs ≡ line_of scale other ++ ys
+      → (zone ≡ other) × (xs ≡ ys)
   line_once zone other xs ys canonical canonical' e =
       let begin = range_once scale tells zone.begin_low zone.begin_high other.begin_low
       other.begin_high (32 ∷ end_behind zone xs) (32 ∷ end_behind other ys)

@@ -25,11 +25,13 @@ use Rattle.tre_syntax.specs.declared.name_kind.NameKind.TheVariants.{Proposition
 use Rattle.tre_syntax.specs.PatternTree.{seen_after}
 use Rattle.tre_parse.specs.declared.token.Token.{Token}
 use Rattle.tre_parse.specs.declared.token.Token.TheVariants.{Name, EventName, Number, Bar, DoubleBar, Ampersand, DoubleAmpersand, Percent, Begins, Ends, Eps, Rise, Fall, Inf, True, Event, EndOfText}
-use Rattle.tre_parse.specs.Lexeme.{is_blank, reserved, named, word_lexeme, number_len, number_lexeme, sign_lexeme, lexeme_of}
+use Rattle.tre_parse.specs.Lexeme.{named, word_lexeme, number_len, number_lexeme, sign_lexeme, lexeme_of}
+use Rattle.tre_parse.specs.Written.{is_blank, reserved}
 use Rattle.tre_parse.specs.declared.before.Before.{Before}
 use Rattle.tre_parse.specs.declared.before.Before.TheVariants.{Other}
 use Rattle.tre_parse.specs.Numbering.{numbers_in}
-use Rattle.tre_parse.specs.Tokens.{RawToken, name, number, sign, RawTokens, raw_tokens_from, scanned, with_raw_token}
+use Rattle.tre_parse.specs.Tokens.{RawToken, name, number, sign}
+use Rattle.tre_parse.specs.Scanned.{RawTokens, raw_tokens_from, scanned, with_raw_token}
 use Rattle.tre_parse.specs.Known.{kind_behind, before_sign, names_with, vocabulary_with, Known, number_of, numbered, next_token, known_after, word_is_past, tokens_from, names_from, past_from}
 use Rattle.tre_show.specs.StateText.{name_text}
 use Rattle.tre_show.proofs.TreeTokens.{printed, text_of, IsCut, StandsHere, StandFrom}

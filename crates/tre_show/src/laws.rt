@@ -34,8 +34,13 @@ pub fn one_text()
 
 /// Where a longer text goes on with lines of zones and a letter of the alphabet behind them (97 is
 /// the byte of `a`), they are those of one list of zones; where it goes on with a number that fills
-/// its line, that is one number. What follows is the same too.
+/// its line, that is one number; and where it goes on with the line of a zone, whatever stands
+/// behind it, that is of one zone. What follows is the same too.
 pub fn one_front()
+    ensures line { (scale : ℕ) (zone other : ZoneBounds) (rest other_rest : List ℕ) →
+        IsCanonical zone → IsCanonical other →
+        line_of scale zone ++ rest ≡ line_of scale other ++ other_rest →
+        (zone ≡ other) × (rest ≡ other_rest) }
     ensures lines { (scale : ℕ) (zones others : List ZoneBounds) (letter other : ℕ)
         (rest other_rest : List ℕ) →
         AreCanonical zones → AreCanonical others → 97 ≤ letter → 97 ≤ other →

@@ -4,8 +4,10 @@ use Rattle.std.specs.Prelude.{MatchOption, position, if◌then◌else◌}
 use Rattle.std.specs.Char.{is_newline}
 use Rattle.std.specs.List.{slice_split}
 use Rattle.std.specs.Option.{option_map, option_or}
-use Rattle.tre_parse.specs.Outcome.{Outcome as Parsed, spelt, refused, TextTokens, text_tokens_of, offset_of, is_big, is_past, deep_place, byte_fault, limit_fault, size_fault, IsOutcomeOfTree, IsOutcomeOfTokens, IsOutcome as ParsesTo}
-use Rattle.tre_parse.specs.Tokens.{bad_byte}
+use Rattle.tre_parse.specs.Outcome.{Outcome as Parsed, spelt, refused, TextTokens, offset_of, is_big, is_past, deep_place, limit_fault, size_fault, IsOutcomeOfTree, IsOutcomeOfTokens, IsOutcome as ParsesTo}
+use Rattle.tre_parse.specs.ScannedOutcome.{text_tokens_of, byte_fault}
+use Rattle.tre_parse.specs.Scanned.{bad_byte}
+use Rattle.tre_parse.proofs.Agreement.{scanned_outcome}
 use Rattle.tre_parse.specs.declared.fault.ParseFault.{ParseFault}
 use Rattle.tre_parse.specs.declared.fault.ParseFault.TheVariants.{TooLong, BadByte, Number as TooBig, TooDeep, TooManyNames, TooLarge as ManyNodes, Memory as ParseMemory}
 use Rattle.tre_parse.specs.declared.limits.TheConstants.{TEXT_MAX}
@@ -73,13 +75,13 @@ in_tokens words fault (inr told) = in_tree words told.0 fault told.2
 
 pub text_told : (scale : ℕ) (text : List ℕ) (fault : ParseFault)
     → ParsesTo scale text (refused fault) → fault ≢ ParseMemory
-text_told scale text fault =
+text_told scale text fault told =
     let words = text_tokens_of scale text in
     in_either (option_or (byte_fault text) (limit_fault words)) _ fault
     (of_either (byte_fault text) (limit_fault words)
     (of_bytes (nat_lt TEXT_MAX (length text)) (bad_byte text))
     (of_limits words (position is_big words.tokens) (deep_place 0 0 words.tokens)))
-    (in_tokens words fault)
+    (in_tokens words fault) (scanned_outcome scale text (refused fault) told)
 
 -- ---- files
 

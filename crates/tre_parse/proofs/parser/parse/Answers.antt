@@ -1,5 +1,9 @@
-use Rattle.std.proofs.Common.{arith}
-use Rattle.tre_parse.proofs.Judging.{scan_numbered, answers_text, answered}
+use Rattle.std.proofs.Common.{Err, inr, refl, arith}
+use Rattle.std.proofs.lemmas.Result.{err_from_is_err_and}
+use Rattle.tre_parse.specs.declared.fault.ParseFault.TheVariants.{TooLong}
+use Rattle.tre_parse.specs.Outcome.{refused}
+use Rattle.tre_parse.proofs.Agreement.{scanned_outcome, outcome_meant, answer_meant}
+use Rattle.tre_parse.proofs.Judging.{scan_numbered, answers_text, answered, long_outcome, bad_outcome}
 use Rattle.tre_parse.proofs.Spelling.{answer_spells}
 use Rattle.tre_parse.proofs.parser.parse.Goals as goal
 
@@ -9,12 +13,43 @@ parse_words-requires c = scan_numbered c.args.scale c.args.text.now c.in_ok-scan
 
 pub returns : goal.returns
 returns c =
+    let scale = c.args.scale in
+    let text = c.args.text.now in
     let answer = c.parse_words.result in
-    let answers = answers_text c.args.scale c.args.text.now c.in_ok-scan.scan answer
+    let answers = answers_text scale text c.in_ok-scan.scan answer
     (omega arith) c.in_ok-scan.ensures.ok c.parse_words.ensures in
     record {
-      spelling = answer_spells c.args.scale c.args.text.now answer answers;
-      outcome = answers;
-      only = λ outcome h. answered c.args.scale c.args.text.now outcome answer answers h;
+      spelling = answer_spells scale text answer answers;
+      outcome = answer_meant scale text answer answers;
+      only = λ outcome h. answered scale text outcome answer answers
+          (scanned_outcome scale text outcome h);
       too_long = λ long. absurd (omega (arith, long));
     }
+
+pub returns-then-text-gt-TEXT_MAX : goal.returns-then-text-gt-TEXT_MAX
+returns-then-text-gt-TEXT_MAX c =
+    let scale = c.args.scale in
+    let text = c.args.text.now in
+    let is = long_outcome scale text (omega arith) in
+    record {
+      spelling = tt;
+      outcome = inr (outcome_meant scale text (refused TooLong) is);
+      only = λ outcome h. answered scale text outcome (Err TooLong) (inr is)
+          (scanned_outcome scale text outcome h);
+      too_long = λ long. refl;
+    }
+
+pub returns-in_err-scan : goal.returns-in_err-scan
+returns-in_err-scan c =
+    let p = err_from_is_err_and c.from_residual.result c.from_residual.ensures.1 in
+    let scale = c.args.scale in
+    let text = c.args.text.now in
+    let fault = c.in_err-scan.field-0.0 in
+    let is = bad_outcome scale text fault (omega arith) c.in_err-scan.ensures.err in
+    rw (p.1, p.2) (record {
+      spelling = tt;
+      outcome = answer_meant scale text (Err fault) is;
+      only = λ outcome h. answered scale text outcome (Err fault) is
+          (scanned_outcome scale text outcome h);
+      too_long = λ long. absurd (omega (arith, long));
+    })
