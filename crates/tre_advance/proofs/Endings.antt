@@ -1,6 +1,6 @@
 -- What a mark stands for where nothing more comes than a tail, form by form.
 use Rattle.std.proofs.Common.{◌≡◌, ℕ, ◌*◌, ◌<◌, ◌≤◌, List, [], ◌∷◌, ◌++◌, Option, None, ⊎_elim, inl, inr, refl, sym, subst, arith}
-use Rattle.std.proofs.Math.Nat.{mul-le-mul_right}
+use Rattle.std.proofs.Math.Nat.{mul-le-mul_right, mul-pos}
 use Rattle.tre_pairs.specs.Cuts.{JoinedAt}
 use Rattle.tre_pairs.specs.Pairs.{Pairs, Composed, Either, Both, Lasting}
 use Rattle.tre_pairs.proofs.Agreement.{Agree-Both, Agree-Composed, Agree-Lasting}
@@ -21,6 +21,7 @@ use Rattle.tre_mark.specs.Marked.{EndBetween, GoesOn, Marked, IsBegun, IsWellAt}
 use Rattle.tre_mark.proofs.Agreeing.{agree_refl, agree_sym, agree_then, agree_composed, agree_either, joined_composed}
 use Rattle.tre_mark.proofs.Growth.{mark_ends}
 use Rattle.tre_mark.proofs.Meanings.{around_present}
+use Rattle.tre_advance.specs.Moves.{AreAmong}
 use Rattle.tre_advance.specs.Tail.{TellsMarked, tail_start, tail_end, rest_of_tail}
 use Rattle.tre_advance.specs.declared.tail.Tail.{Tail}
 use Rattle.tre_advance.specs.declared.tail.Tail.TheVariants.{Over, End}
@@ -239,27 +240,24 @@ module _ (tail : Tail) where
     atom_between (repetition f) well = absurd well.well
     atom_between (restriction f ends) well = absurd well.well
 
-    module _ (old one two three : List ZoneBounds) (x : Atom)
-        (well : IsWellAt T (atom_mark here begun) (atom x))
-        (first : (before : Option ℕ) → IsSetOf one (Either (Held old)
-        (Composed (Held here) (MatchesRest (atom x) (R before)))))
-        (is : two ≡ one ++ begun)
-        (last : (before : Option ℕ) → IsSetOf three (Either (Held two)
-        (Composed (Held begun) (MatchesRest (atom x) (R before))))) where
-      tells_atom : TellsMarked (atom_mark here begun) (atom x) tail old three
-      tells_atom = record {
+    module _ (old new : List ZoneBounds) where
+      -- What the zones hold then.
+      abbrev TellsAll : PatternTree → Type 0
+      TellsAll tree = (before : Option ℕ) → IsSetOf new (Either (Either (Either (Held old)
+          (Composed (Held here) (MatchesRest tree (R before)))) (Held begun))
+          (Composed (Held begun) (MatchesRest tree (R before))))
+
+      tells_atom : (x : Atom) → IsWellAt T (atom_mark here begun) (atom x) → TellsAll (atom x)
+          → TellsMarked (atom_mark here begun) (atom x) tail old new
+      tells_atom x well all = record {
         set = λ before.
             let M = MatchesRest (atom x) (R before) in
             let C = Composed (Held begun) M in
-            let second : IsSetOf two (Either (Held one) (Held begun)) =
-            subst (λ (list : List ZoneBounds). IsSetOf list (Either (Held one) (Held begun)))
-            (sym is) (held_append one begun) in
             let joined = agree_sym (joined_composed T here M well.well.0
             (Scales-rest (atom x) (R before))) in
-            set_of (agree_then (set_agrees (last before))
-            (agree_then (agree_either (agree_then (set_agrees second)
-            (agree_either (agree_then (set_agrees (first before))
-            (agree_either (agree_refl (Held old)) joined)) (agree_refl (Held begun))))
+            set_of (agree_then (set_agrees (all before))
+            (agree_then (agree_either (agree_either
+            (agree_either (agree_refl (Held old)) joined) (agree_refl (Held begun)))
             (agree_refl C))
             (agree_then either_assoc
             (agree_then (agree_either
@@ -268,22 +266,58 @@ module _ (tail : Tail) where
             either_assoc))));
       }
 
-    -- The mark of an atom is well for no other form.
-    pub tells_atomic : (old one two three : List ZoneBounds) (tree : PatternTree)
-        → IsWellAt T (atom_mark here begun) tree
-        → ((before : Option ℕ) → IsSetOf one (Either (Held old)
-        (Composed (Held here) (MatchesRest tree (R before)))))
-        → two ≡ one ++ begun
-        → ((before : Option ℕ) → IsSetOf three (Either (Held two)
+      -- The mark of an atom is well for no other form.
+      pub tells_atomic : (tree : PatternTree) → IsWellAt T (atom_mark here begun) tree
+          → TellsAll tree → TellsMarked (atom_mark here begun) tree tail old new
+      tells_atomic (atom x) well all = tells_atom x well all
+      tells_atomic (sequence f g) well all = absurd well.well
+      tells_atomic (alternation f g) well all = absurd well.well
+      tells_atomic (intersection f g) well all = absurd well.well
+      tells_atomic (repetition f) well all = absurd well.well
+      tells_atomic (restriction f ends) well all = absurd well.well
+
+    -- What has begun is followed first, and then put. What is here is followed last, or is among
+    -- what has begun.
+    module _ (old one two : List ZoneBounds) (tree : PatternTree)
+        (first : (before : Option ℕ) → IsSetOf one (Either (Held old)
         (Composed (Held begun) (MatchesRest tree (R before)))))
-        → TellsMarked (atom_mark here begun) tree tail old three
-    tells_atomic old one two three (atom x) well first is last =
-        tells_atom old one two three x well first is last
-    tells_atomic old one two three (sequence f g) well first is last = absurd well.well
-    tells_atomic old one two three (alternation f g) well first is last = absurd well.well
-    tells_atomic old one two three (intersection f g) well first is last = absurd well.well
-    tells_atomic old one two three (repetition f) well first is last = absurd well.well
-    tells_atomic old one two three (restriction f ends) well first is last = absurd well.well
+        (second : IsSetOf two (Either (Held one) (Held begun))) where
+      pub begun_first : (new : List ZoneBounds)
+          → ((before : Option ℕ) → IsSetOf new (Either (Held two)
+          (Composed (Held here) (MatchesRest tree (R before)))))
+          → TellsAll old new tree
+      begun_first new last before = record {
+        pairs = λ a b n some.
+            let f = (first before).pairs a b n some in
+            let g = second.pairs a b n some in
+            let k = (last before).pairs a b n some in (
+              (λ h. ⊎_elim (λ x. ⊎_elim
+                  (λ y. ⊎_elim (λ z. inl (inl (inl z))) (λ z. inr z) (f.0 y))
+                  (λ y. inl (inr y)) (g.0 x))
+                  (λ x. inl (inl (inr x))) (k.0 h)),
+              (λ h. ⊎_elim (λ x. ⊎_elim
+                  (λ y. ⊎_elim (λ z. k.1 (inl (g.1 (inl (f.1 (inl z)))))) (λ z. k.1 (inr z)) y)
+                  (λ y. k.1 (inl (g.1 (inr y)))) x)
+                  (λ x. k.1 (inl (g.1 (inl (f.1 (inr x)))))) h),
+            );
+      }
+
+      pub begun_alone : AreAmong here begun → TellsAll old two tree
+      begun_alone among = begun_first two (λ before. record {
+        pairs = λ a b n some.
+            let f = (first before).pairs a b n some in
+            let g = second.pairs a b n some in (
+              (λ h. inl h),
+              (λ h. ⊎_elim (λ x. x) (λ z. g.1 (inl (f.1 (inr (record {
+                factor = z.factor;
+                positive = z.positive;
+                midpoint = z.midpoint;
+                left = among.each (z.factor * a) z.midpoint (z.factor * n)
+                    (mul-pos z.positive some) z.left;
+                right = z.right;
+              }))))) h),
+            );
+      })
 
   -- ---- sequences and alternations
 

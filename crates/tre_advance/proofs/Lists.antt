@@ -1,12 +1,14 @@
 -- Lists of zones that are put behind others.
-use Rattle.std.proofs.Common.{◌≡◌, ◌↔◌, ◌∙◌, ℕ, ◌+◌, ◌<◌, ◌≤◌, List, [], ◌∷◌, ◌++◌, length, get_or, slice_index_or, take, Option, Some, None, IfSome, inl, inr, ⊎_elim, ap, refl, sym, subst, arith}
+use Rattle.std.proofs.Common.{◌≡◌, ◌↔◌, ◌∙◌, ℕ, ◌+◌, ◌*◌, ◌<◌, ◌≤◌, List, [], ◌∷◌, ◌++◌, length, get_or, slice_index_or, take, Option, Some, None, IfSome, inl, inr, ⊎_elim, ap, refl, sym, subst, arith}
+use Rattle.std.proofs.lemmas.Bool.{cases_lt}
 use Rattle.std.proofs.lemmas.List.{append_assoc, take_all, take_more}
 use Rattle.std.proofs.Math.Nat.{mul-le-mul_right}
 use Rattle.tre_pairs.specs.Pairs.{Pairs, Either, Both}
 use Rattle.tre_pairs.proofs.Laws.{Agree}
 use Rattle.tre_zone.specs.Held.{Held, IsLatest, IsSetOf}
 use Rattle.tre_zone.specs.Interval.{IntervalEnds}
-use Rattle.tre_zone.specs.Zone.{ZoneHolds, EndsAt, HasNoPair, Includes, IsCanonical, IsZoneOf}
+use Rattle.tre_zone.specs.Zone.{ZoneHolds, EndsAt, HasNoPair, Includes, IsCanonical, IsInstantBetween, IsZoneOf}
+use Rattle.tre_zone.specs.Longest.{AllLastUpTo}
 use Rattle.tre_zone.specs.United.{GivesUnion}
 use Rattle.tre_zone.specs.ZoneList.{SetHolds, AreCanonical, HoldExactly}
 use Rattle.tre_zone.specs.declared.zone_bounds.ZoneBounds.{ZoneBounds}
@@ -121,30 +123,34 @@ pub adds_weaker : {old new : List ZoneBounds} {P Q : List ZoneBounds → Type 0}
     → ((x : List ZoneBounds) → P x → Q x) → Adds old new Q
 adds_weaker f weaker = record { added = f.added; is = f.is; what = weaker f.added f.what }
 
-module _ (starts here enter new : List ZoneBounds) where
-  abbrev Three : Pairs
-  Three = Either (Either (Held starts) (Held here)) (Held enter)
+-- Where the zones are among those that were there, nothing is put.
+pub put_none : (old zones : List ZoneBounds) → AreAmong zones old
+    → IsSetOf old (Either (Held old) (Held zones))
+put_none old zones among = record {
+  pairs = λ a b n some.
+      ((λ h. inl h), (λ h. ⊎_elim (λ x. x) (λ x. among.each a b n some x) h));
+}
 
-  pub put_all : new ≡ (starts ++ here) ++ enter → IsSetOf new Three
-  put_all is = subst (λ (list : List ZoneBounds). IsSetOf list Three) (sym is) (record {
-    pairs = λ a b n some.
-        let f = (held_append (starts ++ here) enter).pairs a b n some in
-        let g = (held_append starts here).pairs a b n some in (
-          (λ h. ⊎_elim (λ x. inl (g.0 x)) (λ x. inr x) (f.0 h)),
-          (λ h. ⊎_elim (λ x. f.1 (inl (g.1 x))) (λ x. f.1 (inr x)) h),
-        );
-  })
+pub put_after : (old zones new : List ZoneBounds) → new ≡ old ++ zones
+    → IsSetOf new (Either (Held old) (Held zones))
+put_after old zones new is =
+    subst (λ (list : List ZoneBounds). IsSetOf list (Either (Held old) (Held zones))) (sym is)
+    (held_append old zones)
 
-  pub put_among : new ≡ starts ++ enter → AreAmong here enter → IsSetOf new Three
-  put_among is among = subst (λ (list : List ZoneBounds). IsSetOf list Three) (sym is) (record {
-    pairs = λ a b n some.
-        let g = (held_append starts enter).pairs a b n some in (
-          (λ h. ⊎_elim (λ y. inl (inl y)) (λ y. inr y) (g.0 h)),
-          (λ h. ⊎_elim (λ x. ⊎_elim (λ y. g.1 (inl y))
-              (λ y. g.1 (inr (among.each a b n some y))) x)
-              (λ x. g.1 (inr x)) h),
-        );
-  })
+-- What enters was put before what is here.
+pub put_late : (starts here enter mid new : List ZoneBounds) → mid ≡ starts ++ enter
+    → IsSetOf new (Either (Held mid) (Held here))
+    → IsSetOf new (Either (Either (Held starts) (Held here)) (Held enter))
+put_late starts here enter mid new is set = record {
+  pairs = λ a b n some.
+      let f = set.pairs a b n some in
+      let g = (put_after starts enter mid is).pairs a b n some in (
+        (λ h. ⊎_elim (λ x. ⊎_elim (λ y. inl (inl y)) (λ y. inr y) (g.0 x))
+            (λ x. inl (inr x)) (f.0 h)),
+        (λ h. ⊎_elim (λ x. ⊎_elim (λ y. f.1 (inl (g.1 (inl y)))) (λ y. f.1 (inr y)) x)
+            (λ x. f.1 (inl (g.1 (inr x)))) h),
+      );
+}
 
 -- A list of one zone.
 pub zone_alone : (old new : List ZoneBounds) (zone : ZoneBounds) (R : Pairs) → old ≡ []
@@ -253,6 +259,97 @@ ended_before zone last time latest before = record {
       let at = h.right.ends in
       omega (arith, end, finer, at, some);
 }
+
+-- Of moments that have one at the time, that one ends there.
+pub one_moment : (zone moment : ZoneBounds) (time : ℕ)
+    → ((a b n : ℕ) → 0 < n → ZoneHolds moment a b n ↔ IsInstantBetween time time a b n)
+    → AllLastUpTo (Some 0) zone × Includes zone moment
+    → IsZoneOf moment (Both (ZoneHolds zone) (EndsAt time))
+one_moment zone moment time held known = record {
+  exact = λ a b n some le.
+      let same = held a b n some in (
+        (λ h.
+            let at = same.0 h in
+            let begins = at.starts in
+            let ends = at.ends in
+            let alike = at.same in
+            record {
+              left = known.1.every a b n some le h;
+              right = record { ends = omega (arith, begins, ends, alike) };
+            }),
+        (λ h.
+            let lasts = (known.0.each a b n some le h.left).within in
+            let ends = h.right.ends in
+            same.1 (record {
+              starts = omega (arith, lasts, ends, le);
+              same = omega (arith, lasts, le);
+              ends = omega (arith, ends);
+            })),
+      );
+}
+
+-- A list of one zone.
+pub one_zone : (zones : List ZoneBounds) (zone : ZoneBounds) → 1 ≤ length zones
+    → length zones < 2 → zone ≡ slice_index_or zones 0 zone → zones ≡ zone ∷ []
+one_zone [] zone least most is = absurd (omega arith)
+one_zone (first ∷ []) zone least most is = ap (λ x. x ∷ []) (sym is)
+one_zone (first ∷ second ∷ zones) zone least most is = absurd (omega arith)
+
+-- Of two lists of one zone each.
+pub union_found : (outer enter : List ZoneBounds) (old new : ZoneBounds) → outer ≡ old ∷ []
+    → enter ≡ new ∷ [] → (found : Option ZoneBounds)
+    → IfSome found (λ whole. IsZoneOf whole (Either (ZoneHolds old) (ZoneHolds new)))
+    → IfSome found (λ whole. IsSetOf (whole ∷ []) (Either (Held outer) (Held enter)))
+union_found outer enter old new is is' None gives = tt
+union_found outer enter old new is is' (Some whole) gives = record {
+  pairs = λ a b n some.
+      let all = holds_alone (whole ∷ []) whole refl a b n in
+      let first = holds_alone outer old is a b n in
+      let second = holds_alone enter new is' a b n in (
+        (λ h. ⊎_elim (λ x. inl (record { rising = h.rising; held = first.0 x }))
+            (λ x. inr (record { rising = h.rising; held = second.0 x }))
+            ((gives.exact a b n some h.rising).0 (all.1 h.held))),
+        (λ h. ⊎_elim
+            (λ x. record {
+              rising = x.rising;
+              held = all.0 ((gives.exact a b n some x.rising).1 (inl (first.1 x.held)));
+            })
+            (λ x. record {
+              rising = x.rising;
+              held = all.0 ((gives.exact a b n some x.rising).1 (inr (second.1 x.held)));
+            }) h),
+      );
+}
+
+-- One zone in the place of all.
+pub one_put : (old new : List ZoneBounds) (zone : ZoneBounds) (R : Pairs) → old ≡ []
+    → new ≡ old ++ zone ∷ [] → IsSetOf (zone ∷ []) R → IsSetOf new R
+one_put old new zone R none is set =
+    subst (λ (list : List ZoneBounds). IsSetOf list R)
+    (sym (is ∙ ap (λ list. list ++ zone ∷ []) none)) set
+
+-- Moments up to a time, and those from then on.
+pub moments_joined : (old new whole first last : ZoneBounds) (from begin end : ℕ)
+    → ((a b n : ℕ) → 0 < n → ZoneHolds whole a b n ↔ IsInstantBetween from end a b n)
+    → ((a b n : ℕ) → 0 < n → ZoneHolds first a b n ↔ IsInstantBetween from begin a b n)
+    → ((a b n : ℕ) → 0 < n → ZoneHolds last a b n ↔ IsInstantBetween begin end a b n)
+    → Includes old first × Includes new last → Includes whole old × Includes whole new
+    → IsZoneOf whole (Either (ZoneHolds old) (ZoneHolds new))
+moments_joined old new whole first last from begin end all early late has in_all =
+    record {
+      exact = λ a b n some le. (
+        (λ h.
+            let at = (all a b n some).0 h in
+            let same = at.same in
+            ⊎_elim
+            (λ before. inl (has.0.every a b n some le ((early a b n some).1
+            (record { starts = at.starts; same = same; ends = omega (arith, before, same) }))))
+            (λ later. inr (has.1.every a b n some le ((late a b n some).1
+            (record { starts = omega (arith, later); same = same; ends = at.ends }))))
+            (cases_lt a (begin * n))),
+        (λ h. ⊎_elim (λ x. in_all.0.every a b n some le x) (λ x. in_all.1.every a b n some le x) h),
+      );
+    }
 
 pub two_found : (zones : List ZoneBounds) (one other : ZoneBounds) → 2 ≤ length zones
     → length zones < 3 → one ≡ slice_index_or zones 0 one → other ≡ slice_index_or zones 1 other

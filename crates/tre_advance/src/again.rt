@@ -13,7 +13,7 @@ ghost use Rattle.tre_mark.specs.Marked.{EndBetween};
 ghost use Rattle.tre_edges.specs.Piece.{end_of_piece, rest_of_piece};
 ghost use Rattle.tre_advance.specs.Taking.{IsAtomMark, TakesHere};
 
-use crate::vectors::{all_among, gather_each, is_none, known, prune};
+use crate::vectors::{gather_each, is_none, known, prune, put_behind, put_missing};
 use std::alloc::{AllocError, Global};
 use tre_edges::Piece;
 use tre_mark::Mark;
@@ -23,7 +23,8 @@ use tre_syntax::Expr;
 use tre_zone::Zone;
 use tre_zoneset::ZoneSet;
 
-/// Adds the pairs that are here and those that enter.
+/// Adds the pairs that are here and those that enter. Mostly what is here is among what ended and
+/// what enters.
 pub fn put_starts(
     here: &[Zone],
     entering: &[Zone],
@@ -32,13 +33,8 @@ pub fn put_starts(
     ensures { OnOk result (IsSetOf starts.new.items
         (Either (Either (Held starts.old.items) (Held here.now)) (Held entering.now))) }
 {
-    if all_among(here, entering) {
-        starts.extend_from_slice(entering)?;
-        return Ok(());
-    }
-    starts.extend_from_slice(here)?;
-    starts.extend_from_slice(entering)?;
-    Ok(())
+    put_behind(starts, entering)?;
+    put_missing(starts, here)
 }
 
 /// What is here of an atom is put behind what is here.
@@ -49,7 +45,7 @@ pub fn take_here(mark: &mut Mark, here: &mut Vec<Zone>) -> Result<(), AllocError
 {
     match mark {
         Mark::Atom { here: late, .. } => {
-            here.extend_from_slice(late)?;
+            put_behind(here, late)?;
             late.clear();
             Ok(())
         }

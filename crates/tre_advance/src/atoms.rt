@@ -12,7 +12,7 @@ ghost use Rattle.tre_advance.specs.Adds.{Adds};
 ghost use Rattle.tre_advance.specs.Advance.{Advances};
 ghost use Rattle.tre_advance.specs.Moves.{TellsAtom, HoldsOnOver, IsBriefTree, IsLiteralTree};
 
-use crate::vectors::{all_among, gather_behind, keep_ending, known, unite_ending};
+use crate::vectors::{all_among, gather_behind, keep_ending, known, put_behind, unite_ending};
 use std::alloc::{AllocError, Global};
 use tre_edges::{Piece, event_in, fall_in, literal_in, moments_in, rise_in};
 use tre_syntax::Expr;
@@ -41,7 +41,7 @@ pub fn advance_brief(
     mid.clear();
     tell_atom(here, begun, expr, entering, piece, mid)?;
     keep_ending(here, entering, piece.begin + piece.segment.len)?;
-    told.extend_from_slice(mid)?;
+    put_behind(told, mid)?;
     Ok(())
 }
 
@@ -70,7 +70,7 @@ pub fn advance_literal(
     tell_atom(here, begun, expr, entering, piece, mid)?;
     keep_ending(here, entering, end)?;
     unite_ending(alloc, begun, mid, end)?;
-    told.extend_from_slice(mid)?;
+    put_behind(told, mid)?;
     Ok(())
 }
 
@@ -91,10 +91,7 @@ fn tell_atom(
         told.new.items) }
 {
     match inside_of(expr, piece) {
-        None => {
-            told.extend_from_slice(begun)?;
-            Ok(())
-        }
+        None => { put_behind(told, begun) }
         Some(inside) => gather_all(here, begun, entering, &inside, piece, told),
     }
 }

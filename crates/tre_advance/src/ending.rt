@@ -14,7 +14,9 @@ ghost use Rattle.tre_advance.specs.Tail.{TellsMarked, tail_start};
 
 use crate::instances::gather_within;
 use crate::tail::{Tail, gather_followed, repeat_over};
-use crate::vectors::{gather_each, gather_meets, is_none, known};
+use crate::vectors::{
+    all_among, gather_each, gather_meets, is_none, known, put_behind, put_missing,
+};
 use std::alloc::{AllocError, Global};
 use tre_mark::{Mark, copied};
 use tre_syntax::Expr;
@@ -86,9 +88,12 @@ fn ending_atom(
 {
     match mark {
         Mark::Atom { here, begun, .. } => {
-            gather_followed(alloc, here, expr, tail, found)?;
-            found.extend_from_slice(begun)?;
-            gather_followed(alloc, begun, expr, tail, found)
+            gather_followed(alloc, begun, expr, tail, found)?;
+            put_missing(found, begun)?;
+            if all_among(here, begun) {
+                return Ok(());
+            }
+            gather_followed(alloc, here, expr, tail, found)
         }
         _ => unreachable!(),
     }
@@ -174,8 +179,7 @@ fn ending_repetition(
             let mut starts = copied(alloc, here)?;
             ending(alloc, inner, body, tail, &mut starts)?;
             repeat_over(alloc, body, tail, &mut starts)?;
-            found.extend_from_slice(&starts)?;
-            Ok(())
+            put_behind(found, &starts)
         }
         _ => unreachable!(),
     }

@@ -1,10 +1,11 @@
 // What an intersection or a restriction tells that has begun, and what is left of it.
-ghost use Rattle.std.specs.Prelude.{◌≡◌, ◌≤◌, ◌↔◌, All, List, [], IsTrue, OnOk};
+ghost use Rattle.std.specs.Prelude.{◌≡◌, ◌≤◌, ◌↔◌, All, List, [], ◌∷◌, IfSome, IsTrue, OnOk};
 ghost use Rattle.tre_pairs.specs.Pairs.{Composed, Either, Both, Lasting};
 ghost use Rattle.tre_syntax.specs.Expr.{tree_of};
 ghost use Rattle.tre_syntax.specs.PatternTree.{PatternTree, intersection, restriction};
 ghost use Rattle.tre_zone.specs.Interval.{IntervalEnds, LastsWithin};
 ghost use Rattle.tre_zone.specs.Held.{Held, EndBy, IsLatest, IsSetOf};
+ghost use Rattle.tre_zone.specs.Zone.{ZoneHolds, Includes, IsZoneOf};
 ghost use Rattle.tre_zone.specs.ZoneList.{SetHolds, HoldExactly};
 ghost use Rattle.tre_zone.specs.declared.zone_bounds.ZoneBounds.{ZoneBounds};
 ghost use Rattle.tre_edges.specs.Piece.{end_of_piece};
@@ -16,7 +17,7 @@ ghost use Rattle.tre_advance.specs.Instances.{IsRestriction, IsIntersection, Lea
 ghost use Rattle.tre_advance.specs.Moves.{AreMomentsFor, AreInstants};
 
 use crate::shortening::{keep_recent, shorten};
-use crate::vectors::{gather_each, gather_meets, is_none, known, unite};
+use crate::vectors::{gather_each, gather_meets, is_none, known, put_behind, unite};
 use std::alloc::{AllocError, Global};
 use tre_edges::Piece;
 use tre_mark::{Mark, Room};
@@ -74,7 +75,7 @@ pub fn moments_for(
 {
     moments.clear();
     if are_instants(entering) {
-        moments.extend_from_slice(entering)?;
+        put_behind(moments, entering)?;
         return Ok(());
     }
     moments.push(Zone::instants(piece.begin, piece.begin + piece.segment.len))?;
@@ -93,12 +94,80 @@ fn are_instants(zones: &[Zone]) -> bool
 }
 
 // The pairs behind which something began before or begins in the piece.
-fn enter_outer(alloc: Global, outer: &mut Vec<Zone>, entering: &[Zone]) -> Result<(), AllocError>
+fn enter_outer(
+    alloc: Global,
+    outer: &mut Vec<Zone>,
+    entering: &[Zone],
+    piece: &Piece,
+) -> Result<(), AllocError>
     ensures { OnOk result (IsSetOf outer.new.items
         (Either (Held outer.old.items) (Held entering.now))) }
 {
-    outer.extend_from_slice(entering)?;
-    unite(alloc, outer)
+    match all_moments(outer, entering, piece) {
+        Some(whole) => {
+            outer.clear();
+            outer.push(whole)?;
+            Ok(())
+        }
+        None => {
+            put_behind(outer, entering)?;
+            unite(alloc, outer)
+        }
+    }
+}
+
+// Where nothing comes before, it began at each moment from some time on, and begins at each of the
+// piece: these are one zone.
+fn all_moments(outer: &[Zone], entering: &[Zone], piece: &Piece) -> Option<Zone>
+    ensures { IfSome result (λ whole.
+        IsSetOf (whole ∷ []) (Either (Held outer.now) (Held entering.now))) }
+{
+    match only(outer) {
+        Some(old) => match only(entering) {
+            Some(new) => moments_of_both(&old, &new, piece),
+            None => None,
+        },
+        None => None,
+    }
+}
+
+#[inline(always)]
+fn only(zones: &[Zone]) -> Option<Zone>
+    ensures { IfSome result (λ zone. zones.now ≡ zone ∷ []) }
+{
+    match zones {
+        [zone] => Some(*zone),
+        _ => None,
+    }
+}
+
+// The zone of both, where one has the moments from some time to the piece and the other those of
+// the piece.
+#[inline(always)]
+fn moments_of_both(old: &Zone, new: &Zone, piece: &Piece) -> Option<Zone>
+    ensures { IfSome result (λ whole.
+        IsZoneOf whole (Either (ZoneHolds old.now) (ZoneHolds new.now))) }
+{
+    let from = old.bounds().begin_low.value().unsigned_abs();
+    if from > piece.begin {
+        return None;
+    }
+    let end = piece.begin + piece.segment.len;
+    let whole = Zone::instants(from, end);
+    let first = Zone::instants(from, piece.begin);
+    let last = Zone::instants(piece.begin, end);
+    if have(old, &first, new, &last) && have(&whole, old, &whole, new) {
+        return Some(whole);
+    }
+    None
+}
+
+// Whether each of two zones includes the zone behind it.
+#[inline(always)]
+fn have(one: &Zone, first: &Zone, other: &Zone, second: &Zone) -> bool
+    ensures { IsTrue result → Includes one.now first.now × Includes other.now second.now }
+{
+    one.includes(first) && other.includes(second)
 }
 
 /// A restriction goes on as its body does, behind what was there and what enters. The body told
@@ -125,9 +194,9 @@ pub fn go_on_lasting(
         (restriction_of to.new outer.new.items (mark_of inner.new)))) }
 {
     let end = piece.begin + piece.segment.len;
-    enter_outer(alloc, outer, entering)?;
+    enter_outer(alloc, outer, entering, piece)?;
     tell_lasting(outer, room, interval)?;
-    told.extend_from_slice(&room.mid)?;
+    put_behind(told, &room.mid)?;
     leave_lasting(to, outer, inner, room, interval, end)?;
     Ok(())
 }
@@ -264,9 +333,9 @@ pub fn go_on_both(
         (intersection_of to.new outer.new.items (mark_of one.now) (mark_of other.now)))) }
 {
     let end = piece.begin + piece.segment.len;
-    enter_outer(alloc, outer, entering)?;
+    enter_outer(alloc, outer, entering, piece)?;
     tell_both(outer, room)?;
-    told.extend_from_slice(&room.mid)?;
+    put_behind(told, &room.mid)?;
     keep_both(to, outer, one, other, end);
     Ok(())
 }

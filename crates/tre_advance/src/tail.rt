@@ -13,7 +13,7 @@ ghost use Rattle.tre_mark.specs.Marked.{EndBetween};
 ghost use Rattle.tre_advance.specs.Tail.{tail_start, tail_end, rest_of_tail};
 
 use crate::again::repeat;
-use crate::vectors::{gather_each, is_none, known};
+use crate::vectors::{gather_each, is_none, known, put_behind};
 use std::alloc::{AllocError, Global};
 use tre_edges::Piece;
 use tre_offline::{local, matches_at_end};
@@ -80,8 +80,7 @@ fn gather_at_end(
         (MatchesRest (tree_of expr.now) (rest_of time before (timeline_of [] events)))))) }
 {
     if matches_at_end(expr, events) {
-        found.extend_from_slice(first)?;
-        return Ok(());
+        return put_behind(found, first);
     }
     Ok(())
 }

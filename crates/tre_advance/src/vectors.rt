@@ -1,8 +1,9 @@
 // Small operations on lists of zones, in vectors that stay.
-ghost use Rattle.std.specs.Prelude.{◌≡◌, ◌≤◌, ◌↔◌, [], ◌∷◌, Any, IfSome, IsTrue, OnOk};
+ghost use Rattle.std.specs.Prelude.{◌≡◌, ◌≤◌, ◌↔◌, [], ◌∷◌, ◌++◌, Any, IfSome, IsTrue, OnOk, Some};
 ghost use Rattle.tre_pairs.specs.Pairs.{Composed, Either, Both};
 ghost use Rattle.tre_pairs.specs.declared.TheConstants.{TIME_MAX};
 ghost use Rattle.tre_zone.specs.Held.{Held, IsSetOf};
+ghost use Rattle.tre_zone.specs.Longest.{AllLastUpTo};
 ghost use Rattle.tre_zone.specs.Zone.{ZoneHolds, EndsAt, GivesZone, Includes, IsZoneOf};
 ghost use Rattle.tre_zone.specs.ZoneList.{SetHolds, AreCanonical, HoldExactly};
 ghost use Rattle.tre_advance.specs.Moves.{AreAmong};
@@ -27,6 +28,28 @@ pub fn is_none(zones: &[Zone]) -> bool
     ensures { IsTrue result ↔ (zones.now ≡ []) }
 {
     zones.is_empty()
+}
+
+/// Puts the zones behind those that were found: mostly they are few.
+#[inline(always)]
+pub fn put_behind(found: &mut Vec<Zone>, zones: &[Zone]) -> Result<(), AllocError>
+    ensures { OnOk result (found.new.items ≡ found.old.items ++ zones.now) }
+{
+    for zone in zones {
+        found.push(*zone)?;
+    }
+    Ok(())
+}
+
+/// The same, unless each of them is among those.
+pub fn put_missing(found: &mut Vec<Zone>, zones: &[Zone]) -> Result<(), AllocError>
+    ensures { OnOk result (IsSetOf found.new.items
+        (Either (Held found.old.items) (Held zones.now))) }
+{
+    if all_among(zones, found) {
+        return Ok(());
+    }
+    put_behind(found, zones)
 }
 
 /// Adds the pairs of the first zones, each followed by one of the second.
@@ -78,7 +101,8 @@ fn gather_meet(found: &mut Vec<Zone>, zone: &Zone, others: &[Zone]) -> Result<()
     Ok(())
 }
 
-// The pairs of the zone that end at the time. Where all have ended before, that is seen at once.
+// The pairs of the zone that end at the time. Where all have ended before, or last no time, that is
+// seen at once.
 #[inline(always)]
 fn ending_of(zone: &Zone, time: u64) -> Option<Zone>
     requires { time ≤ TIME_MAX }
@@ -87,7 +111,19 @@ fn ending_of(zone: &Zone, time: u64) -> Option<Zone>
     if zone.latest_end() < time {
         return None;
     }
+    let moment = Zone::instants(time, time);
+    if are_moments_with(zone, &moment) {
+        return Some(moment);
+    }
     zone.ending_at(time)
+}
+
+// Whether the zone is one of moments, and has this one.
+#[inline(always)]
+fn are_moments_with(zone: &Zone, moment: &Zone) -> bool
+    ensures { IsTrue result → AllLastUpTo (Some 0) zone.now × Includes zone.now moment.now }
+{
+    zone.is_up_to(Some(0)) && zone.includes(moment)
 }
 
 // Adds the pairs of the zones that end at the time.

@@ -17,7 +17,7 @@ use crate::atoms::{advance_brief, advance_literal};
 use crate::ending::ending;
 use crate::instances::{go_on_both, go_on_lasting, is_idle, make_ready, moments_for, ready_both};
 use crate::tail::Tail;
-use crate::vectors::{keep_ending, prune};
+use crate::vectors::{keep_ending, prune, put_behind};
 use std::alloc::{AllocError, Global};
 use tre_edges::Piece;
 use tre_mark::{Mark, Room};
@@ -314,9 +314,10 @@ fn advance_body(
     room.mid.clear();
     ending(alloc, inner, body, &Tail::Over(*piece), &mut room.mid)?;
     put_starts(here, entering, &mut room.mid)?;
+    prune(alloc, &mut room.mid)?;
     repeat(alloc, body, piece, &mut room.mid)?;
     keep_ending(here, &room.mid, piece.begin + piece.segment.len)?;
-    told.extend_from_slice(&room.mid)?;
+    put_behind(told, &room.mid)?;
     room.aux.clear();
     advance(alloc, inner, body, &room.mid, piece, &mut room.aux)?;
     Ok(())

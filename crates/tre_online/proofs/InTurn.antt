@@ -49,28 +49,27 @@ HaveBegun-end patterns place sessions begun past =
 
 -- The sessions up to the place have their segments, and were put behind those that have none.
 pub record HaveGone (olds : List Session) (segments : List Segment) (place : ℕ)
-    (queue : List Session) (told : List (List ZoneBounds)) : Type 0 where
+    (queue : List Session) : Type 0 where
   pub gone : List Session
   pub order : queue ≡ drop place olds ++ gone
-  pub goes_on : (news : List Session) (more : List (List ZoneBounds))
-      → GoEach (drop place olds) (drop place segments) news more
-      → GoEach olds segments (gone ++ news) (told ++ more)
+  pub goes_on : (news : List Session) → GoEach (drop place olds) (drop place segments) news
+      → GoEach olds segments (gone ++ news)
   pub refuses : (fault : PushFault)
       → IsRefusedByOne (drop place olds) (drop place segments) fault
       → IsRefusedByOne olds segments fault
 
 pub HaveGone-start : (olds : List Session) (segments : List Segment)
-    → HaveGone olds segments 0 olds []
+    → HaveGone olds segments 0 olds
 HaveGone-start olds segments = record {
   gone = [];
   order = sym (append-nil olds);
-  goes_on = λ news more go. go;
+  goes_on = λ news go. go;
   refuses = λ fault one. one;
 }
 
 module _ (olds : List Session) (segments : List Segment) (place : ℕ) (queue : List Session)
-    (told : List (List ZoneBounds)) (count : length segments ≡ length olds)
-    (now : HaveGone olds segments place queue told) (below : place < length segments) where
+    (count : length segments ≡ length olds) (now : HaveGone olds segments place queue)
+    (below : place < length segments) where
   here : (session : Session) × (drop place olds ≡ session ∷ drop (place + 1) olds)
   here = next_at olds place (omega (arith, below, count))
 
@@ -101,12 +100,10 @@ module _ (olds : List Session) (segments : List Segment) (place : ℕ) (queue : 
         IsRefusedByOne (here.0 ∷ drop (place + 1) olds) list fault) (sym segments_split)
         (inl (refused here.0 (drop (place + 1) olds ++ now.gone) queue_is))))
 
-    pub HaveGone-next : (next : List Session) (sets : List (List ZoneBounds))
-        → IsGivenFirst queue segment next told sets
-        → HaveGone olds segments (place + 1) next sets
-    HaveGone-next next sets first =
+    pub HaveGone-next : (next : List Session) → IsGivenFirst queue segment next
+        → HaveGone olds segments (place + 1) next
+    HaveGone-next next first =
         let new = first.given.next in
-        let zones = first.given.zones in
         let cut : first.first ∷ first.others ≡ here.0 ∷ (drop (place + 1) olds ++ now.gone) =
         sym first.was ∙ queue_is in
         let same : first.first ≡ here.0 = cc in
@@ -117,24 +114,18 @@ module _ (olds : List Session) (segments : List Segment) (place : ℕ) (queue : 
           gone = now.gone ++ new ∷ [];
           order = first.given.behind ∙ ap (λ (list : List Session). list ++ new ∷ []) others
               ∙ append_assoc (drop (place + 1) olds) now.gone (new ∷ []);
-          goes_on = λ news more go.
+          goes_on = λ news go.
               let sessions : now.gone ++ new ∷ news ≡ (now.gone ++ new ∷ []) ++ news =
               sym (append_assoc now.gone (new ∷ []) news) in
-              let tells : told ++ zones ∷ more ≡ sets ++ more =
-              sym (ap (λ (list : List (List ZoneBounds)). list ++ more) first.given.tells
-              ∙ append_assoc told (zones ∷ []) more) in
               let both : GoEach (first.first ∷ drop (place + 1) olds)
-              (segment ∷ drop (place + 1) segments) (new ∷ news) (zones ∷ more) =
-              (first.given.goes, go) in
-              subst (λ (list : List Session). GoEach olds segments list (sets ++ more)) sessions
-              (subst (λ (list : List (List ZoneBounds)).
-              GoEach olds segments (now.gone ++ new ∷ news) list) tells
-              (now.goes_on (new ∷ news) (zones ∷ more)
+              (segment ∷ drop (place + 1) segments) (new ∷ news) = (first.given.goes, go) in
+              subst (λ (list : List Session). GoEach olds segments list) sessions
+              (now.goes_on (new ∷ news)
               (subst (λ (list : List Session).
-              GoEach list (drop place segments) (new ∷ news) (zones ∷ more)) (sym old)
+              GoEach list (drop place segments) (new ∷ news)) (sym old)
               (subst (λ (list : List Segment).
-              GoEach (first.first ∷ drop (place + 1) olds) list (new ∷ news) (zones ∷ more))
-              (sym segments_split) both))));
+              GoEach (first.first ∷ drop (place + 1) olds) list (new ∷ news))
+              (sym segments_split) both)));
           refuses = λ fault one.
               now.refuses fault
               (subst (λ (list : List Session). IsRefusedByOne list (drop place segments) fault)
@@ -145,19 +136,17 @@ module _ (olds : List Session) (segments : List Segment) (place : ℕ) (queue : 
         }
 
 pub HaveGone-end : (olds : List Session) (segments : List Segment) (place : ℕ)
-    (queue : List Session) (told : List (List ZoneBounds)) → HaveGone olds segments place queue told
-    → length segments ≡ length olds → length segments ≤ place → GoEach olds segments queue told
-HaveGone-end olds segments place queue told now count past =
+    (queue : List Session) → HaveGone olds segments place queue
+    → length segments ≡ length olds → length segments ≤ place → GoEach olds segments queue
+HaveGone-end olds segments place queue now count past =
     let none : drop place olds ≡ [] = drop_all place olds (omega (arith, past, count)) in
     let over : drop place segments ≡ [] = drop_all place segments past in
     let sessions : now.gone ++ [] ≡ queue =
     append-nil now.gone ∙ sym (now.order ∙ ap (λ (list : List Session). list ++ now.gone) none) in
-    subst (λ (list : List Session). GoEach olds segments list told) sessions
-    (subst (λ (list : List (List ZoneBounds)). GoEach olds segments (now.gone ++ []) list)
-    (append-nil told)
-    (now.goes_on [] []
-    (subst (λ (list : List Session). GoEach list (drop place segments) [] []) (sym none)
-    (subst (λ (list : List Segment). GoEach [] list [] []) (sym over) tt))))
+    subst (λ (list : List Session). GoEach olds segments list) sessions
+    (now.goes_on []
+    (subst (λ (list : List Session). GoEach list (drop place segments) []) (sym none)
+    (subst (λ (list : List Segment). GoEach [] list []) (sym over) tt)))
 
 -- What the sessions up to the place tell at the end.
 pub record HaveClosed (sessions : List Session) (events : List ℕ) (place : ℕ)

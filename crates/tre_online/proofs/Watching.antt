@@ -1,6 +1,7 @@
 -- What a watch stands for and what it tells, from what each of its sessions does.
-use Rattle.std.proofs.Common.{◌≡◌, ℕ, ◌+◌, length, List, [], ◌∷◌, ◌++◌, map, refl, sym, subst, inl, inr, arith, ◌∙◌}
+use Rattle.std.proofs.Common.{◌≡◌, ℕ, ◌+◌, ◌<◌, ap, get_or, length, take, List, [], ◌∷◌, ◌++◌, map, refl, sym, subst, inl, inr, arith, ◌∙◌}
 use Rattle.std.specs.List.{AllByRecursion}
+use Rattle.std.proofs.lemmas.List.{get_or-map, length-map, take_more}
 use Rattle.tre_syntax.specs.Pattern.{pattern_tree}
 use Rattle.tre_syntax.specs.PatternTree.{PatternTree}
 use Rattle.tre_syntax.specs.declared.pattern.Pattern.{Pattern}
@@ -58,69 +59,47 @@ together_new (pattern ∷ patterns) (session ∷ sessions) new =
     (sym new.0.stands.at) (end_empty (pattern ∷ patterns))
 together_new patterns sessions new = absurd new
 
--- There are as many sessions as before.
-pub as_many : (olds : List Session) (segments : List Segment) (news : List Session)
-    (told : List (List ZoneBounds)) → GoEach olds segments news told
-    → length news ≡ length olds
-as_many [] [] [] [] go = refl
-as_many (old ∷ olds) (segment ∷ segments) (new ∷ news) (zones ∷ told) go =
-    let rest = as_many olds segments news told go.1 in
-    omega (arith, rest)
-as_many olds segments news told go = absurd go
-
 -- Each session then stands for its trace with the segment behind it.
 pub stand_next : (olds : List Session) (segments : List Segment) (news : List Session)
-    (told : List (List ZoneBounds)) (traces : List (List Segment))
-    → GoEach olds segments news told → StandForEach olds traces
+    (traces : List (List Segment)) → GoEach olds segments news → StandForEach olds traces
     → StandForEach news (pushed_each traces segments)
-stand_next [] [] [] [] [] go each = tt
-stand_next [] [] [] [] (trace ∷ traces) go each = absurd each
-stand_next (old ∷ olds) (segment ∷ segments) (new ∷ news) (zones ∷ told) [] go each = absurd each
-stand_next (old ∷ olds) (segment ∷ segments) (new ∷ news) (zones ∷ told) (trace ∷ traces) go each =
-    (go.0.stands trace each.0, stand_next olds segments news told traces go.1 each.1)
-stand_next olds segments news told traces go each = absurd go
+stand_next [] [] [] [] go each = tt
+stand_next [] [] [] (trace ∷ traces) go each = absurd each
+stand_next (old ∷ olds) (segment ∷ segments) (new ∷ news) [] go each = absurd each
+stand_next (old ∷ olds) (segment ∷ segments) (new ∷ news) (trace ∷ traces) go each =
+    (go.0.stands trace each.0, stand_next olds segments news traces go.1 each.1)
+stand_next olds segments news traces go each = absurd go
 
 pub fit_each : (olds : List Session) (segments : List Segment) (news : List Session)
-    (told : List (List ZoneBounds)) (traces : List (List Segment))
-    → GoEach olds segments news told → StandForEach olds traces → FitEach traces segments
-fit_each [] [] [] [] [] go each = tt
-fit_each [] [] [] [] (trace ∷ traces) go each = absurd each
-fit_each (old ∷ olds) (segment ∷ segments) (new ∷ news) (zones ∷ told) [] go each = absurd each
-fit_each (old ∷ olds) (segment ∷ segments) (new ∷ news) (zones ∷ told) (trace ∷ traces) go each =
-    (go.0.fits trace each.0, fit_each olds segments news told traces go.1 each.1)
-fit_each olds segments news told traces go each = absurd go
+    (traces : List (List Segment)) → GoEach olds segments news → StandForEach olds traces
+    → FitEach traces segments
+fit_each [] [] [] [] go each = tt
+fit_each [] [] [] (trace ∷ traces) go each = absurd each
+fit_each (old ∷ olds) (segment ∷ segments) (new ∷ news) [] go each = absurd each
+fit_each (old ∷ olds) (segment ∷ segments) (new ∷ news) (trace ∷ traces) go each =
+    (go.0.fits trace each.0, fit_each olds segments news traces go.1 each.1)
+fit_each olds segments news traces go each = absurd go
 
 pub tell_each : (olds : List Session) (segments : List Segment) (news : List Session)
-    (told : List (List ZoneBounds)) (traces : List (List Segment))
-    → GoEach olds segments news told → StandForEach olds traces
+    (traces : List (List Segment)) → GoEach olds segments news → StandForEach olds traces
     → TellEach (map (λ session. tree_in session) olds) traces segments
-    (map (λ session. ended_of session) olds) told
-tell_each [] [] [] [] [] go each = tt
-tell_each [] [] [] [] (trace ∷ traces) go each = absurd each
-tell_each (old ∷ olds) (segment ∷ segments) (new ∷ news) (zones ∷ told) [] go each = absurd each
-tell_each (old ∷ olds) (segment ∷ segments) (new ∷ news) (zones ∷ told) (trace ∷ traces) go each =
-    (go.0.tells trace each.0, tell_each olds segments news told traces go.1 each.1)
-tell_each olds segments news told traces go each = absurd go
-
-pub ended_next : (olds : List Session) (segments : List Segment) (news : List Session)
-    (told : List (List ZoneBounds)) → GoEach olds segments news told
-    → map (λ session. ended_of session) news ≡ told
-ended_next [] [] [] [] go = refl
-ended_next (old ∷ olds) (segment ∷ segments) (new ∷ news) (zones ∷ told) go =
-    let first = go.0.ended in
-    let rest = ended_next olds segments news told go.1 in
-    cc
-ended_next olds segments news told go = absurd go
+    (map (λ session. ended_of session) olds) (map (λ session. ended_of session) news)
+tell_each [] [] [] [] go each = tt
+tell_each [] [] [] (trace ∷ traces) go each = absurd each
+tell_each (old ∷ olds) (segment ∷ segments) (new ∷ news) [] go each = absurd each
+tell_each (old ∷ olds) (segment ∷ segments) (new ∷ news) (trace ∷ traces) go each =
+    (go.0.tells trace each.0, tell_each olds segments news traces go.1 each.1)
+tell_each olds segments news traces go each = absurd go
 
 pub trees_next : (olds : List Session) (segments : List Segment) (news : List Session)
-    (told : List (List ZoneBounds)) → GoEach olds segments news told
+    → GoEach olds segments news
     → map (λ session. tree_in session) news ≡ map (λ session. tree_in session) olds
-trees_next [] [] [] [] go = refl
-trees_next (old ∷ olds) (segment ∷ segments) (new ∷ news) (zones ∷ told) go =
+trees_next [] [] [] go = refl
+trees_next (old ∷ olds) (segment ∷ segments) (new ∷ news) go =
     let first = go.0.tree in
-    let rest = trees_next olds segments news told go.1 in
+    let rest = trees_next olds segments news go.1 in
     cc
-trees_next olds segments news told go = absurd go
+trees_next olds segments news go = absurd go
 
 -- Traces that end at one time do so with segments of one length behind them.
 end_pushed : (time len : ℕ) (traces : List (List Segment)) (segments : List Segment)
@@ -138,14 +117,14 @@ end_pushed time len [] segments ends alike = tt
 end_pushed time len (trace ∷ traces) [] ends alike = tt
 
 pub together_next : (olds : List Session) (segments : List Segment) (news : List Session)
-    (told : List (List ZoneBounds)) (traces : List (List Segment))
-    → GoEach olds segments news told → StandForEach olds traces → AreAlike segments
+    (traces : List (List Segment))
+    → GoEach olds segments news → StandForEach olds traces → AreAlike segments
     → EndEach (first_at olds) traces → EndEach (first_at news) (pushed_each traces segments)
-together_next [] [] [] [] [] go each alike ends = tt
-together_next [] [] [] [] (trace ∷ traces) go each alike ends = absurd each
-together_next (old ∷ olds) (segment ∷ segments) (new ∷ news) (zones ∷ told) [] go each alike ends =
+together_next [] [] [] [] go each alike ends = tt
+together_next [] [] [] (trace ∷ traces) go each alike ends = absurd each
+together_next (old ∷ olds) (segment ∷ segments) (new ∷ news) [] go each alike ends =
     absurd each
-together_next (old ∷ olds) (segment ∷ segments) (new ∷ news) (zones ∷ told) (trace ∷ traces) go
+together_next (old ∷ olds) (segment ∷ segments) (new ∷ news) (trace ∷ traces) go
     each alike ends =
     let end : end_of 0 (trace ++ segment ∷ []) ≡ end_of 0 trace + segment.len =
     end_of-append 0 trace (segment ∷ []) in
@@ -155,7 +134,7 @@ together_next (old ∷ olds) (segment ∷ segments) (new ∷ news) (zones ∷ to
     let is : at_of old + alike.len ≡ at_of new = cc in
     subst (λ (time : ℕ). EndEach time (pushed_each (trace ∷ traces) (segment ∷ segments))) is
     (end_pushed (at_of old) alike.len (trace ∷ traces) (segment ∷ segments) ends alike.each)
-together_next olds segments news told traces go each alike ends = absurd go
+together_next olds segments news traces go each alike ends = absurd go
 
 -- A refusal looks at the end of the trace and the length of the segment alone.
 carried : (fault : PushFault) (trace other : List Segment) (segment next : Segment)
@@ -206,6 +185,14 @@ module _ (time len : ℕ) (fault : PushFault) where
   refuse_each [] [] (trace ∷ traces) all count each ends alike = absurd each
   refuse_each (session ∷ sessions) (segment ∷ segments) [] all count each ends alike = absurd each
 
+memory_each : (traces : List (List Segment)) (segments : List Segment)
+    → FitEach traces segments → RefuseEach Memory traces segments
+memory_each [] [] fit = tt
+memory_each (trace ∷ traces) (segment ∷ segments) fit =
+    (fit.0, memory_each traces segments fit.1)
+memory_each [] (segment ∷ segments) fit = absurd fit
+memory_each (trace ∷ traces) [] fit = absurd fit
+
 -- One refuses: so there is one, and each refuses.
 none_stands : (sessions : List Session) (segments : List Segment) (traces : List (List Segment))
     (fault : PushFault) → IsRefusedByOne sessions segments fault → StandForEach sessions traces
@@ -225,6 +212,27 @@ refused_each sessions segments traces fault one count alike each ends = record {
       alike.each)
       count each ends alike.each;
   none = λ none. absurd (none_stands sessions segments traces fault one each none);
+}
+
+-- What was told of one more.
+pub told_more : (sessions : List Session) (place : ℕ) (session : Session)
+    → place < length sessions → session ≡ get_or sessions place session
+    → take (place + 1) (map (λ s. ended_of s) sessions)
+    ≡ take place (map (λ s. ended_of s) sessions) ++ ended_of session ∷ []
+told_more sessions place session below is =
+    let all = map (λ (s : Session). ended_of s) sessions in
+    take_more all place (ended_of session)
+    (subst (λ n. place < n) (sym (length-map sessions (λ (s : Session). ended_of s))) below)
+    ∙ ap (λ told. take place all ++ told ∷ [])
+    (get_or-map (λ (s : Session). ended_of s) sessions place session (ended_of session) below
+    ∙ ap (λ (s : Session). ended_of s) (sym is))
+
+-- Where each segment fits, only memory can be wanting.
+pub refused_memory : (traces : List (List Segment)) (segments : List Segment)
+    → FitEach traces segments → AreRefusedFor traces segments Memory
+refused_memory traces segments fit = record {
+  each = memory_each traces segments fit;
+  none = λ none. refl;
 }
 
 pub tell_last_each : (sessions : List Session) (events : List ℕ) (told : List (List ZoneBounds))

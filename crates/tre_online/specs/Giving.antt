@@ -20,39 +20,35 @@ AreNewFor (pattern ∷ patterns) (session ∷ sessions) =
     IsNewFor pattern session × AreNewFor patterns sessions
 AreNewFor patterns sessions = ⊥
 
--- What a segment makes of a session, and what the session tells of it.
-pub record Goes (old : Session) (segment : Segment) (new : Session) (told : List ZoneBounds)
-    : Type 0 where
+-- What a segment makes of a session, which keeps what it tells of it.
+pub record Goes (old : Session) (segment : Segment) (new : Session) : Type 0 where
   pub stands : (trace : List Segment) → StandsFor old trace
       → StandsFor new (trace ++ segment ∷ [])
   pub fits : (trace : List Segment) → StandsFor old trace → Fits trace segment
   pub tells : (trace : List Segment) → StandsFor old trace
-      → TellsNew (pattern_tree (pattern_of old)) trace segment (ended_of old) told
-  pub ended : ended_of new ≡ told
+      → TellsNew (pattern_tree (pattern_of old)) trace segment (ended_of old) (ended_of new)
   pub tree : pattern_tree (pattern_of new) ≡ pattern_tree (pattern_of old)
 
--- The session has its segment. It was put behind others, and what it tells behind what was told.
-pub record IsGiven (session : Session) (segment : Segment) (old new : List Session)
-    (earlier told : List (List ZoneBounds)) : Type 0 where
-  pub next : Session
-  pub zones : List ZoneBounds
-  pub goes : Goes session segment next zones
-  pub behind : new ≡ old ++ next ∷ []
-  pub tells : told ≡ earlier ++ zones ∷ []
+-- The session has its segment. It was put behind others.
+pub record IsGiven (session : Session) (segment : Segment) (old new : List Session) : Type 0
+  where
+    pub next : Session
+    pub goes : Goes session segment next
+    pub behind : new ≡ old ++ next ∷ []
 
 -- The first of the sessions has its segment, and was put behind the others.
-pub record IsGivenFirst (old : List Session) (segment : Segment) (new : List Session)
-    (earlier told : List (List ZoneBounds)) : Type 0 where
-  pub first : Session
-  pub others : List Session
-  pub was : old ≡ first ∷ others
-  pub given : IsGiven first segment others new earlier told
+pub record IsGivenFirst (old : List Session) (segment : Segment) (new : List Session) : Type 0
+  where
+    pub first : Session
+    pub others : List Session
+    pub was : old ≡ first ∷ others
+    pub given : IsGiven first segment others new
 
-abbrev pub GoEach : List Session → List Segment → List Session → List (List ZoneBounds) → Type 0
-GoEach [] [] [] [] = Unit {0}
-GoEach (old ∷ olds) (segment ∷ segments) (new ∷ news) (zones ∷ told) =
-    Goes old segment new zones × GoEach olds segments news told
-GoEach olds segments news told = ⊥
+abbrev pub GoEach : List Session → List Segment → List Session → Type 0
+GoEach [] [] [] = Unit {0}
+GoEach (old ∷ olds) (segment ∷ segments) (new ∷ news) =
+    Goes old segment new × GoEach olds segments news
+GoEach olds segments news = ⊥
 
 -- The session refuses the segment for this fault.
 pub record IsRefusedBy (session : Session) (segment : Segment) (fault : PushFault) : Type 0 where

@@ -136,21 +136,27 @@ impl Session {
         }
     }
 
-    // Reads a segment as `segment` does, and gives the session back with what is told. It needs no
-    // copy of its progress, since after a refusal the session is given up.
-    pub(crate) fn go_on(self, segment: Segment) -> Result<(Session, ZoneSet), PushFault>
+    /// The zones that it told of its last segment: none before the first.
+    pub fn told(&self) -> &ZoneSet
+        ensures { result.now ≡ ended_of self.now }
+    {
+        &self.progress.ended
+    }
+
+    // Reads a segment as `segment` does, and gives the session back: what it tells it keeps. It
+    // needs no copy of its progress, since after a refusal the session is given up.
+    pub(crate) fn go_on(self, segment: Segment) -> Result<Session, PushFault>
         ensures stands { (segments : List Segment) → StandsFor self segments →
-            IfOk result (λ both. StandsFor both.0 (segments ++ segment ∷ [])) }
+            IfOk result (λ then. StandsFor then (segments ++ segment ∷ [])) }
         ensures fits { (segments : List Segment) → StandsFor self segments →
             OnOk result (Fits segments segment) }
         ensures tells { (segments : List Segment) → StandsFor self segments →
-            IfOk result (λ both. TellsNew (pattern_tree (pattern_of self)) segments segment
-            (ended_of self) both.1) }
-        ensures ended { IfOk result (λ both. ended_of both.0 ≡ both.1) }
-        ensures tree { IfOk result (λ both.
-            pattern_tree (pattern_of both.0) ≡ pattern_tree (pattern_of self)) }
-        ensures names { IfOk result (λ both.
-            names_of (pattern_of both.0) ≡ names_of (pattern_of self)) }
+            IfOk result (λ then. TellsNew (pattern_tree (pattern_of self)) segments segment
+            (ended_of self) (ended_of then)) }
+        ensures tree { IfOk result (λ then.
+            pattern_tree (pattern_of then) ≡ pattern_tree (pattern_of self)) }
+        ensures names { IfOk result (λ then.
+            names_of (pattern_of then) ≡ names_of (pattern_of self)) }
         ensures refused { (segments : List Segment) → StandsFor self segments →
             IfErr result (IsRefusedFor segments segment) }
     {
@@ -161,14 +167,11 @@ impl Session {
             mut progress,
         } = self;
         match Session::read(alloc, &pattern, &mut progress, &piece) {
-            Ok(told) => {
-                let session = Session {
-                    alloc,
-                    pattern,
-                    progress,
-                };
-                Ok((session, told))
-            }
+            Ok(()) => Ok(Session {
+                alloc,
+                pattern,
+                progress,
+            }),
             Err(_) => Err(PushFault::Memory),
         }
     }
@@ -221,7 +224,8 @@ impl Session {
         ensures behind { IfOk result (λ both. IsBehind piece.now both.1 (box_value both.0)) }
     {
         let mut copy = self.copied()?;
-        let told = Session::read(self.alloc, &self.pattern, &mut copy, piece)?;
+        Session::read(self.alloc, &self.pattern, &mut copy, piece)?;
+        let told = copy.ended.try_clone()?;
         Ok((copy, told))
     }
 
@@ -244,29 +248,28 @@ impl Session {
         Ok(copy)
     }
 
-    // What is told of the piece, over which the progress goes. Where memory runs out, nothing is
-    // said of it.
+    // The progress goes over the piece, and keeps what is told of it. Where memory runs out, it
+    // isn't known what it is.
     fn read(
         alloc: Global,
         pattern: &Pattern,
         progress: &mut Progress,
         piece: &Piece,
-    ) -> Result<ZoneSet, AllocError>
+    ) -> Result<(), AllocError>
         requires { IsWellAt piece.now.begin (mark_of progress.old.mark) (pattern_tree pattern.now) }
-        ensures reads { IfOk result (λ told. Reads (mark_of progress.old.mark)
-            (pattern_tree pattern.now) progress.old.ended piece.now told
+        ensures reads { OnOk result (Reads (mark_of progress.old.mark)
+            (pattern_tree pattern.now) progress.old.ended piece.now progress.new.ended
             (mark_of progress.new.mark)) }
-        ensures behind { IfOk result (λ told. IsBehind piece.now told progress.new) }
+        ensures behind { OnOk result (IsBehind piece.now progress.new.ended progress.new) }
     {
         let room = mem::replace(&mut progress.room, Vec::new(alloc));
         let found = Session::found(alloc, pattern, &mut progress.mark, piece, room)?;
         let told = not_told(alloc, found, &progress.ended)?;
-        let copy = told.try_clone()?;
-        let earlier = mem::replace(&mut progress.ended, copy);
+        let earlier = mem::replace(&mut progress.ended, told);
         progress.room = earlier.into_zones();
         progress.at = piece.begin + piece.segment.len;
         progress.last = Some(piece.segment.val);
-        Ok(told)
+        Ok(())
     }
 
     // What the mark tells of the piece, over which it goes, as a set made in the room.

@@ -1,5 +1,6 @@
-ghost use Rattle.std.specs.Prelude.{◌≡◌, ◌<◌, ◌++◌, [], ◌∷◌, length, List, OnOk, IfOk, IfErr, slice_get};
+ghost use Rattle.std.specs.Prelude.{◌≡◌, ◌<◌, ◌++◌, [], ◌∷◌, length, List, OnOk, IfOk, IfErr, map, slice_get};
 ghost use Rattle.std.specs.Option.{option_map};
+ghost use Rattle.tre_online.specs.Session.{ended_of};
 ghost use Rattle.tre_online.specs.declared.session.Session.{Session};
 ghost use Rattle.tre_online.specs.Giving.{IsNewFor, AreNewFor, IsGiven, IsGivenFirst, GoEach, IsRefusedBy, IsRefusedByOne, TellEachAtEnd};
 
@@ -21,7 +22,6 @@ pub struct Watch {
 }
 
 impl Watch {
-    ghost use Rattle.std.specs.Prelude.{map};
     ghost use Rattle.tre_syntax.specs.Pattern.{pattern_tree};
     ghost use Rattle.tre_trace.specs.declared.segment.Segment.{Segment};
     ghost use Rattle.tre_online.specs.Watch.{trees_of, ended_of_each, time_of, sets_of, Watches, AreAlike, pushed_each, FitEach, TellEach, TellLastEach, AreRefusedFor};
@@ -56,6 +56,40 @@ impl Watch {
         }
     }
 
+    /// Reads a segment for each pattern, and keeps what each session tells of it. After a refusal
+    /// the watch is of no use.
+    pub fn step(&mut self, segments: &[Segment]) -> Result<(), PushFault>
+        requires count { length segments.now ≡ length (trees_of self.old) }
+        requires alike { AreAlike segments.now }
+        // Whatever traces it stood for, it then stands for these, each with its segment.
+        ensures stands { (traces : List (List Segment)) → Watches self.old traces →
+            OnOk result (Watches self.new (pushed_each traces segments.now)) }
+        ensures fits { (traces : List (List Segment)) → Watches self.old traces →
+            OnOk result (FitEach traces segments.now) }
+        ensures tells { (traces : List (List Segment)) → Watches self.old traces →
+            OnOk result (TellEach (trees_of self.old) traces segments.now
+            (ended_of_each self.old) (ended_of_each self.new)) }
+        ensures trees { OnOk result (trees_of self.new ≡ trees_of self.old) }
+
+        // Each fault comes exactly where it says.
+        ensures refused { (traces : List (List Segment)) → Watches self.old traces →
+            IfErr result (AreRefusedFor traces segments.now) }
+    {
+        give_each(&mut self.sessions, segments)
+    }
+
+    /// What the session of the pattern at this place told last: None exactly where there are fewer
+    /// patterns.
+    pub fn told(&self, place: usize) -> Option<&ZoneSet>
+        ensures { option_map (λ zones. zones.now) result
+            ≡ slice_get (ended_of_each self.now) place }
+    {
+        match self.sessions.get(place) {
+            Some(session) => Some(session.told()),
+            None => None,
+        }
+    }
+
     /// Reads a segment for each pattern, and gives the watch back with what each session tells.
     /// After a refusal the watch is given up.
     pub fn segment(self, segments: &[Segment]) -> Result<(Watch, Told), PushFault>
@@ -76,13 +110,12 @@ impl Watch {
         ensures refused { (traces : List (List Segment)) → Watches self traces →
             IfErr result (AreRefusedFor traces segments.now) }
     {
-        let mut sessions = self.sessions;
-        let sets = give_each(self.alloc, &mut sessions, segments)?;
-        let watch = Watch {
-            alloc: self.alloc,
-            sessions,
-        };
-        Ok((watch, Told { sets }))
+        let mut watch = self;
+        watch.step(segments)?;
+        match told_by_each(watch.alloc, &watch.sessions) {
+            Ok(sets) => Ok((watch, Told { sets })),
+            Err(_) => Err(PushFault::Memory),
+        }
     }
 
     /// The traces have ended, and these events happen at their ends, given for each pattern. Tells
@@ -143,86 +176,65 @@ fn session_for(alloc: Global, pattern: &Pattern) -> Result<Session, AllocError>
     Ok(session)
 }
 
-// Gives each session its segment, and collects what they tell.
-fn give_each(
-    alloc: Global,
-    sessions: &mut VecDeque<Session>,
-    segments: &[Segment],
-) -> Result<Vec<ZoneSet>, PushFault>
+// Gives each session its segment.
+fn give_each(sessions: &mut VecDeque<Session>, segments: &[Segment]) -> Result<(), PushFault>
     requires { length segments.now ≡ length sessions.old.items }
-    ensures ok { IfOk result (λ sets.
-        GoEach sessions.old.items segments.now sessions.new.items sets.items) }
+    ensures ok { OnOk result (GoEach sessions.old.items segments.now sessions.new.items) }
     ensures err { IfErr result (IsRefusedByOne sessions.old.items segments.now) }
 {
-    let mut sets = Vec::new(alloc);
     for segment in segments {
-        give_first(sessions, *segment, &mut sets, segments.len())?;
+        give_first(sessions, *segment)?;
     }
-    Ok(sets)
+    Ok(())
 }
 
-// Gives the first session a segment. It goes behind the others, and what it tells behind the sets.
-fn give_first(
-    sessions: &mut VecDeque<Session>,
-    segment: Segment,
-    sets: &mut Vec<ZoneSet>,
-    count: usize,
-) -> Result<(), PushFault>
+// Gives the first session a segment. It goes behind the others.
+fn give_first(sessions: &mut VecDeque<Session>, segment: Segment) -> Result<(), PushFault>
     requires { 0 < length sessions.old.items }
-    ensures ok { OnOk result (IsGivenFirst sessions.old.items segment sessions.new.items
-        sets.old.items sets.new.items) }
+    ensures ok { OnOk result (IsGivenFirst sessions.old.items segment sessions.new.items) }
     ensures err { (session : Session) (others : List Session)
         → sessions.old.items ≡ session ∷ others → IfErr result (IsRefusedBy session segment) }
 {
     match sessions.pop_front() {
-        Some(session) => give(session, segment, sessions, sets, count),
+        Some(session) => give(session, segment, sessions),
         None => unreachable!(),
     }
 }
 
-// Gives the session a segment, and puts it behind the others, and what it tells behind the sets.
+// Gives the session a segment, and puts it behind the others.
 fn give(
     session: Session,
     segment: Segment,
     sessions: &mut VecDeque<Session>,
-    sets: &mut Vec<ZoneSet>,
-    count: usize,
 ) -> Result<(), PushFault>
-    ensures ok { OnOk result (IsGiven session segment sessions.old.items sessions.new.items
-        sets.old.items sets.new.items) }
+    ensures ok { OnOk result (IsGiven session segment sessions.old.items sessions.new.items) }
     ensures err { IfErr result (IsRefusedBy session segment) }
 {
-    let (session, told) = session.go_on(segment)?;
-    match put_both(session, sessions, told, sets, count) {
+    let next = session.go_on(segment)?;
+    match put(next, sessions) {
         Ok(()) => Ok(()),
         Err(_) => Err(PushFault::Memory),
     }
 }
 
-fn put_both(
-    session: Session,
-    sessions: &mut VecDeque<Session>,
-    told: ZoneSet,
-    sets: &mut Vec<ZoneSet>,
-    count: usize,
-) -> Result<(), AllocError>
-    ensures sessions { OnOk result (sessions.new.items ≡ sessions.old.items ++ session ∷ []) }
-    ensures sets { OnOk result (sets.new.items ≡ sets.old.items ++ told ∷ []) }
+fn put(session: Session, sessions: &mut VecDeque<Session>) -> Result<(), AllocError>
+    ensures { OnOk result (sessions.new.items ≡ sessions.old.items ++ session ∷ []) }
 {
     sessions.push_back(session)?;
-    put(sets, told, count)
+    Ok(())
 }
 
-// Puts the set behind the others, of which there will be so many. Room for all is made with the
-// first.
-fn put(sets: &mut Vec<ZoneSet>, told: ZoneSet, count: usize) -> Result<(), AllocError>
-    ensures { OnOk result (sets.new.items ≡ sets.old.items ++ told ∷ []) }
+// A copy of what each session told last.
+fn told_by_each(alloc: Global, sessions: &VecDeque<Session>) -> Result<Vec<ZoneSet>, AllocError>
+    ensures { IfOk result (λ sets.
+        sets.items ≡ map (λ session. ended_of session) sessions.now.items) }
 {
-    if sets.is_empty() {
-        sets.reserve_exact(count)?;
+    let mut sets = Vec::new(alloc);
+    for place in 0..sessions.len() {
+        let told = sessions[place].told().try_clone()?;
+        sets.push(told)?;
     }
-    sets.push(told)?;
-    Ok(())
+    Ok(sets)
 }
 
 // What each session tells where its trace ends with these events.

@@ -10,3 +10,4 @@ pub mod Tellings
 pub mod Told
 pub mod Transcripts
 pub mod Stretches
+pub mod WatchTexts

@@ -1,5 +1,5 @@
 -- How the telling of an input ends.
-use Rattle.std.specs.Prelude.{◌≡◌, ◌≢◌, ◌⊎◌, ℕ, List, Some, IsTrue, Result, Ok, Err}
+use Rattle.std.specs.Prelude.{◌≡◌, ◌≢◌, ◌⊎◌, ℕ, false, List, Some, IsTrue, Result, Ok, Err}
 use Rattle.std.specs.Io.KnownBytes.{Appends}
 use Rattle.tre_feed.specs.Input.{InputTold, AllReadsGood, OfAllBytes}
 use Rattle.tre_feed.specs.Outcome.{IsInputKind}

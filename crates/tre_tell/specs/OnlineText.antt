@@ -1,11 +1,15 @@
--- The text that is told of one pattern without a label, from its blocks and what closes them.
-use Rattle.std.specs.Prelude.{◌≡◌, ℕ, ◌+◌, List, [], ◌∷◌, ◌++◌, length, Option, None, Some, IfSome, codes}
+-- The text that is told of one pattern without a label, from its blocks and what closes them; and
+-- accounts whose labels tell them apart.
+use Rattle.std.specs.List.{AllPairs}
+use Rattle.std.specs.Prelude.{◌≡◌, ◌≢◌, ℕ, ◌+◌, All, List, [], ◌∷◌, ◌++◌, length, Option, None, Some, IfSome, codes}
 use Rattle.tre_decimal.specs.Decimal.{number_text}
 use Rattle.tre_show.specs.Line.{lines_of, offline_text}
+use Rattle.tre_state.specs.Name.{IsName}
 use Rattle.tre_trace.specs.Trace.{end_of, IsTrace}
 use Rattle.tre_trace.specs.declared.segment.Segment.{Segment}
 use Rattle.tre_zone.specs.ZoneList.{AreCanonical}
 use Rattle.tre_zone.specs.declared.zone_bounds.ZoneBounds.{ZoneBounds}
+use Rattle.tre_tell.specs.Transcript.{Account}
 
 -- The text of a block at a scale: the lines of its zones, and then when its segment ends.
 unfoldable pub block_text : ℕ → List ZoneBounds → ℕ → List ℕ
@@ -45,3 +49,17 @@ pub record AreBlocksOf (blocks : List (List ZoneBounds)) (closing : Option (List
   pub is_trace : IsTrace trace
   pub canonical : AreCanonicalBlocks blocks
   pub closed : IfSome closing AreCanonical
+
+-- The label is a name and a space.
+pub record IsLabel (label : List ℕ) : Type 0 where
+  pub name : List ℕ
+  pub is_name : IsName name
+  pub is : label ≡ name ++ codes " "
+
+-- Each account has a label of its own and one block for each segment of a trace, of canonical
+-- zones, and canonical zones that close them.
+pub record AreWatched (accounts : List Account) (segments : List Segment) : Type 0 where
+  pub is_trace : IsTrace segments
+  pub labels : All (λ account. IsLabel account.pattern.label) accounts
+  pub distinct : AllPairs (λ one other. one.pattern.label ≢ other.pattern.label) accounts
+  pub blocks : All (λ account. AreBlocksOf account.blocks (Some account.closing) segments) accounts

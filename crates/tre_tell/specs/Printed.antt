@@ -1,5 +1,5 @@
 -- Zones as they are printed, and the texts of what is told of several patterns at once.
-use Rattle.std.specs.Prelude.{◌≡◌, ◌↔◌, ℕ, List, [], ◌∷◌, ◌++◌, codes, IsPermutation}
+use Rattle.std.specs.Prelude.{◌≡◌, ◌↔◌, ℕ, Some, slice_get, List, [], ◌∷◌, ◌++◌, codes, IsPermutation}
 use Rattle.std.specs.List.{AllZip}
 use Rattle.tre_decimal.specs.Decimal.{number_text}
 use Rattle.tre_show.specs.Order.{IsRising}
@@ -24,6 +24,20 @@ lines_behind scale labels lists = []
 -- the line of a time behind a word
 abbrev pub time_line : ℕ → List ℕ → ℕ → List ℕ
 time_line scale word time = word ++ number_text scale time ++ codes "\n"
+
+-- Behind the old text stand the lines of what was told, each behind the label.
+pub record IsSetPut (scale : ℕ) (label : List ℕ) (told : List ZoneBounds) (old new : List ℕ)
+    : Type 0 where
+  pub zones : List ZoneBounds
+  pub printed : IsPrinted told zones
+  pub text : new ≡ old ++ lines_with scale label zones
+
+-- The same of what was told of the pattern at the place.
+pub record IsToldPut (scale : ℕ) (label : List ℕ) (told : List (List ZoneBounds)) (place : ℕ)
+    (old new : List ℕ) : Type 0 where
+  pub set : List ZoneBounds
+  pub at : slice_get told place ≡ Some set
+  pub put : IsSetPut scale label set old new
 
 -- Behind the old text stand the lines of what was told of each pattern.
 pub record AreLinesPut (scale : ℕ) (labels : List (List ℕ)) (told : List (List ZoneBounds))

@@ -1,32 +1,32 @@
 // The block of a column, and what stands behind all blocks, given to the output as one text each.
 ghost use Rattle.std.specs.Prelude.{◌≡◌, ◌≤◌, ℕ, List, Option, IfOk, IfErr, OnOk, length, map, string_bytes};
 ghost use Rattle.tre_decimal.specs.declared.TheConstants.{SCALE_MAX};
-ghost use Rattle.tre_online.specs.Watch.{trees_of, ended_of_each, sets_of, Watches, pushed_each, TellEach};
+ghost use Rattle.tre_online.specs.Watch.{trees_of, ended_of_each, Watches, pushed_each, TellEach};
 ghost use Rattle.tre_tell.specs.Sought.{Sought};
 ghost use Rattle.tre_tell.specs.Telling.{timelines, CanTell, HasRows, HasTold, StopsAtColumn, HasWriteCause, HasClosed, StopsAtEnd};
 ghost use Rattle.tre_trace.specs.declared.segment.Segment.{Segment};
 
 use crate::output::write_text;
-use crate::text::write_sets;
+use crate::text::{write_sets, write_told};
 use tre_feed::Fault;
 use tre_io::Sink;
-use tre_online::{Told, Watch, want_of_memory};
+use tre_online::{Watch, want_of_memory};
 use tre_trace::Segment;
 
-// What the watch tells of the next column, which only want of memory can refuse.
-fn told_of(column: &[Segment], watch: Watch) -> Result<(Watch, Told), Fault>
+// Gives the watch the next column, which only want of memory can refuse.
+fn step(column: &[Segment], watch: Watch) -> Result<Watch, Fault>
     requires { CanTell watch column.now }
     ensures stands { (rows : List (List Segment)) → Watches watch rows →
-        IfOk result (λ both. Watches both.0 (pushed_each rows column.now)) }
+        IfOk result (λ then. Watches then (pushed_each rows column.now)) }
     ensures tells { (rows : List (List Segment)) → Watches watch rows →
-        IfOk result (λ both. TellEach (trees_of watch) rows column.now (ended_of_each watch)
-        (sets_of both.1)) }
-    ensures ended { IfOk result (λ both. ended_of_each both.0 ≡ sets_of both.1) }
-    ensures trees { IfOk result (λ both. trees_of both.0 ≡ trees_of watch) }
+        IfOk result (λ then. TellEach (trees_of watch) rows column.now (ended_of_each watch)
+        (ended_of_each then)) }
+    ensures trees { IfOk result (λ then. trees_of then ≡ trees_of watch) }
     ensures failed { IfErr result (λ fault. fault ≡ Fault.Memory) }
 {
-    match watch.segment(column) {
-        Ok(both) => Ok(both),
+    let mut watch = watch;
+    match watch.step(column) {
+        Ok(()) => Ok(watch),
         Err(fault) => Err(Fault::from(want_of_memory(fault))),
     }
 }
@@ -60,8 +60,8 @@ pub fn tell_block<O: Sink>(
         (O.told out.new).written) }
     ensures cause { HasWriteCause (O.told out.old).faults (O.told out.new).faults result }
 {
-    let (watch, told) = told_of(column, watch)?;
-    write_sets(labels, told.into_sets(), "at ", watch.at(), scale, text)?;
+    let watch = step(column, watch)?;
+    write_told(labels, &watch, "at ", watch.at(), scale, text)?;
     write_text(text.as_str(), out)?;
     Ok(watch)
 }

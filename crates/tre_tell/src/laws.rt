@@ -5,7 +5,7 @@ ghost use Rattle.tre_feed.specs.Input.{InputTold};
 ghost use Rattle.tre_syntax.specs.declared.pattern.Pattern.{Pattern};
 ghost use Rattle.tre_tell.specs.Blocks.{blocks_text, ending_text};
 ghost use Rattle.tre_tell.specs.Transcript.{Account};
-ghost use Rattle.tre_tell.specs.OnlineText.{AreBlocksOf, online_text};
+ghost use Rattle.tre_tell.specs.OnlineText.{AreBlocksOf, AreWatched, online_text};
 ghost use Rattle.tre_tell.specs.Outputs.{OutputTold, NothingWritten};
 ghost use Rattle.tre_tell.specs.Standing.{FirstBlocksStand};
 ghost use Rattle.tre_tell.specs.Watched.{watched_by};
@@ -13,6 +13,7 @@ ghost use Rattle.tre_trace.specs.Reading.{Recording};
 ghost use Rattle.tre_trace.specs.declared.segment.Segment.{Segment};
 ghost use Rattle.tre_zone.specs.declared.zone_bounds.ZoneBounds.{ZoneBounds};
 
+use tre_decimal::{begins_with_a_digit, written_is_read};
 use tre_show::laws::one_front;
 
 /// What is told of one pattern without a label is the text of its blocks, and of what closes them.
@@ -51,12 +52,47 @@ pub fn one_online_text()
     one_front();
 }
 
+/// A text that is told of several patterns as the input comes, each behind a label of its own, is
+/// that of one list of blocks for each and of what closes them, of segments of one list of lengths.
+/// Each line shows of which pattern it is: a label is a name and a space, and a line of a zone
+/// begins with a bracket, where the lines `at` and `end` go on with a digit.
+pub fn one_watch_text()
+    ensures blocks { (scale : ℕ) (accounts others : List Account)
+        (segments seconds : List Segment) →
+        AreWatched accounts segments → AreWatched others seconds →
+        map (λ account. account.pattern.label) accounts
+        ≡ map (λ account. account.pattern.label) others →
+        blocks_text scale accounts segments ++ ending_text scale accounts segments
+        ≡ blocks_text scale others seconds ++ ending_text scale others seconds →
+        map (λ account. account.blocks) accounts ≡ map (λ account. account.blocks) others }
+    ensures closings { (scale : ℕ) (accounts others : List Account)
+        (segments seconds : List Segment) →
+        AreWatched accounts segments → AreWatched others seconds →
+        map (λ account. account.pattern.label) accounts
+        ≡ map (λ account. account.pattern.label) others →
+        blocks_text scale accounts segments ++ ending_text scale accounts segments
+        ≡ blocks_text scale others seconds ++ ending_text scale others seconds →
+        map (λ account. account.closing) accounts ≡ map (λ account. account.closing) others }
+    ensures lengths { (scale : ℕ) (accounts others : List Account)
+        (segments seconds : List Segment) →
+        AreWatched accounts segments → AreWatched others seconds →
+        map (λ account. account.pattern.label) accounts
+        ≡ map (λ account. account.pattern.label) others →
+        blocks_text scale accounts segments ++ ending_text scale accounts segments
+        ≡ blocks_text scale others seconds ++ ending_text scale others seconds →
+        map (λ segment. segment.len) segments ≡ map (λ segment. segment.len) seconds }
+{
+    one_front();
+    written_is_read();
+    begins_with_a_digit();
+}
+
 /// Of an input that wasn't opened nothing is told: where nothing was written, all its blocks stand
 /// there, which are none.
 pub fn nothing_told()
     ensures { (labels : List (List ℕ)) (patterns : List Pattern)
         (recording : Bool → List ℕ → Recording) (limit scale : ℕ) (input : InputTold)
-        (output : OutputTold) → (recording false []).stretches ≡ [] → input.opened ≡ false →
+        (output : OutputTold) → (recording false []).stretches ≡ [] → input.now.opened ≡ false →
         NothingWritten output →
         FirstBlocksStand (watched_by labels patterns recording limit scale) input output }
 {}

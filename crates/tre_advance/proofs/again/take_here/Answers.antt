@@ -8,7 +8,7 @@ returns c = record {
   begun = c.in-Atom.begun.items;
   none = c.clear.new.self.items;
   old = ap mark_of c.in-Atom.is;
-  put = rw c.deref.ensures.value at c.in_ok-extend_from_slice-in-Atom.ensures.items;
+  put = rw c.deref.ensures.value at c.in_ok-put_behind-in-Atom.ensures;
   new = refl;
   nothing = c.clear.ensures.items;
 }

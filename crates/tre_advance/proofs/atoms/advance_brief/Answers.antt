@@ -35,7 +35,7 @@ returns c =
     let none = none_begun piece.begin here begun tree c.requires.brief c.requires.well.well in
     record {
       added = mid;
-      is = rw c.deref-2.ensures.value at c.in_ok-extend_from_slice.ensures.items;
+      is = rw c.deref-2.ensures.value at c.in_ok-put_behind.ensures;
       what = subst (λ (list : List ZoneBounds). Advances (atom_mark here begun) tree enter piece
           mid (atom_mark last list)) (sym none)
           (brief_advances piece here begun enter mid last c.requires.enter

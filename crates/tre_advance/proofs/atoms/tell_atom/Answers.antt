@@ -4,14 +4,14 @@ use Rattle.tre_syntax.specs.Expr.{tree_of}
 use Rattle.tre_advance.proofs.AtomLists.{tells_some, tells_none}
 use Rattle.tre_advance.proofs.atoms.tell_atom.Goals as goal
 
-pub returns-in_ok-extend_from_slice-in-None : goal.returns-in_ok-extend_from_slice-in-None
-returns-in_ok-extend_from_slice-in-None c =
+pub returns-in-None : goal.returns-in-None
+returns-in-None c =
     let begun = c.args.begun.now in
-    tells_none c.args.piece.now c.args.here.now begun c.args.entering.now
-    c.extend_from_slice.new.self.items (tree_of c.args.expr.now) c.inside_of.result
-    c.inside_of.ensures c.requires.well
-    (c.in_ok-extend_from_slice-in-None.ensures.items ∙ ap (λ list. list ++ begun) c.requires.none)
-    c.in-None.is
+    on_ok_weaker c.put_behind.result
+    (λ put. tells_none c.args.piece.now c.args.here.now begun c.args.entering.now
+    c.put_behind.new.found.items (tree_of c.args.expr.now) c.inside_of.result
+    c.inside_of.ensures c.requires.well (put ∙ ap (λ list. list ++ begun) c.requires.none)
+    c.in-None.is) c.put_behind.ensures
 
 pub returns-in-Some : goal.returns-in-Some
 returns-in-Some c =

@@ -87,12 +87,13 @@ ending_repetition-returns t c =
     (repetition tree) =
     subst (λ (m : MarkTree). IsWellAt (tail_start c.args.tail.now) m (repetition tree)) shape
     c.requires.well in
-    tells_moved shape
+    on_ok_weaker c.put_behind.result
+    (λ put. tells_moved shape
     (tells_repetition c.args.tail.now here body tree well.well.0 c.args.found.now.items
-    c.ending.new.found.items c.repeat_over.new.starts.items c.extend_from_slice.new.self.items
+    c.ending.new.found.items c.repeat_over.new.starts.items c.put_behind.new.found.items
     (rw (c.in_ok-starts-in-Star.ensures ∙ c.deref.ensures.value) at c.in_ok-ending-in-Star.ensures)
     c.in_ok-repeat_over-in-Star.ensures
-    (rw c.deref-in-Star-2.ensures.value at c.in_ok-extend_from_slice-in-Star.ensures.items))
+    (rw c.deref-in-Star-2.ensures.value at put))) c.put_behind.ensures
 
 -- ---- an intersection
 

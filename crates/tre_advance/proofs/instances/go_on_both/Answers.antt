@@ -9,7 +9,7 @@ returns c left right moments old old' mark serve advances advances' is =
     let new = c.tell_both.new.room.mid.items in
     record {
       added = new;
-      is = rw c.deref-2.ensures.value at c.in_ok-extend_from_slice.ensures.items;
+      is = rw c.deref-2.ensures.value at c.in_ok-put_behind.ensures;
       what = intersection_advances c.args.piece.now left right c.args.outer.now.items
           c.args.entering.now c.enter_outer.new.outer.items moments c.args.room.now.mid.items
           c.args.room.now.more.items new old old' mark one other

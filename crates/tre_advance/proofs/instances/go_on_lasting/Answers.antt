@@ -8,7 +8,7 @@ returns c tree moments one mark serve advances is =
     let new = c.tell_lasting.new.room.mid.items in
     record {
       added = new;
-      is = rw c.deref-2.ensures.value at c.in_ok-extend_from_slice.ensures.items;
+      is = rw c.deref-2.ensures.value at c.in_ok-put_behind.ensures;
       what = restriction_advances c.args.piece.now tree c.args.interval.now c.args.outer.now.items
           c.args.entering.now c.enter_outer.new.outer.items moments c.args.room.now.mid.items new
           one mark (mark_of c.args.inner.now)

@@ -8,7 +8,7 @@ use Rattle.tre_mark.specs.Marked.{EndBetween, IsWellAt}
 use Rattle.tre_mark.specs.MarkTree.{MarkTree, mark_of, sequence_mark, alternation_mark, repetition_mark, intersection_of, restriction_of}
 use Rattle.tre_syntax.specs.PatternTree.{empty, atom, alternation}
 use Rattle.tre_advance.proofs.Endings.{tells_alone}
-use Rattle.tre_advance.proofs.Lists.{both_idle, lasting_idle, adds_alone, adds_then, adds_weaker, advances_told, held_append}
+use Rattle.tre_advance.proofs.Lists.{both_idle, lasting_idle, adds_alone, adds_then, adds_weaker, advances_told, held_append, set_moved}
 use Rattle.tre_advance.proofs.Nested.{nested_advances, nested_between, starts_alone}
 use Rattle.tre_advance.proofs.Optional.{optional_advances, taken_ends}
 use Rattle.tre_advance.proofs.Onward.{advances_moved, sequence_advances, alternation_advances, once_between, repetition_once}
@@ -133,9 +133,10 @@ advance_body-repeat-requires-clause-starts t c =
     let ended = c.ending.new.found.items in
     once_between c.args.piece.now c.args.here.now.items c.args.entering.now
     (mark_of c.args.inner.now) (tree_of c.args.body.now) c.requires.ends c.requires.enter
-    ended c.put_starts.new.starts.items
+    ended c.prune.new.zones.items
     (tells_alone c.clear.ensures.items c.in_ok-ending.ensures None)
-    (rw c.deref.ensures.value at c.in_ok-put_starts.ensures)
+    (set_moved c.prune.new.zones.items c.put_starts.new.starts.items _ c.in_ok-prune.ensures
+    (rw c.deref.ensures.value at c.in_ok-put_starts.ensures))
 
 pub advance_body-returns : goal.advance_body-returns
 advance_body-returns t c =
@@ -144,12 +145,13 @@ advance_body-returns t c =
     let last = c.advance.new.told.items in
     record {
       added = mid;
-      is = rw c.deref-3.ensures.value at c.in_ok-extend_from_slice.ensures.items;
+      is = rw c.deref-3.ensures.value at c.in_ok-put_behind.ensures;
       what = repetition_once c.args.piece.now c.args.here.now.items c.args.entering.now
           (mark_of c.args.inner.now) (tree_of c.args.body.now) c.requires.ends c.requires.enter
-          ended c.put_starts.new.starts.items
+          ended c.prune.new.zones.items
           (tells_alone c.clear.ensures.items c.in_ok-ending.ensures None)
-          (rw c.deref.ensures.value at c.in_ok-put_starts.ensures)
+          (set_moved c.prune.new.zones.items c.put_starts.new.starts.items _
+          c.in_ok-prune.ensures (rw c.deref.ensures.value at c.in_ok-put_starts.ensures))
           mid last c.keep_ending.new.kept.items (mark_of c.advance.new.mark)
           c.in_ok-repeat.ensures.tells c.in_ok-repeat.ensures.between
           (adds_alone c.clear-2.new.self.items last _ c.clear-2.ensures.items

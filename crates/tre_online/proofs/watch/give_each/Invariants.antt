@@ -3,4 +3,4 @@ use Rattle.tre_online.proofs.watch.give_each.Given as goal
 
 abbrev pub invariant-loop-segment : goal.invariant-loop-segment
 invariant-loop-segment l =
-    HaveGone l.fn.sessions.items l.segments l.segment-index l.sessions.items l.sets.items
+    HaveGone l.fn.sessions.items l.segments l.segment-index l.sessions.items

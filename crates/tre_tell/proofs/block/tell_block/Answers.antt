@@ -1,6 +1,14 @@
+use Rattle.std.proofs.Common.{◌∙◌, ap, length, refl, sym}
+use Rattle.std.proofs.lemmas.List.{length-map}
 use Rattle.std.proofs.lemmas.Result.{err_from_is_err_and}
 use Rattle.tre_tell.proofs.Told.{HasTold-more, HasTold-cut}
 use Rattle.tre_tell.proofs.block.tell_block.Goals as goal
+
+pub write_told-requires-clause-count : goal.write_told-requires-clause-count
+write_told-requires-clause-count g c =
+    let sessions = c.in_ok-watch.watch.sessions.items in
+    length-map sessions _ ∙ (sym (length-map sessions _)
+    ∙ (ap length c.in_ok-watch.ensures.trees ∙ sym c.requires.labels))
 
 pub returns-in_err-write_text-clause-stops : goal.returns-in_err-write_text-clause-stops
 returns-in_err-write_text-clause-stops g c =
@@ -10,13 +18,12 @@ returns-in_err-write_text-clause-stops g c =
     rw (p.1, p.2, c.in_err-write_text.ensures.fault) (HasTold-cut c.in_ok-watch.watch
     c.args.column.now _ _ _ so_far (c.in_ok-watch.ensures.stands rows so_far.stands)
     (c.in_ok-watch.ensures.tells rows so_far.stands)
-    (rw (c.into_sets.ensures, c.at.ensures) at c.in_ok-write_sets.ensures) c.requires.comes.some
+    (rw c.at.ensures at c.in_ok-write_told.ensures) c.requires.comes.some
     (rw c.as_str.ensures.value at c.in_err-write_text.ensures.part))
 
 pub returns-clause-told : goal.returns-clause-told
 returns-clause-told g c = λ patterns rows before so_far. HasTold-more c.in_ok-watch.watch
     c.args.column.now _ _ _ so_far (c.in_ok-watch.ensures.stands rows so_far.stands)
-    c.in_ok-watch.ensures.trees c.in_ok-watch.ensures.ended
-    (c.in_ok-watch.ensures.tells rows so_far.stands)
-    (rw (c.into_sets.ensures, c.at.ensures) at c.in_ok-write_sets.ensures) c.requires.comes.some
+    c.in_ok-watch.ensures.trees refl (c.in_ok-watch.ensures.tells rows so_far.stands)
+    (rw c.at.ensures at c.in_ok-write_told.ensures) c.requires.comes.some
     (rw c.as_str.ensures.value at c.in_ok-write_text.ensures.all)

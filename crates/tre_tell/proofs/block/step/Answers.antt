@@ -1,5 +1,5 @@
 use Rattle.tre_tell.proofs.Told.{CanTell-refused}
-use Rattle.tre_tell.proofs.block.told_of.Goals as goal
+use Rattle.tre_tell.proofs.block.step.Goals as goal
 
 pub want_of_memory-requires : goal.want_of_memory-requires
 want_of_memory-requires c = CanTell-refused c.requires.rows c.args.column.now _ c.requires.fits

@@ -1,0 +1,22 @@
+use Rattle.std.proofs.Common.{ℕ}
+use Rattle.tre_tell.proofs.WatchTexts.{RowTells, tells_of, watch_once}
+use Rattle.tre_tell.proofs.laws.one_watch_text.Goals as goal
+
+pub returns : goal.returns
+returns c =
+    let tells : (scale : ℕ) → RowTells scale = λ scale.
+    tells_of scale (c.one_front.ensures.line scale) (c.one_front.ensures.number scale) (record {
+      read = c.written_is_read.ensures scale;
+      digit = c.begins_with_a_digit.ensures scale;
+    }) in
+    record {
+      blocks = λ scale accounts others segments seconds are are' labels same.
+          (watch_once scale (tells scale) accounts others segments seconds are are' labels
+          same).blocks_same;
+      closings = λ scale accounts others segments seconds are are' labels same.
+          (watch_once scale (tells scale) accounts others segments seconds are are' labels
+          same).closings_same;
+      lengths = λ scale accounts others segments seconds are are' labels same.
+          (watch_once scale (tells scale) accounts others segments seconds are are' labels
+          same).lengths_same;
+    }
