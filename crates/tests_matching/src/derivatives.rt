@@ -1,10 +1,12 @@
 // What derivatives and marks tell of the second and third piece of a trace, and what goes on.
-ghost use Rattle.std.specs.Prelude.{IfOk};
+ghost use Rattle.std.specs.Prelude.{Some, [], IfOk};
 ghost use Rattle.tre_state.specs.declared.names.TheConstants.{NAMES_MAX};
 ghost use Rattle.tre_syntax.specs.Expr.{tree_of};
 ghost use Rattle.tre_syntax.specs.PatternTree.{NumbersBelow};
 ghost use Rattle.tre_edges.specs.Piece.{end_of_piece};
-ghost use Rattle.tre_residual.specs.Residual.{residual_tree, IsWellAt};
+ghost use Rattle.tre_mark.specs.Marked.{since};
+ghost use Rattle.tre_advance.specs.Advance.{before_piece};
+ghost use Rattle.tre_residual.specs.Residual.{residual_tree, IsWellAt, CanGoOn};
 
 use crate::given::{are_matches, pattern};
 use crate::pieces::{Length, first_piece, first_with, next_piece, next_with};
@@ -79,7 +81,11 @@ fn read(
 ) -> Result<Residual, AllocError>
     requires numbers { NumbersBelow NAMES_MAX (tree_of expr.now) }
     requires well { IsWellAt piece.now.begin (residual_tree begun.now) }
-    ensures { IfOk result (λ rest. IsWellAt (end_of_piece piece.now) (residual_tree rest)) }
+    requires takes { CanGoOn (before_piece piece.now) (residual_tree begun.now) }
+    ensures well { IfOk result (λ rest. IsWellAt (end_of_piece piece.now) (residual_tree rest)) }
+    ensures takes { IfOk result (λ rest.
+        CanGoOn (since (end_of_piece piece.now) (Some piece.now.segment.val) [])
+        (residual_tree rest)) }
 {
     told.join(&local(alloc, expr, piece)?)?;
     let stepped = step(alloc, begun, piece)?;

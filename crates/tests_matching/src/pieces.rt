@@ -1,5 +1,5 @@
 // Pieces of a trace, one behind another.
-ghost use Rattle.std.specs.Prelude.{◌≡◌, ◌≤◌, IfOk};
+ghost use Rattle.std.specs.Prelude.{◌≡◌, ◌≤◌, Some, IfOk};
 ghost use Rattle.tre_edges.specs.Piece.{end_of_piece};
 ghost use Rattle.tre_mark.specs.MarkTree.{mark_of};
 ghost use Rattle.tre_mark.specs.Marked.{EndBetween, IsWellAt};
@@ -55,6 +55,7 @@ pub(crate) fn first_with(length: Length, ev: u64) -> Piece
 pub(crate) fn next_piece(last: &Piece, length: Length) -> Piece
     requires { end_of_piece last.now ≤ 1024 }
     ensures begin { result.begin ≡ end_of_piece last.now }
+    ensures before { result.before ≡ Some last.now.segment.val }
     ensures len { result.segment.len ≤ 256 }
 {
     next_with(last, length, 0)
@@ -64,6 +65,7 @@ pub(crate) fn next_piece(last: &Piece, length: Length) -> Piece
 pub(crate) fn next_with(last: &Piece, length: Length, ev: u64) -> Piece
     requires { end_of_piece last.now ≤ 1024 }
     ensures begin { result.begin ≡ end_of_piece last.now }
+    ensures before { result.before ≡ Some last.now.segment.val }
     ensures len { result.segment.len ≤ 256 }
 {
     Piece {

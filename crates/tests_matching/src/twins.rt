@@ -1,24 +1,28 @@
-// Random pieces of a trace read with residuals and with a mark: both tell the same pairs, piece by
-// piece.
-ghost use Rattle.std.specs.Prelude.{IfOk, OnOk};
+// Random pieces of a trace read with residuals in single operators and with a mark: both tell the
+// same pairs, piece by piece.
+ghost use Rattle.std.specs.Prelude.{ℕ, Some, [], IfOk, OnOk};
+ghost use Rattle.tests_matching.specs.Ready.{IsReady};
 ghost use Rattle.tre_edges.specs.Piece.{end_of_piece};
 ghost use Rattle.tre_mark.specs.MarkTree.{mark_of};
+ghost use Rattle.tre_mark.specs.Marked.{since};
 ghost use Rattle.tre_mark.specs.Marked as marks;
-ghost use Rattle.tre_residual.specs.Residual.{residual_tree, IsWellAt};
+ghost use Rattle.tre_advance.specs.Advance.{before_piece};
+ghost use Rattle.tre_residual.specs.Residual.{residual_tree, IsWellAt, CanGoOn};
 ghost use Rattle.tre_state.specs.declared.names.TheConstants.{NAMES_MAX};
 ghost use Rattle.tre_syntax.specs.Expr.{tree_of};
 ghost use Rattle.tre_syntax.specs.PatternTree.{NumbersBelow};
 
 use crate::given::pattern;
-use crate::pieces::{Length, advanced, first_piece, moments_of, next_piece};
+use crate::pieces::{Length, advanced, first_piece, next_piece};
 use std::alloc::{AllocError, Global};
 use std::test::Fail;
-use tre_derive::{fresh, step};
+use tre_derive::step;
 use tre_edges::Piece;
-use tre_mark::Mark;
+use tre_mark::{Mark, moments};
 use tre_residual::Residual;
 use tre_state::NAMES_MAX;
 use tre_syntax::Expr;
+use tre_zone::Interval;
 use tre_zoneset::ZoneSet;
 
 // Lengths in no order to speak of, and the same in each run.
@@ -44,18 +48,106 @@ struct Twins {
     mark: Mark,
 }
 
-// What begins in the piece, and ends as it ends or later.
+// A match of the expression that begins behind a pair of the zones at the time, in single
+// operators: only an atom or a repetition is one form with its expression. `now` has that one
+// moment.
+fn forms(
+    alloc: Global,
+    expr: &Expr,
+    zones: &ZoneSet,
+    now: &ZoneSet,
+    time: u64,
+) -> Result<Residual, AllocError>
+    requires { NumbersBelow NAMES_MAX (tree_of expr.now) }
+    ensures { IfOk result (λ whole. IsReady time (residual_tree whole)) }
+{
+    match expr {
+        Expr::Seq(left, right) => {
+            let first = forms(alloc, left, zones, now, time)?;
+            followed_by(alloc, first, right)
+        }
+        Expr::Alt(left, right) => {
+            let one = forms(alloc, left, zones, now, time)?;
+            let other = forms(alloc, right, zones, now, time)?;
+            Residual::or(alloc, one, other)
+        }
+        Expr::Meet(left, right) => {
+            let one = forms(alloc, left, now, now, time)?;
+            let other = forms(alloc, right, now, now, time)?;
+            both_after(alloc, zones, one, other)
+        }
+        Expr::Within(body, interval) => {
+            let inner = forms(alloc, body, now, now, time)?;
+            lasting_after(alloc, zones, inner, *interval)
+        }
+        _ => joined(alloc, zones, expr),
+    }
+}
+
+fn joined(alloc: Global, zones: &ZoneSet, expr: &Expr) -> Result<Residual, AllocError>
+    requires { NumbersBelow NAMES_MAX (tree_of expr.now) }
+    ensures { IfOk result (λ whole. (time : ℕ) → IsReady time (residual_tree whole)) }
+{
+    let zones = zones.try_clone()?;
+    let expr = expr.try_clone(alloc)?;
+    Ok(Residual::at(zones, expr))
+}
+
+fn followed_by(alloc: Global, first: Residual, expr: &Expr) -> Result<Residual, AllocError>
+    requires { NumbersBelow NAMES_MAX (tree_of expr.now) }
+    ensures { IfOk result (λ whole. (time : ℕ) → IsReady time (residual_tree first) →
+        IsReady time (residual_tree whole)) }
+{
+    let expr = expr.try_clone(alloc)?;
+    Residual::post(alloc, first, expr)
+}
+
+fn both_after(
+    alloc: Global,
+    zones: &ZoneSet,
+    one: Residual,
+    other: Residual,
+) -> Result<Residual, AllocError>
+    ensures { IfOk result (λ whole. (time : ℕ) → IsReady time (residual_tree one) →
+        IsReady time (residual_tree other) → IsReady time (residual_tree whole)) }
+{
+    let both = Residual::both(alloc, one, other)?;
+    after(alloc, zones, both)
+}
+
+fn lasting_after(
+    alloc: Global,
+    zones: &ZoneSet,
+    inner: Residual,
+    interval: Interval,
+) -> Result<Residual, AllocError>
+    ensures { IfOk result (λ whole. (time : ℕ) → IsReady time (residual_tree inner) →
+        IsReady time (residual_tree whole)) }
+{
+    let lasting = Residual::dur(alloc, inner, interval)?;
+    after(alloc, zones, lasting)
+}
+
+fn after(alloc: Global, zones: &ZoneSet, inner: Residual) -> Result<Residual, AllocError>
+    ensures { IfOk result (λ whole. (time : ℕ) → IsReady time (residual_tree inner) →
+        IsReady time (residual_tree whole)) }
+{
+    let zones = zones.try_clone()?;
+    Residual::pre(alloc, zones, inner)
+}
+
+// What begins as the piece ends.
 fn begun(alloc: Global, expr: &Expr, piece: &Piece) -> Result<Twins, AllocError>
     requires { NumbersBelow NAMES_MAX (tree_of expr.now) }
     ensures forms { IfOk result (λ twins.
-        IsWellAt (end_of_piece piece.now) (residual_tree twins.forms)) }
+        IsReady (end_of_piece piece.now) (residual_tree twins.forms)) }
     ensures mark { IfOk result (λ twins.
         marks.IsWellAt (end_of_piece piece.now) (mark_of twins.mark) (tree_of expr.now)) }
 {
-    let forms = fresh(alloc, expr, piece)?;
-    let mut mark = Mark::empty(alloc, expr)?;
-    let all = moments_of(alloc, piece)?;
-    advanced(alloc, &mut mark, expr, &all, piece)?;
+    let end = piece.begin + piece.segment.len;
+    let now = moments(alloc, end, end)?;
+    let mark = Mark::start(alloc, expr, &now, end)?;
+    let forms = forms(alloc, expr, &now, &now, end)?;
     Ok(Twins { forms, mark })
 }
 
@@ -91,9 +183,13 @@ fn read_mark(
 fn read(alloc: Global, twins: &mut Twins, expr: &Expr, piece: &Piece) -> Result<(), Fail>
     requires numbers { NumbersBelow NAMES_MAX (tree_of expr.now) }
     requires forms { IsWellAt piece.now.begin (residual_tree twins.old.forms) }
+    requires takes { CanGoOn (before_piece piece.now) (residual_tree twins.old.forms) }
     requires mark { marks.IsWellAt piece.now.begin (mark_of twins.old.mark) (tree_of expr.now) }
     ensures forms { OnOk result
         (IsWellAt (end_of_piece piece.now) (residual_tree twins.new.forms)) }
+    ensures takes { OnOk result
+        (CanGoOn (since (end_of_piece piece.now) (Some piece.now.segment.val) [])
+        (residual_tree twins.new.forms)) }
     ensures mark { OnOk result
         (marks.IsWellAt (end_of_piece piece.now) (mark_of twins.new.mark) (tree_of expr.now)) }
 {
@@ -106,7 +202,7 @@ fn read(alloc: Global, twins: &mut Twins, expr: &Expr, piece: &Piece) -> Result<
     Ok(())
 }
 
-// Four pieces, of which the first has the begins. A failure where the twins tell other pairs.
+// Four pieces, of which the first ends at the begins. A failure where the twins tell other pairs.
 fn compare(alloc: Global, expr: &Expr, lengths: [Length; 4]) -> Result<(), Fail>
     requires { NumbersBelow NAMES_MAX (tree_of expr.now) }
 {

@@ -1,32 +1,17 @@
 -- What sets of zones hold, beside relations.
-use Rattle.std.proofs.Common.{◌≡◌, ℕ, ◌*◌, ◌<◌, List, refl, sym, ◌∙◌, inl, inr, ⊎_elim, arith}
-use Rattle.std.proofs.Math.Nat.{mul_left_comm, mul-pos}
-use Rattle.tre_pairs.specs.Cuts.{IsMoment, JoinedAt}
+use Rattle.std.proofs.Common.{ℕ, List, inl, inr, ⊎_elim}
 use Rattle.tre_pairs.specs.Pairs.{Pairs, Composed, Either, Both, Lasting}
 use Rattle.tre_pairs.proofs.Agreement.{Agree-Composed}
-use Rattle.tre_pairs.proofs.Chains.{Composed-at}
-use Rattle.tre_pairs.proofs.Laws.{Scales, IsOrdered, Agree}
-use Rattle.tre_pairs.proofs.Scaling.{moved}
+use Rattle.tre_pairs.proofs.Laws.{IsOrdered, Agree}
 use Rattle.tre_pairs.proofs.Shortening.{Agree-trans}
 use Rattle.tre_zone.specs.Zone.{EndsAt}
 use Rattle.tre_zone.specs.ZoneList.{SetHolds, HoldExactly}
 use Rattle.tre_zone.specs.declared.zone_bounds.ZoneBounds.{ZoneBounds}
 use Rattle.tre_zone.specs.Held.{Held}
 use Rattle.tre_residual.specs.Residual.{IsComposition}
-use Rattle.tre_zone.proofs.HeldSets.{Scales-Held}
 
 pub Agree-self : (R : Pairs) → Agree R R
 Agree-self R = record { at = λ a b n some. ((λ h. h), (λ h. h)) }
-
-pub Agree-sym : (R S : Pairs) → Agree R S → Agree S R
-Agree-sym R S same = record {
-  at = λ a b n some. let both = same.at a b n some in (both.1, both.0);
-}
-
-pub IsOrdered-Moment : (time : ℕ) → IsOrdered (IsMoment time)
-IsOrdered-Moment time = record {
-  le = λ a b n h. let begin = h.begin in let end = h.end in omega (arith, begin, end);
-}
 
 module _ (zones : List ZoneBounds) (R : Pairs) where
   -- A set that holds exactly an ordered relation agrees with it.
@@ -67,29 +52,6 @@ module _ (time : ℕ) (all ending : List ZoneBounds)
         held = (held.exact a b n some h.left.rising).1
             (record { left = h.left.held; right = h.right });
       }),
-    );
-  }
-
-  -- What follows them is joined at that time.
-  pub joined_ending : (R : Pairs) → Scales R
-      → Agree (Composed (Held ending) R) (JoinedAt time (Held all) R)
-  joined_ending R r = record {
-    at = λ a b n some. (
-      (λ h.
-          let k = h.factor in
-          let finer : 0 < k * n = mul-pos h.positive some in
-          let first = (held_ending.at (k * a) h.midpoint (k * n) finer).0 h.left in
-          let ends : h.midpoint ≡ k * (time * n) =
-          first.right.ends ∙ sym (mul_left_comm k time n) in
-          record {
-            left = (Scales-Held all).down k a (time * n) n h.positive
-                (moved (Held all) refl ends refl first.left);
-            right = r.down k (time * n) b n h.positive (moved R ends refl refl h.right);
-          }),
-      (λ h. Composed-at (Held ending) R a (time * n) b n
-          ((held_ending.at a (time * n) n some).1
-          (record { left = h.left; right = record { ends = refl } }))
-          h.right),
     );
   }
 

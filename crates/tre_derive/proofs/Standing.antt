@@ -1,6 +1,5 @@
 -- What a residual stands for behind a piece, from what its parts stand for.
 use Rattle.std.proofs.Common.{List}
-use Rattle.tre_pairs.specs.Cuts.{JoinedAt}
 use Rattle.tre_pairs.specs.Pairs.{Pairs, Composed, Either, Both, Lasting}
 use Rattle.tre_pairs.proofs.Agreement.{Agree-Composed, Agree-Either, Agree-Both, Agree-Lasting}
 use Rattle.tre_pairs.proofs.Laws.{Agree}
@@ -9,15 +8,14 @@ use Rattle.tre_zone.specs.declared.zone_bounds.ZoneBounds.{ZoneBounds}
 use Rattle.tre_state.specs.declared.names.TheConstants.{NAMES_MAX}
 use Rattle.tre_trace.specs.Trace.{Timeline, AreLong}
 use Rattle.tre_syntax.specs.Cut.{back_of, MatchesBehind}
-use Rattle.tre_syntax.specs.Meaning.{MatchesRest}
 use Rattle.tre_syntax.specs.PatternTree.{PatternTree, NumbersBelow}
-use Rattle.tre_syntax.proofs.CutMeaning.{IsOrdered-rest}
-use Rattle.tre_edges.specs.Piece.{rest_of_piece, end_of_piece, cut_behind}
+use Rattle.tre_edges.specs.Piece.{end_of_piece, cut_behind}
 use Rattle.tre_edges.specs.declared.piece.Piece.{Piece}
-use Rattle.tre_zone.specs.Held.{Held, EndAt}
-use Rattle.tre_residual.specs.Residual.{ResidualTree, nothing, here, joined, preceded, followed, either, both, lasting, Means, IsWell, Builds}
-use Rattle.tre_derive.specs.Derivative.{StandsBehind, ComesAfter}
-use Rattle.tre_derive.proofs.Held.{Agree-self, Agree-held}
+use Rattle.tre_zone.specs.Held.{Held}
+use Rattle.tre_advance.proofs.Opening.{after_piece}
+use Rattle.tre_residual.specs.Residual.{ResidualTree, nothing, preceded, followed, either, both, lasting, Means, IsWell, CanTake, Builds}
+use Rattle.tre_derive.specs.Derivative.{StandsBehind}
+use Rattle.tre_derive.proofs.Held.{Agree-self}
 
 module _ (piece : Piece) where
   abbrev Behind : ResidualTree → Timeline → Pairs
@@ -31,12 +29,15 @@ module _ (piece : Piece) where
     at = λ a b n some. stands.exact v a b n long some;
   }
 
-  stands_of : (F : Timeline → Pairs) (residual : ResidualTree)
+  -- Of its pairs, and of what it is made of.
+  pub stands_of : (F : Timeline → Pairs) (residual : ResidualTree)
       → ((v : Timeline) → AreLong v.segments → Agree (Behind residual v) (F v))
-      → IsWell (end_of_piece piece) residual → StandsBehind piece F residual
-  stands_of F residual same well = record {
+      → IsWell (end_of_piece piece) residual → CanTake (after_piece piece) residual
+      → StandsBehind piece F residual
+  stands_of F residual same well takes = record {
     exact = λ v a b n long some. (same v long).at a b n some;
     well = record { well = well };
+    takes = record { takes = takes };
   }
 
   -- The same pairs by another name.
@@ -49,6 +50,7 @@ module _ (piece : Piece) where
         let two = (same v long).at a b n some in
         ((λ h. two.0 (one.0 h)), (λ h. one.1 (two.1 h)));
     well = stands.well;
+    takes = stands.takes;
   }
 
   -- What is built as a form stands for the pairs of the form.
@@ -60,24 +62,11 @@ module _ (piece : Piece) where
         let two = stands.exact v a b n long some in
         ((λ h. two.0 (one.0 h)), (λ h. one.1 (two.1 h)));
     well = built.well (end_of_piece piece) stands.well;
+    takes = built.takes (after_piece piece) stands.takes;
   }
 
   pub stands_nothing : StandsBehind piece (λ v a b n. ⊥) nothing
-  stands_nothing = stands_of (λ v a b n. ⊥) nothing (λ v long. Agree-self (λ a b n. ⊥)) tt
-
-  pub stands_here : (zones : List ZoneBounds) → EndAt (end_of_piece piece) zones
-      → StandsBehind piece (λ v. Held zones) (here zones)
-  stands_here zones ends =
-      stands_of (λ v. Held zones) (here zones) (λ v long. Agree-self (Held zones)) ends
-
-  pub stands_joined : (zones : List ZoneBounds) (tree : PatternTree) → NumbersBelow NAMES_MAX tree
-      → StandsBehind piece (λ v. JoinedAt (end_of_piece piece) (Held zones)
-      (MatchesBehind tree (cut_behind piece v))) (joined zones tree)
-  stands_joined zones tree numbers =
-      stands_of (λ v. JoinedAt (end_of_piece piece) (Held zones)
-      (MatchesBehind tree (cut_behind piece v))) (joined zones tree)
-      (λ v long. Agree-self (JoinedAt (end_of_piece piece) (Held zones)
-      (MatchesBehind tree (cut_behind piece v)))) numbers
+  stands_nothing = stands_of (λ v a b n. ⊥) nothing (λ v long. Agree-self (λ a b n. ⊥)) tt tt
 
   pub stands_preceded : (F : Timeline → Pairs) (zones : List ZoneBounds)
       (residual : ResidualTree) → StandsBehind piece F residual
@@ -86,7 +75,7 @@ module _ (piece : Piece) where
       stands_of (λ v. Composed (Held zones) (F v)) (preceded zones residual)
       (λ v long. Agree-Composed (Held zones) (Held zones) (Behind residual v) (F v)
       (Agree-self (Held zones)) (stands_at F residual stands v long))
-      stands.well.well
+      stands.well.well stands.takes.takes
 
   pub stands_followed : (F : Timeline → Pairs) (residual : ResidualTree) (tree : PatternTree)
       → NumbersBelow NAMES_MAX tree → StandsBehind piece F residual
@@ -99,7 +88,7 @@ module _ (piece : Piece) where
       (MatchesBehind tree (cut_behind piece v)) (MatchesBehind tree (cut_behind piece v))
       (stands_at F residual stands v long)
       (Agree-self (MatchesBehind tree (cut_behind piece v))))
-      (stands.well.well, numbers)
+      (stands.well.well, numbers) stands.takes.takes
 
   pub stands_either : (F G : Timeline → Pairs) (one other : ResidualTree)
       → StandsBehind piece F one → StandsBehind piece G other
@@ -108,7 +97,7 @@ module _ (piece : Piece) where
       stands_of (λ v. Either (F v) (G v)) (either one other)
       (λ v long. Agree-Either (Behind one v) (F v) (Behind other v) (G v)
       (stands_at F one f v long) (stands_at G other g v long))
-      (f.well.well, g.well.well)
+      (f.well.well, g.well.well) (f.takes.takes, g.takes.takes)
 
   pub stands_both : (F G : Timeline → Pairs) (one other : ResidualTree)
       → StandsBehind piece F one → StandsBehind piece G other
@@ -117,7 +106,7 @@ module _ (piece : Piece) where
       stands_of (λ v. Both (F v) (G v)) (both one other)
       (λ v long. Agree-Both (Behind one v) (F v) (Behind other v) (G v)
       (stands_at F one f v long) (stands_at G other g v long))
-      (f.well.well, g.well.well)
+      (f.well.well, g.well.well) (f.takes.takes, g.takes.takes)
 
   pub stands_lasting : (F : Timeline → Pairs) (residual : ResidualTree) (ends : IntervalEnds)
       → StandsBehind piece F residual
@@ -126,18 +115,4 @@ module _ (piece : Piece) where
       stands_of (λ v. Lasting (LastsWithin ends) (F v)) (lasting residual ends)
       (λ v long. Agree-Lasting (LastsWithin ends) (Behind residual v) (F v)
       (stands_at F residual stands v long))
-      stands.well.well
-
-  -- A match inside the piece comes before what a residual stands for.
-  pub stands_after : (F : Timeline → Pairs) (tree : PatternTree)
-      (residual whole : ResidualTree) → ComesAfter tree piece residual whole
-      → StandsBehind piece F residual
-      → StandsBehind piece (λ v. Composed (MatchesRest tree (rest_of_piece piece)) (F v)) whole
-  stands_after F tree residual whole after stands =
-      let inside = MatchesRest tree (rest_of_piece piece) in
-      stands_for (λ v. Composed (Held after.zones) (F v)) (λ v. Composed inside (F v)) whole
-      (λ v long. Agree-Composed (Held after.zones) inside (F v) (F v)
-      (Agree-held after.zones inside (IsOrdered-rest tree (rest_of_piece piece)) after.inside)
-      (Agree-self (F v)))
-      (stands_built (λ v. Composed (Held after.zones) (F v)) (preceded after.zones residual) whole
-      (stands_preceded F after.zones residual stands) after.builds)
+      stands.well.well stands.takes.takes

@@ -1,33 +1,36 @@
 -- What a step makes of each form of a residual, from what it makes of its parts.
 use Rattle.std.proofs.Common.{◌≡◌, ℕ, ◌*◌, ◌<◌, ◌≤◌, List, [], sym, inl, inr, ⊎_elim, subst, arith}
 use Rattle.std.proofs.lemmas.Bool.{cases_lt}
-use Rattle.std.proofs.Math.Nat.{mul-pos, mul-le-mul_right, mul-lt-mul_of_pos_right}
-use Rattle.tre_pairs.specs.Cuts.{Crossing, JoinedAt}
+use Rattle.std.proofs.Math.Nat.{mul-pos, mul-lt-mul_of_pos_right}
+use Rattle.tre_pairs.specs.Cuts.{Crossing}
 use Rattle.tre_pairs.specs.Pairs.{Pairs, Composed, Either, Both, Lasting}
 use Rattle.tre_pairs.proofs.Agreement.{Agree-Composed, Agree-Either, Agree-Both, Agree-Lasting}
-use Rattle.tre_pairs.proofs.CutLaws.{IsCut, Scales-Crossing}
+use Rattle.tre_pairs.proofs.CutLaws.{IsCut}
 use Rattle.tre_pairs.proofs.Laws.{IsOrdered, Implies, ImpliesBefore, Agree}
+use Rattle.tre_pairs.proofs.Order.{IsOrdered-Composed}
 use Rattle.tre_pairs.proofs.Shortening.{Agree-trans}
-use Rattle.tre_pairs.proofs.Ticks.{le_up, le_down}
+use Rattle.tre_pairs.proofs.Ticks.{le_up, le_down, ge_down}
 use Rattle.tre_zone.specs.Interval.{IntervalEnds, LastsWithin}
-use Rattle.tre_zone.specs.Zone.{EndsAt}
 use Rattle.tre_zone.specs.ZoneList.{SetHolds, HoldExactly}
 use Rattle.tre_zone.specs.declared.zone_bounds.ZoneBounds.{ZoneBounds}
+use Rattle.tre_zone.proofs.HeldSets.{IsOrdered-Held}
 use Rattle.tre_zone.proofs.ZoneListLemmas.{SetHolds-empty}
 use Rattle.tre_state.specs.declared.names.TheConstants.{NAMES_MAX}
 use Rattle.tre_trace.specs.Trace.{Timeline}
 use Rattle.tre_syntax.specs.Cut.{uncut, MatchesBehind, MatchesAcross}
 use Rattle.tre_syntax.specs.Meaning.{MatchesRest}
 use Rattle.tre_syntax.specs.PatternTree.{PatternTree, NumbersBelow}
-use Rattle.tre_syntax.proofs.CutMeaning.{IsOrdered-rest, Scales-rest, IsCut-Matches}
+use Rattle.tre_syntax.proofs.CutMeaning.{IsOrdered-rest, IsCut-Matches}
 use Rattle.tre_edges.specs.Piece.{rest_of_piece, end_of_piece, cut_behind}
 use Rattle.tre_edges.specs.declared.piece.Piece.{Piece}
 use Rattle.tre_zone.specs.Held.{Held, EndAt}
-use Rattle.tre_residual.specs.Residual.{ResidualTree, nothing, here, joined, preceded, followed, either, both, lasting, Means, Builds, IsComposition}
+use Rattle.tre_mark.specs.Marked.{EndBetween}
+use Rattle.tre_residual.specs.Residual.{ResidualTree, nothing, here, preceded, followed, either, both, lasting, Means, IsWell, Builds, IsComposition}
+use Rattle.tre_residual.proofs.Crossings.{ends_around, ends_within}
 use Rattle.tre_residual.proofs.Growth.{Means-grow, Means-early}
 use Rattle.tre_residual.proofs.Meanings.{IsOrdered-Means}
-use Rattle.tre_derive.specs.Derivative.{EndingFrom, IsFresh, StepsTo}
-use Rattle.tre_derive.proofs.Held.{Agree-self, Agree-held, held_exactly, joined_ending, held_either, held_both, held_lasting, held_composed}
+use Rattle.tre_derive.specs.Derivative.{EndingFrom, StepsTo, Begins, ComesBehind}
+use Rattle.tre_derive.proofs.Held.{Agree-self, Agree-held, held_exactly, held_either, held_both, held_lasting, held_composed}
 use Rattle.tre_derive.proofs.Standing.{stands_for, stands_built, stands_nothing, stands_preceded, stands_followed, stands_either, stands_both, stands_lasting}
 
 -- ---- the pairs that end at a time or later
@@ -227,56 +230,55 @@ module _ (piece : Piece) where
         (stands_nothing piece);
   }
 
-  -- ---- a set that a match goes on
+  -- ---- what is told of a residual ends in the piece
 
-  joined_across : (begun : List ZoneBounds) (tree : PatternTree) (v : Timeline)
-      → Agree (JoinedAt piece.begin (Held begun) (MatchesAcross tree (cut_behind piece v)))
-      (Left (joined begun tree) v)
-  joined_across begun tree v = record {
-    at = λ a b n some. (
-      (λ h. record {
-        related = record { left = h.left; right = h.right.related };
-        end = h.right.end;
-      }),
-      (λ h. record {
-        left = h.related.left;
-        right = record {
-          related = h.related.right;
-          begin = mul-le-mul_right n (let e : piece.begin ≤ time = omega arith in e);
-          end = h.end;
-        };
-      }),
-    );
+  pub told_between : (residual : ResidualTree) (told : List ZoneBounds) (rest : ResidualTree)
+      → IsWell piece.begin residual → StepsTo residual piece told rest
+      → EndBetween piece.begin time told
+  told_between residual told rest well steps = record {
+    begin = λ a b n some h. (ends_around (rest_of_piece piece) residual well a b n some
+        ((steps.tells.exact a b n some h.rising).0 h.held)).1;
+    end = λ a b n some h. ends_within (rest_of_piece piece) residual well a b n some
+        ((steps.tells.exact a b n some h.rising).0 h.held);
   }
 
-  pub step_joined : (begun ending inside told : List ZoneBounds) (tree : PatternTree)
-      (across rest : ResidualTree)
-      → HoldExactly ending (Both (SetHolds begun) (EndsAt piece.begin))
-      → HoldExactly inside (MatchesRest tree (rest_of_piece piece))
-      → IsComposition told ending inside → IsFresh tree piece across
-      → Builds rest (preceded ending across) → StepsTo (joined begun tree) piece told rest
-  step_joined begun ending inside told tree across rest ends all composed fresh built =
-      let within = MatchesRest tree (rest_of_piece piece) in
-      let Across : Timeline → Pairs = λ v. MatchesAcross tree (cut_behind piece v) in
-      record {
-        tells = held_exactly told (Told (joined begun tree))
-            (Agree-trans (Held told) (Composed (Held ending) within) (Told (joined begun tree))
-            (held_composed ending inside told (Held ending) within composed
-            (Agree-self (Held ending))
-            (Agree-held inside within (IsOrdered-rest tree (rest_of_piece piece)) all))
-            (joined_ending piece.begin begun ending ends within
-            (Scales-rest tree (rest_of_piece piece))));
-        leaves = stands_for piece (λ v. Composed (Held ending) (Across v))
-            (Left (joined begun tree)) rest
-            (λ v long. Agree-trans (Composed (Held ending) (Across v))
-            (JoinedAt piece.begin (Held begun) (Across v)) (Left (joined begun tree) v)
-            (joined_ending piece.begin begun ending ends (Across v)
-            (Scales-Crossing time (MatchesRest tree (uncut (cut_behind piece v)))
-            (Scales-rest tree (uncut (cut_behind piece v)))))
-            (joined_across begun tree v))
-            (stands_built piece (λ v. Composed (Held ending) (Across v)) (preceded ending across)
-            rest (stands_preceded piece Across ending across fresh.across) built);
-      }
+  -- What begins behind pairs that end in the piece crosses its end behind them.
+  crossing_behind : (zones : List ZoneBounds) (R : Pairs) → EndBetween piece.begin time zones
+      → Agree (Crossing time (Composed (Held zones) R)) (Composed (Held zones) (Crossing time R))
+  crossing_behind zones R between = record {
+    at = λ a b n some. (
+      (λ h.
+          let k = h.related.factor in
+          let m = h.related.midpoint in
+          record {
+            factor = k;
+            positive = h.related.positive;
+            midpoint = m;
+            left = h.related.left;
+            right = record {
+              related = h.related.right;
+              begin = between.end (k * a) m (k * n) (mul-pos h.related.positive some)
+                  h.related.left;
+              end = le_up k time b n h.end;
+            };
+          }),
+      (λ h.
+          let k = h.factor in
+          let rising = h.left.rising in
+          let begin = h.right.begin in
+          record {
+            related = record {
+              factor = k;
+              positive = h.positive;
+              midpoint = h.midpoint;
+              left = h.left;
+              right = h.right.related;
+            };
+            begin = ge_down k time a n h.positive (omega (arith, rising, begin));
+            end = le_down k time b n h.positive h.right.end;
+          }),
+    );
+  }
 
   -- ---- a set before a residual
 
@@ -298,43 +300,47 @@ module _ (piece : Piece) where
 
     -- ---- a match behind a residual
 
-    pub step_followed : (inside told : List ZoneBounds) (tree : PatternTree)
-        (across begun behind rest : ResidualTree) → NumbersBelow NAMES_MAX tree
-        → HoldExactly inside (MatchesRest tree (rest_of_piece piece))
-        → IsComposition told told' inside → IsFresh tree piece across
-        → Builds behind (followed rest' tree) → Builds begun (preceded told' across)
-        → Builds rest (either behind begun) → StepsTo (followed inner tree) piece told rest
-    step_followed inside told tree across begun behind rest numbers all composed fresh f g w =
+    pub step_followed : (tree : PatternTree) (told : List ZoneBounds) (begun rest : ResidualTree)
+        → NumbersBelow NAMES_MAX tree → EndBetween piece.begin time told'
+        → Begins tree told' piece told begun → ComesBehind rest' tree begun rest
+        → StepsTo (followed inner tree) piece told rest
+    step_followed tree told begun rest numbers between begins comes =
         let within = MatchesRest tree (rest_of_piece piece) in
         let Across : Timeline → Pairs = λ v. MatchesAcross tree (cut_behind piece v) in
         let F : Timeline → Pairs =
         λ v. Composed (Left inner v) (MatchesBehind tree (cut_behind piece v)) in
-        let G : Timeline → Pairs = λ v. Composed (Held told') (Across v) in
+        let G : Timeline → Pairs =
+        λ v. Crossing time (Composed (Held told') (MatchesRest tree (uncut (cut_behind piece v)))) in
         let same = told_agree inner told' rest' steps in
         record {
           tells = held_exactly told (Told (followed inner tree))
-              (held_composed told' inside told (Told inner) within composed same
-              (Agree-held inside within (IsOrdered-rest tree (rest_of_piece piece)) all));
+              (Agree-trans (Held told) (Composed (Held told') within) (Told (followed inner tree))
+              (Agree-held told (Composed (Held told') within)
+              (IsOrdered-Composed (Held told') within (IsOrdered-Held told')
+              (IsOrdered-rest tree (rest_of_piece piece))) begins.tells)
+              (Agree-Composed (Held told') (Told inner) within within same (Agree-self within)));
           leaves = stands_for piece (λ v. Either (F v) (G v)) (Left (followed inner tree)) rest
               (λ v long. Agree-trans (Either (F v) (G v))
               (Either (F v) (Composed (Told inner) (Across v))) (Left (followed inner tree) v)
               (Agree-Either (F v) (F v) (G v) (Composed (Told inner) (Across v))
               (Agree-self (F v))
+              (Agree-trans (G v) (Composed (Held told') (Across v))
+              (Composed (Told inner) (Across v))
+              (crossing_behind told' (MatchesRest tree (uncut (cut_behind piece v))) between)
               (Agree-Composed (Held told') (Told inner) (Across v) (Across v) same
-              (Agree-self (Across v))))
+              (Agree-self (Across v)))))
               (ending_followed time (Whole inner v) (Told inner)
               (MatchesRest tree (uncut (cut_behind piece v))) within
               (MatchesBehind tree (cut_behind piece v))
               (Means-grow (cut_behind piece v) inner) (Means-early (cut_behind piece v) inner)
               (IsCut-Matches (cut_behind piece v) (piece.long, tt) tree)
               (IsOrdered-rest tree (uncut (cut_behind piece v)))))
-              (stands_built piece (λ v. Either (F v) (G v)) (either behind begun) rest
-              (stands_either piece F G behind begun
-              (stands_built piece F (followed rest' tree) behind
-              (stands_followed piece (Left inner) rest' tree numbers steps.leaves) f)
-              (stands_built piece G (preceded told' across) begun
-              (stands_preceded piece Across told' across fresh.across) g))
-              w);
+              (stands_built piece (λ v. Either (F v) (G v)) (either comes.behind begun) rest
+              (stands_either piece F G comes.behind begun
+              (stands_built piece F (followed rest' tree) comes.behind
+              (stands_followed piece (Left inner) rest' tree numbers steps.leaves) comes.follows)
+              begins.leaves)
+              comes.builds);
         }
 
     -- ---- a residual with its duration in an interval

@@ -2,17 +2,20 @@
 ghost use Rattle.std.specs.Prelude.{IfOk};
 ghost use Rattle.tre_syntax.specs.Expr.{tree_of};
 ghost use Rattle.tre_syntax.specs.PatternTree.{NumbersBelow};
+ghost use Rattle.tre_edges.specs.Piece.{end_of_piece};
 ghost use Rattle.tre_edges.specs.declared.piece.Piece.{Piece};
-ghost use Rattle.tre_residual.specs.Residual.{ResidualTree, joined, preceded, followed, either, both, lasting, residual_tree, Builds};
-ghost use Rattle.tre_derive.specs.Derivative.{StepsTo, ComesInside, ComesAcross, ComesBehind};
+ghost use Rattle.tre_mark.specs.MarkTree.{mark_of};
+ghost use Rattle.tre_mark.specs.Marked.{CanTakeIn, EndBetween, IsWellAt};
+ghost use Rattle.tre_advance.specs.Advance.{before_piece};
+ghost use Rattle.tre_residual.specs.Residual.{ResidualTree, joined, preceded, followed, either, both, lasting, marked, residual_tree, Builds};
+ghost use Rattle.tre_derive.specs.Derivative.{StepsTo, ComesBehind};
 
-use crate::beginning::fresh;
-use crate::parts::{followed_by, one_of};
+use crate::going::{begin_behind, go_alone};
 use crate::sets::of_either;
 use crate::stepped::Stepped;
 use std::alloc::{AllocError, Global};
 use tre_edges::Piece;
-use tre_offline::local;
+use tre_mark::Mark;
 use tre_residual::{Residual, composed};
 use tre_state::NAMES_MAX;
 use tre_syntax::Expr;
@@ -32,9 +35,21 @@ pub fn begin_now(
         (residual_tree whole.rest)) }
 {
     let begun = begun.ending_at(piece.begin)?;
-    let told = match_inside(alloc, &begun, expr, piece);
-    let rest = match_across(alloc, begun, expr, piece);
-    Stepped::of(told, rest)
+    let mark = Mark::start(alloc, expr, &begun, piece.begin)?;
+    go_alone(alloc, mark, expr, piece)
+}
+
+/// What the mark stands for.
+pub fn go_on(alloc: Global, mark: &Mark, expr: &Expr, piece: &Piece) -> Result<Stepped, AllocError>
+    requires numbers { NumbersBelow NAMES_MAX (tree_of expr.now) }
+    requires well { IsWellAt piece.now.begin (mark_of mark.now) (tree_of expr.now) }
+    requires takes { CanTakeIn (before_piece piece.now) (mark_of mark.now) (tree_of expr.now) }
+    ensures { IfOk result (λ whole.
+        StepsTo (marked (mark_of mark.now) (tree_of expr.now)) piece.now whole.told
+        (residual_tree whole.rest)) }
+{
+    let copy = mark.try_clone(alloc)?;
+    go_alone(alloc, copy, expr, piece)
 }
 
 /// A pair of the set, and then one of the residual.
@@ -48,23 +63,27 @@ pub fn precede(alloc: Global, zones: &ZoneSet, inner: Stepped) -> Result<Stepped
     Stepped::of(told, rest)
 }
 
-/// A pair of the residual, and then a match of the expression: it begins inside the piece, or
-/// behind it.
+/// A pair of the residual, and then a match of the expression. Those that are told end in the
+/// piece, and what follows them begins there; what follows the others begins behind it.
 pub fn follow(
     alloc: Global,
     inner: Stepped,
     expr: &Expr,
     piece: &Piece,
 ) -> Result<Stepped, AllocError>
-    requires { NumbersBelow NAMES_MAX (tree_of expr.now) }
+    requires numbers { NumbersBelow NAMES_MAX (tree_of expr.now) }
+    requires ends { EndBetween piece.now.begin (end_of_piece piece.now) inner.told }
     ensures { IfOk result (λ whole. (residual : ResidualTree)
         → StepsTo residual piece.now inner.told (residual_tree inner.rest)
         → StepsTo (followed residual (tree_of expr.now)) piece.now whole.told
         (residual_tree whole.rest)) }
 {
-    let told = match_inside(alloc, &inner.told, expr, piece);
-    let rest = match_behind(alloc, inner.told, inner.rest, expr, piece);
-    Stepped::of(told, rest)
+    let begun = begin_behind(alloc, inner.told.zones(), expr, piece)?;
+    let rest = behind(alloc, inner.rest, expr, begun.rest)?;
+    Ok(Stepped {
+        told: begun.told,
+        rest,
+    })
 }
 
 /// A pair of one of the two.
@@ -102,52 +121,31 @@ pub fn restrict(alloc: Global, inner: Stepped, interval: &Interval) -> Result<St
     Stepped::of(told, rest)
 }
 
-// A pair of the set, and then a match of the expression inside the piece.
-fn match_inside(
+// A pair of the residual, and then a match of the expression behind the piece, or one that has
+// begun in it.
+fn behind(
     alloc: Global,
-    zones: &ZoneSet,
-    expr: &Expr,
-    piece: &Piece,
-) -> Result<ZoneSet, AllocError>
-    requires { NumbersBelow NAMES_MAX (tree_of expr.now) }
-    ensures { IfOk result (λ told. ComesInside zones.now (tree_of expr.now) piece.now told) }
-{
-    let inside = local(alloc, expr, piece)?;
-    composed(alloc, zones, &inside)
-}
-
-// A pair of the set, and then a match of the expression that goes on to the end of the piece.
-fn match_across(
-    alloc: Global,
-    zones: ZoneSet,
-    expr: &Expr,
-    piece: &Piece,
-) -> Result<Residual, AllocError>
-    requires { NumbersBelow NAMES_MAX (tree_of expr.now) }
-    ensures { IfOk result (λ rest.
-        ComesAcross zones (tree_of expr.now) piece.now (residual_tree rest)) }
-{
-    let across = fresh(alloc, expr, piece)?;
-    Residual::pre(alloc, zones, across)
-}
-
-// A pair that was told or is left, and then a match of the expression that goes on to the end of
-// the piece or begins behind it.
-fn match_behind(
-    alloc: Global,
-    told: ZoneSet,
     rest: Residual,
     expr: &Expr,
-    piece: &Piece,
+    begun: Residual,
 ) -> Result<Residual, AllocError>
     requires { NumbersBelow NAMES_MAX (tree_of expr.now) }
     ensures { IfOk result (λ whole.
-        ComesBehind told (residual_tree rest) (tree_of expr.now) piece.now
+        ComesBehind (residual_tree rest) (tree_of expr.now) (residual_tree begun)
         (residual_tree whole)) }
 {
-    let behind = followed_by(alloc, rest, expr);
-    let across = match_across(alloc, told, expr, piece);
-    one_of(alloc, behind, across)
+    let later = followed_by(alloc, rest, expr)?;
+    Residual::or(alloc, later, begun)
+}
+
+// A pair of the residual, and then a match of the expression.
+fn followed_by(alloc: Global, residual: Residual, expr: &Expr) -> Result<Residual, AllocError>
+    requires { NumbersBelow NAMES_MAX (tree_of expr.now) }
+    ensures { IfOk result (λ whole.
+        Builds (residual_tree whole) (followed (residual_tree residual) (tree_of expr.now))) }
+{
+    let expr = expr.try_clone(alloc)?;
+    Residual::post(alloc, residual, expr)
 }
 
 // A pair of the set, and then one of the residual.

@@ -5,6 +5,9 @@
 //! left of the residual. Both are exact for every trace that may come behind the piece. [`close`]
 //! tells what a residual stands for where the trace has ended.
 //!
+//! What begins in a piece goes on as a mark, which `advance` of tre_advance takes over it: this is
+//! done once for all expressions. A residual's other forms are followed through here.
+//!
 //! ```
 //! let begun = fresh(alloc, &expr, &piece)?;
 //! let stepped = step(alloc, &begun, &next)?;
@@ -20,10 +23,7 @@ pub use stepping::step;
 mod beginning;
 mod closing;
 mod forms;
-mod marks;
-mod parts;
-mod rows;
-mod sequences;
+mod going;
 mod sets;
 mod stepped;
 mod stepping;

@@ -26,6 +26,7 @@ pub Builds-refl : (form : ResidualTree) → Builds form form
 Builds-refl form = record {
   pairs = λ rest a b n some. ((λ h. h), (λ h. h));
   well = λ time h. h;
+  takes = λ read h. h;
 }
 
 pub Builds-trans : (one two three : ResidualTree) → Builds one two → Builds two three
@@ -36,6 +37,7 @@ Builds-trans one two three f g = record {
       let y = g.pairs rest a b n some in
       ((λ h. y.0 (x.0 h)), (λ h. x.1 (y.1 h)));
   well = λ time h. f.well time (g.well time h);
+  takes = λ read h. f.takes read (g.takes read h);
 }
 
 -- What means no pair is as good as nothing.
@@ -44,6 +46,7 @@ pub Builds-nothing : (form : ResidualTree)
 Builds-nothing form never = record {
   pairs = λ rest a b n some. ((λ h. absurd h), (λ h. absurd (never rest a b n some h)));
   well = λ time h. record { well = tt };
+  takes = λ read h. record { takes = tt };
 }
 
 pub nothing_after_none : (residual : ResidualTree) → Builds nothing (preceded [] residual)
@@ -92,12 +95,14 @@ pub either_right : (other : ResidualTree) → Builds other (either nothing other
 either_right other = record {
   pairs = λ rest a b n some. ((λ h. inr h), (λ h. ⊎_elim (λ x. absurd x) (λ x. x) h));
   well = λ time h. record { well = h.well.1 };
+  takes = λ read h. record { takes = h.takes.1 };
 }
 
 pub either_left : (one : ResidualTree) → Builds one (either one nothing)
 either_left one = record {
   pairs = λ rest a b n some. ((λ h. inl h), (λ h. ⊎_elim (λ x. x) (λ x. absurd x) h));
   well = λ time h. record { well = h.well.0 };
+  takes = λ read h. record { takes = h.takes.0 };
 }
 
 pub either_right_of : (one other : ResidualTree) → one ≡ nothing → Builds other (either one other)
@@ -130,6 +135,7 @@ module _ (zones first second : List ZoneBounds) (composed : IsComposition zones 
   here_composed = record {
     pairs = λ rest a b n some. composed.pairs a b n some;
     well = λ time h. record { well = ends_after time h.well };
+    takes = λ read h. record { takes = tt };
   }
 
   -- A set goes before what a match goes on.
@@ -168,6 +174,7 @@ module _ (zones first second : List ZoneBounds) (composed : IsComposition zones 
               }),
         );
     well = λ time h. record { well = h.well };
+    takes = λ read h. record { takes = tt };
   }
 
   -- Two sets become one.
@@ -183,6 +190,7 @@ module _ (zones first second : List ZoneBounds) (composed : IsComposition zones 
         (Scales-Means rest residual) a b n in
         ((λ h. two.0 (one.0 h)), (λ h. one.1 (two.1 h)));
     well = λ time h. record { well = h.well };
+    takes = λ read h. record { takes = h.takes };
   }
 
 -- A set goes into what a match follows.
@@ -204,6 +212,9 @@ preceded_followed zones first residual whole tree inner outer = record {
   well = λ time h.
       let f = inner.well time (record { well = h.well.0 }) in
       outer.well time (record { well = (f.well, h.well.1) });
+  takes = λ read h.
+      let f = inner.takes read (record { takes = h.takes }) in
+      outer.takes read (record { takes = f.takes });
 }
 
 -- A set goes into both sides of a choice.
@@ -256,4 +267,8 @@ preceded_either zones one one' other other' whole first second outer = record {
       let f = first.well time (record { well = h.well.0 }) in
       let g = second.well time (record { well = h.well.1 }) in
       outer.well time (record { well = (f.well, g.well) });
+  takes = λ read h.
+      let f = first.takes read (record { takes = h.takes.0 }) in
+      let g = second.takes read (record { takes = h.takes.1 }) in
+      outer.takes read (record { takes = (f.takes, g.takes) });
 }

@@ -11,7 +11,7 @@ use Rattle.tre_zone.specs.Held.{Held, EndAt}
 use Rattle.tre_zone.specs.Interval.{IntervalEnds, LastsWithin}
 use Rattle.tre_zone.specs.declared.zone_bounds.ZoneBounds.{ZoneBounds}
 use Rattle.tre_mark.specs.MarkTree.{MarkTree, mark_of}
-use Rattle.tre_mark.specs.Marked.{Marked}
+use Rattle.tre_mark.specs.Marked.{Since, CanTakeIn, Marked}
 use Rattle.tre_mark.specs.Marked as marks
 use Rattle.tre_residual.specs.declared.residual.Residual.{Residual}
 use Rattle.tre_residual.specs.declared.residual.Residual.TheVariants.{Nil, Here, At, Pre', Post', Or', Both', Dur', Mark}
@@ -73,11 +73,30 @@ IsWell time (marked mark tree) = marks.IsWellAt time mark tree × NumbersBelow N
 pub record IsWellAt (time : ℕ) (residual : ResidualTree) : Type 0 where
   pub well : IsWell time residual
 
--- The residual stands for the pairs of the form, whatever comes, and is well when the form is.
+-- Each intersection and each restriction that has begun in a mark can take in what begins later,
+-- where this was read.
+abbrev pub CanTake : Since → ResidualTree → Type 0
+CanTake read nothing = Unit {0}
+CanTake read (here zones) = Unit {0}
+CanTake read (joined zones tree) = Unit {0}
+CanTake read (preceded zones residual) = CanTake read residual
+CanTake read (followed residual tree) = CanTake read residual
+CanTake read (either one other) = CanTake read one × CanTake read other
+CanTake read (both one other) = CanTake read one × CanTake read other
+CanTake read (lasting residual ends) = CanTake read residual
+CanTake read (marked mark tree) = CanTakeIn read mark tree
+
+-- Where this was read, the marks of the residual can go on.
+pub record CanGoOn (read : Since) (residual : ResidualTree) : Type 0 where
+  pub takes : CanTake read residual
+
+-- The residual stands for the pairs of the form, whatever comes. It is well when the form is, and
+-- can go on where the form can.
 pub record Builds (residual form : ResidualTree) : Type 0 where
   pub pairs : (rest : Rest) (a b n : ℕ) → 0 < n
       → Means residual rest a b n ↔ Means form rest a b n
   pub well : (time : ℕ) → IsWellAt time form → IsWellAt time residual
+  pub takes : (read : Since) → CanGoOn read form → CanGoOn read residual
 
 -- The zones hold what those of the first hold, followed by what those of the second hold.
 pub record IsComposition (zones first second : List ZoneBounds) : Type 0 where

@@ -1,10 +1,15 @@
+use Rattle.std.proofs.Common.{arith}
 use Rattle.tests_matching.proofs.twins.begun.Goals as goal
 
-pub advanced-requires-clause-well : goal.advanced-requires-clause-well
-advanced-requires-clause-well c = c.in_ok-mark.ensures.well c.args.piece.now.begin
-
-pub returns-clause-forms : goal.returns-clause-forms
-returns-clause-forms c = c.in_ok-forms.ensures.across.well
+pub start-requires-clause-ends : goal.start-requires-clause-ends
+start-requires-clause-ends c = record {
+  ends = λ a b n some h.
+      let x = (c.in_ok-now.ensures.exact a b n some h.rising).0 h.held in
+      let low = x.starts in
+      let same = x.same in
+      let high = x.ends in
+      omega (arith, low, same, high);
+}
 
 pub returns-clause-mark : goal.returns-clause-mark
-returns-clause-mark c = c.in_ok-advanced.ensures
+returns-clause-mark c = c.in_ok-mark.ensures.well

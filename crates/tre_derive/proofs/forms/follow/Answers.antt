@@ -1,21 +1,29 @@
+use Rattle.std.proofs.Common.{List, sym, subst}
+use Rattle.tre_zone.specs.declared.zone_bounds.ZoneBounds.{ZoneBounds}
 use Rattle.tre_syntax.specs.Expr.{tree_of}
+use Rattle.tre_edges.specs.Piece.{end_of_piece}
+use Rattle.tre_mark.specs.Marked.{EndBetween}
 use Rattle.tre_residual.specs.Residual.{residual_tree}
-use Rattle.tre_derive.specs.Derivative.{ComesInside, ComesBehind}
-use Rattle.tre_derive.proofs.ToldAndLeft.{both_parts}
+use Rattle.tre_derive.specs.Derivative.{Begins}
 use Rattle.tre_derive.proofs.StepsOfForms.{step_followed}
 use Rattle.tre_derive.proofs.forms.follow.Goals as goal
 
+pub begin_behind-requires-clause-ends : goal.begin_behind-requires-clause-ends
+begin_behind-requires-clause-ends c =
+    let piece = c.args.piece.now in
+    subst (λ (list : List ZoneBounds). EndBetween piece.begin (end_of_piece piece) list)
+    (sym c.zones.ensures.same) c.requires.ends
+
 pub returns : goal.returns
-returns c =
+returns c residual steps =
     let piece = c.args.piece.now in
     let tree = tree_of c.args.expr.now in
     let inner = c.args.inner in
-    let rest = residual_tree inner.rest in
-    both_parts c.of.result c.match_inside-told.result c.match_behind-rest.result
-    (λ told. ComesInside inner.told tree piece told)
-    (λ whole. ComesBehind inner.told rest tree piece (residual_tree whole)) _
-    (λ s inside left residual steps.
-    step_followed piece residual inner.told rest steps inside.inside s.told tree left.across.across
-    left.begun left.behind (residual_tree s.rest) c.requires inside.exact inside.composed
-    left.across.fresh left.follows left.across.builds left.builds)
-    c.of.ensures.told c.of.ensures.rest c.match_inside-told.ensures c.match_behind-rest.ensures
+    let begun = c.in_ok-begun.begun in
+    step_followed piece residual inner.told (residual_tree inner.rest) steps tree begun.told
+    (residual_tree begun.rest) (residual_tree c.in_ok-rest.rest) c.requires.numbers
+    c.requires.ends
+    (subst (λ (list : List ZoneBounds).
+    Begins tree list piece begun.told (residual_tree begun.rest)) c.zones.ensures.same
+    c.in_ok-begun.ensures)
+    c.in_ok-rest.ensures

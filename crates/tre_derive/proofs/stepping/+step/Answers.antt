@@ -5,7 +5,7 @@ use Rattle.tre_syntax.specs.Expr.{tree_of}
 use Rattle.tre_mark.specs.MarkTree.{mark_of}
 use Rattle.tre_residual.specs.Residual.{ResidualTree, nothing, here, joined, preceded, followed, either, both, lasting, marked, residual_tree, IsWell}
 use Rattle.tre_derive.specs.Derivative.{StepsTo}
-use Rattle.tre_derive.proofs.StepsOfForms.{step_nothing, step_here}
+use Rattle.tre_derive.proofs.StepsOfForms.{step_nothing, step_here, told_between}
 use Rattle.tre_derive.proofs.stepping.+step.Goals as goal
 
 pub returns-in-Nil : goal.returns-in-Nil
@@ -22,7 +22,7 @@ returns-in_ok-try_clone-in-Here t c =
     let tree : residual_tree c.args.residual.now ≡ here ended = ap residual_tree c.in-Here.is in
     subst (λ (whole : ResidualTree). StepsTo whole piece told nothing) (sym tree)
     (step_here piece ended told
-    (subst (λ (whole : ResidualTree). IsWell piece.begin whole) tree c.requires.well)
+    (subst (λ (whole : ResidualTree). IsWell piece.begin whole) tree c.requires.well.well)
     c.in_ok-try_clone-in-Here.ensures)
 
 pub returns-in-At : goal.returns-in-At
@@ -46,6 +46,19 @@ returns-in_ok-inner-in-Pre t c =
     StepsTo whole c.args.piece.now stepped.told (residual_tree stepped.rest)) (sym tree)
     (steps inner c.args.piece.now c.in_ok-inner-in-Pre.ensures))
     c.precede.ensures
+
+-- Each pair that is told ends in the piece.
+pub follow-requires-clause-ends : goal.follow-requires-clause-ends
+follow-requires-clause-ends t c =
+    let piece = c.args.piece.now in
+    let inner = residual_tree c.deref-in-Post.result.now in
+    let told = c.in_ok-inner-in-Post.inner in
+    let tree : residual_tree c.args.residual.now ≡ followed inner (tree_of c.in-Post.expr) =
+    rw c.deref-in-Post.ensures (ap residual_tree c.in-Post.is) in
+    let well = subst (λ (whole : ResidualTree). IsWell piece.begin whole) tree
+    c.requires.well.well in
+    told_between piece inner told.told (residual_tree told.rest) well.0
+    c.in_ok-inner-in-Post.ensures
 
 pub returns-in_ok-inner-in-Post : goal.returns-in_ok-inner-in-Post
 returns-in_ok-inner-in-Post t c =

@@ -1,0 +1,2 @@
+-- What the functions inside promise each other: IsReady.
+pub mod Ready
