@@ -6,7 +6,7 @@ use Rattle.std.proofs.Math.Nat.{le-mul_of_pos_right, mul-le-mul_right}
 use Rattle.std.proofs.lemmas.Bool.{cases_lt}
 
 -- one more digit
-pub capped_step : (most n digit : ℕ) → min (min (min n most * 10) most + digit) most
+pub capped_step : (most n digit : ℕ) → min (min n most * 10 + digit) most
     ≡ min (n * 10 + digit) most
 capped_step most n digit = omega arith
 
@@ -15,10 +15,8 @@ pub capped_after : (most n : ℕ) (xs : List ℕ) → min (digits_value_after 10
     ≡ min (digits_value_after 10 n xs) most
 capped_after most n [] = omega arith
 capped_after most n (x ∷ xs) =
-    let step : min (min n most * 10 + digit_value x) most ≡ min (n * 10 + digit_value x) most =
-    omega arith in
     sym (capped_after most (min n most * 10 + digit_value x) xs)
-    ∙ ap (λ m. min (digits_value_after 10 m xs) most) step
+    ∙ ap (λ m. min (digits_value_after 10 m xs) most) (capped_step most n (digit_value x))
     ∙ capped_after most (n * 10 + digit_value x) xs
 
 -- a product

@@ -1,5 +1,5 @@
 // Numbers from bytes.
-ghost use Rattle.std.specs.Prelude.{◌≡◌, ◌-◌, ◌*◌, ◌^◌, ◌≤◌, length, min, true, false, IfNone, IfSome};
+ghost use Rattle.std.specs.Prelude.{◌≡◌, ◌-◌, ◌+◌, ◌*◌, ◌^◌, ◌<◌, ◌≤◌, length, min, true, false, IfNone, IfSome};
 ghost use Rattle.std.specs.Char.{is_ascii_digit};
 ghost use Rattle.std.specs.List.{list_all, position_or_len};
 ghost use Rattle.std.specs.Option.{option_map};
@@ -89,11 +89,21 @@ fn read_behind(number: u64, digits: &[u8]) -> Option<u64>
         if !byte.is_ascii_digit() {
             return None;
         }
-        longer = longer
-            .saturating_mul(10)
-            .saturating_add(u64::from(*byte - b'0'));
+        longer = with_digit(longer, *byte - b'0');
     }
     Some(longer)
+}
+
+// The number with this digit behind it; past 2^64 - 1 it stays there. The common case by itself
+// takes half the instructions.
+fn with_digit(number: u64, digit: u8) -> u64
+    requires { digit < 10 }
+    ensures { result ≡ min (number * 10 + digit) (2 ^ 64 - 1) }
+{
+    if number < u64::MAX / 10 {
+        return number * 10 + u64::from(digit);
+    }
+    number.saturating_mul(10).saturating_add(u64::from(digit))
 }
 
 // The number times so many tens; past 2^64 - 1 it stays there.
@@ -112,12 +122,7 @@ fn first_point(text: &[u8]) -> usize
     ensures place { result ≡ position_or_len is_point text.now }
     ensures within { result ≤ length text.now }
 {
-    for (place, &byte) in text.iter().enumerate() {
-        if byte == b'.' {
-            return place;
-        }
-    }
-    text.len()
+    text.iter().take_while(|&&byte| byte != b'.').count()
 }
 
 // Whether all these digits are 0.

@@ -19,9 +19,7 @@ loop-byte-preserved c =
         here,
       ) refl;
       value = rw (
-        c.saturating_add-longer.ensures,
-        c.saturating_mul.ensures,
-        c.from.ensures,
+        c.with_digit-longer.ensures,
         ←
             digit_value-digit _ here,
         c.loop-byte.invariant.value,
