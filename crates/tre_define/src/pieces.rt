@@ -5,10 +5,10 @@ ghost use Rattle.std.specs.Option.{option_map};
 ghost use Rattle.std.specs.Str.{IsUtf8};
 ghost use Rattle.tre_state.specs.Name.{continues_name, IsName, IsWord};
 ghost use Rattle.tre_define.specs.Pieces.{behind_equals, behind_piece, parts_behind, past_spaces, piece, sign_in};
-ghost use Rattle.tre_define.specs.Texts.{is_semicolon};
+ghost use Rattle.tre_define.specs.Texts.{is_semicolon, is_space};
 
 use crate::comparison::Comparison;
-use tre_state::{continues_name, is_name, is_word};
+use tre_state::{continues_name, front_len, is_name, is_word};
 
 /// What stands before the first semicolon, and what behind it, if there is one.
 pub fn first_part(bytes: &[u8]) -> (&[u8], Option<&[u8]>)
@@ -30,12 +30,15 @@ pub fn first_part(bytes: &[u8]) -> (&[u8], Option<&[u8]>)
 pub fn skip_spaces(bytes: &[u8]) -> &[u8]
     ensures { result.now ≡ past_spaces bytes.now }
 {
-    for (place, &byte) in bytes.iter().enumerate() {
-        if byte != b' ' {
-            return &bytes[place..];
-        }
-    }
-    &bytes[bytes.len()..]
+    &bytes[spaces_len(bytes)..]
+}
+
+// How many spaces stand in front.
+fn spaces_len(bytes: &[u8]) -> usize
+    ensures len { result ≡ prefix_len is_space bytes.now }
+    ensures within { result ≤ length bytes.now }
+{
+    front_len(bytes, |byte| byte == b' ')
 }
 
 /// The longest run of bytes of names behind spaces, and what stands behind it and further spaces.
@@ -53,12 +56,7 @@ fn word_len(bytes: &[u8]) -> usize
     ensures len { result ≡ prefix_len continues_name bytes.now }
     ensures within { result ≤ length bytes.now }
 {
-    for (place, &byte) in bytes.iter().enumerate() {
-        if !continues_name(byte) {
-            return place;
-        }
-    }
-    bytes.len()
+    front_len(bytes, |byte| continues_name(byte))
 }
 
 /// The name that the bytes are, if they are one.

@@ -14,6 +14,7 @@ use crate::number::number_in;
 use crate::pieces::{behind_equals, first_part, name_in, next_word, sign_in, skip_spaces};
 use crate::reads::Reads;
 use std::alloc::Global;
+use tre_state::front_len;
 
 /// The definitions of a text, in their order, with `;` between two. Each is one of three:
 /// `name = signal op number`, where the op is one of `<`, `<=`, `>`, `>=`, `==` and `!=`, and the
@@ -150,12 +151,7 @@ fn piece_len(bytes: &[u8]) -> usize
     ensures len { result ≡ prefix_len is_no_space bytes.now }
     ensures within { result ≤ length bytes.now }
 {
-    for (place, &byte) in bytes.iter().enumerate() {
-        if byte == b' ' {
-            return place;
-        }
-    }
-    bytes.len()
+    front_len(bytes, |byte| byte != b' ')
 }
 
 // What is read, by what stands behind a signal's text.

@@ -57,8 +57,7 @@ told_by column fields =
     option_map (λ number. compares column.comparison number column.value)
     (option_and_then whole_of (field_at fields column.place))
 
--- Whether the comparison of a name holds of a row. It doesn't where its field is no whole number,
--- or where the name has none.
+-- Whether the comparison of a name holds of a row: not where its field is no whole number.
 abbrev pub told_as : List Defined → List (List ℕ) → List (List ℕ) → List ℕ → Bool
 told_as definitions header fields name =
     option_map_or (λ told. told)
@@ -72,8 +71,7 @@ are_whole columns fields = list_all (λ column. is_some (told_by column fields))
 abbrev pub plain_stretch : ℕ → (List ℕ → Bool) → Stretch
 plain_stretch len is_true = record { len = len; is_true = is_true; happens = λ name. false }
 
--- So many units, behind a trace that ends at `end`, on which these names are true: where there is a
--- number of units and where the fields of all columns are whole.
+-- So many units behind `end`, on which these names are true, where all fields are whole numbers.
 abbrev pub stretch_says : ℕ → Option ℕ → Bool → (List ℕ → Bool) → Result Stretch TraceKind
 stretch_says end None whole is_true = Err BadNumber
 stretch_says end (Some len) whole is_true =
@@ -81,8 +79,7 @@ stretch_says end (Some len) whole is_true =
     else (if nat_le (end + len) TIME_MAX
     then (if whole then Ok (plain_stretch len is_true) else Err BadNumber) else Err TooLate)
 
--- What a recording of rows hangs on: the definitions, the names of propositions and events, since a
--- field of a name that is no whole number is a fault, and the scale of the durations.
+-- What a recording hangs on; a field of one of these names that is no whole number is a fault.
 pub record Terms : Type 0 where
   pub definitions : List Defined
   pub names : Vocabulary
@@ -95,8 +92,7 @@ terms_of definitions names events scale = record {
   scale = scale;
 }
 
--- What a row says behind a trace that ends at `end`, under this header, in which the names have
--- these columns. Its first field is a decimal: how long it lasts.
+-- What a row says behind `end`. Its first field is a decimal: how long it lasts.
 abbrev pub row_says : Terms → List (List ℕ) → List Column → ℕ → List (List ℕ)
     → Result Stretch TraceKind
 row_says terms header columns end fields =
@@ -125,8 +121,7 @@ abbrev pub under_header : Terms → List (List ℕ) → Option (List Column) →
 under_header terms header None rows = faulty 1 UnknownName
 under_header terms header (Some columns) rows = rows_from terms header columns 2 rows 0
 
--- The columns of all names, under this header: none where there is an event, since rows tell of
--- none.
+-- The columns of all names: none where there is an event, since rows tell of none.
 abbrev pub compared : Terms → List (List ℕ) → Option (List Column)
 compared terms header =
     if length terms.names.events == 0

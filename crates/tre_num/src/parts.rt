@@ -8,6 +8,7 @@ ghost use Rattle.tre_define.specs.Pieces.{behind_piece, piece};
 
 use crate::whole::read_whole;
 use tre_define::{Comparison, behind_equals, name_in, next_word, sign_in, skip_spaces, word_in};
+use tre_state::front_len;
 
 /// The parts of a definition, where they stand in its text.
 #[derive(Clone, Copy, Debug)]
@@ -63,12 +64,7 @@ fn number_len(bytes: &[u8]) -> usize
     ensures len { result ≡ prefix_len is_whole_byte bytes.now }
     ensures within { result ≤ length bytes.now }
 {
-    for (place, &byte) in bytes.iter().enumerate() {
-        if !is_whole_byte(byte) {
-            return place;
-        }
-    }
-    bytes.len()
+    front_len(bytes, is_whole_byte)
 }
 
 fn is_whole_byte(byte: u8) -> bool

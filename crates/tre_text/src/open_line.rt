@@ -3,7 +3,7 @@ ghost use Rattle.std.specs.Prelude.{◌≡◌, ◌≢◌, ◌<◌, ◌≤◌, �
 ghost use Rattle.std.specs.List.{list_all};
 ghost use Rattle.tre_decimal.specs.declared.TheConstants.{SCALE_MAX};
 ghost use Rattle.tre_parts.specs.Skims.{TakesPart};
-ghost use Rattle.tre_state.specs.Name.{continues_name};
+ghost use Rattle.tre_state.specs.Name.{continues_name, starts_name};
 ghost use Rattle.tre_text.specs.Lines.{Knows};
 ghost use Rattle.tre_text.specs.Plain.{asked_of, IsOpened};
 ghost use Rattle.tre_text.specs.TextReading.{Past, fields_among, fields_say};
@@ -13,7 +13,7 @@ use crate::line::{length_of, with_name};
 use std::alloc::Global;
 use tre_decimal::begins_with_a_digit;
 use tre_pairs::TIME_MAX;
-use tre_state::{Names, starts_name};
+use tre_state::Names;
 use tre_trace::Segment;
 
 // What the words of a line say that isn't ended yet.
@@ -117,4 +117,13 @@ impl OpenLine {
             Err(_) => false,
         }
     }
+}
+
+// Whether a byte that names go on with may begin one too: those that may not come first.
+#[inline(always)]
+fn starts_name(byte: u8) -> bool
+    requires { continues_name byte ≡ true }
+    ensures { result ≡ starts_name byte }
+{
+    byte > b'9'
 }

@@ -21,6 +21,7 @@ mod Rows
 mod Scoping
 mod Skimming
 mod Standing
+mod Slots
 mod Staying
 mod Testing
 mod TokenRuns

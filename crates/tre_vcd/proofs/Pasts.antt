@@ -8,7 +8,9 @@ use Rattle.std.specs.Option.{option_or, option_map_or}
 use Rattle.std.specs.Prelude.{All}
 use Rattle.tre_trace.specs.Reading.{Vocabulary}
 use Rattle.tre_vcd.specs.VcdReading.{Form, Statement, var, time, change, scalar, is_defined, time_at, scopes_at, in_dump, letters_at, happened_at, is_signal, is_event, path}
-use Rattle.tre_vcd.specs.Kept.{ends_true, identifier_of, value_at, Knows, IsQuiet, AreScopes, AreKnown, KeepsNames, AreHaving, IsWithin, Declares, DeclaresNone, DeclaresNoneWithin, and_declared, valuation_at, events_at}
+use Rattle.tre_vcd.specs.Brief.{IsBriefOf}
+use Rattle.tre_vcd.specs.declared.brief.Brief.{Brief}
+use Rattle.tre_vcd.specs.Kept.{ends_true, identifier_at, identifier_of, value_at, Knows, IsQuiet, AreScopes, AreKnown, KeepsNames, AreHaving, IsWithin, Declares, DeclaresNone, DeclaresNoneWithin, and_declared, valuation_at, events_at}
 use Rattle.tre_vcd.specs.declared.scopes.Scopes.{Scopes}
 use Rattle.tre_vcd.specs.declared.past.Past.{Past}
 use Rattle.tre_vcd.specs.declared.variables.Variables.{Variables}
@@ -44,6 +46,24 @@ quiet-same past now same quiet = record {
   events = λ identifier. same.events identifier ∙ quiet.events identifier;
 }
 
+-- where it is told anew which identifiers are short
+pub knows-brief : (names event_names : List (List ℕ)) (kept : Past) (past : List Statement)
+    (brief : Brief) → IsBriefOf (identifier_at kept.propositions.list.items) brief
+    → Knows names event_names kept past
+    → Knows names event_names (record kept { brief = brief }) past
+knows-brief names event_names kept past brief told known = record {
+  defined = known.defined;
+  dump = known.dump;
+  time = known.time;
+  scopes = known.scopes;
+  propositions = known.propositions;
+  events = known.events;
+  values = known.values;
+  happened = known.happened;
+  quiet = known.quiet;
+  brief = λ e. told;
+}
+
 -- a statement that says nothing of names and times
 pub knows-later : (names event_names : List (List ℕ)) (kept : Past) (past : List Statement)
     (statement : Statement)
@@ -51,6 +71,8 @@ pub knows-later : (names event_names : List (List ℕ)) (kept : Past) (past : Li
     → dumps ≡ in_dump (statement ∷ past) → time_at (statement ∷ past) ≡ time_at past
     → LooksSame past (statement ∷ past)
     → (is_defined (statement ∷ past) ≡ false → is_defined past ≡ false)
+    → (is_defined (statement ∷ past) ≡ true → IsBriefOf (identifier_at kept.propositions.list.items)
+    kept.brief)
     → AreScopes (scopes_at (statement ∷ past)) scopes.prefix.items scopes.lens.items
     → Knows names event_names kept past
     → Knows names event_names (record kept {
@@ -60,7 +82,7 @@ pub knows-later : (names event_names : List (List ℕ)) (kept : Past) (past : Li
     })
     (statement ∷ past)
 knows-later names event_names kept past statement defined dumps scopes is_now dumps_now same_time
-    same before
+    same before told
     are known = record {
       defined = is_now;
       dump = dumps_now;
@@ -75,6 +97,7 @@ knows-later names event_names kept past statement defined dumps scopes is_now du
       values = known.values ∙ values-same past (statement ∷ past) names same;
       happened = known.happened ∙ events-same past (statement ∷ past) event_names same;
       quiet = λ e. quiet-same past (statement ∷ past) same (known.quiet (before e));
+      brief = told;
     }
 
 pub knows-begins : (names event_names : List (List ℕ)) (kept : Past) → kept.is_defined ≡ false
@@ -104,6 +127,7 @@ knows-begins names event_names kept defined dumps ticks scopes propositions even
           ∙ sym (mask-quiet (identifier_of is_event []) (happened_at []) 0 event_names
           (λ identifier. refl));
       quiet = λ e. record { values = λ identifier. refl; events = λ identifier. refl };
+      brief = λ e. absurd (cc (e));
     }
 
 -- ---- times
@@ -155,6 +179,7 @@ knows-time names event_names kept past ticks other known =
           (λ identifier. ap (λ (b : Bool). if b then happened_at past identifier else false)
           later));
       quiet = λ e. quiet-time past ticks (known.quiet e);
+      brief = known.brief;
     }
 
 -- the same time again
@@ -185,6 +210,7 @@ knows-same_time names event_names kept past ticks is known =
       values = known.values ∙ values-same past (time ticks ∷ past) names same;
       happened = known.happened ∙ events-same past (time ticks ∷ past) event_names same;
       quiet = λ e. quiet-same past (time ticks ∷ past) same (known.quiet e);
+      brief = known.brief;
     }
 
 -- ---- changes
@@ -241,6 +267,7 @@ knows-change names event_names kept past form identifier letters value values
       quiet = λ e.
           let wrong : true ≡ false = sym defined ∙ e in
           absurd (cc (wrong));
+      brief = known.brief;
     }
 
 -- the events stay where a change says none
@@ -400,6 +427,9 @@ knows-declared names event_names kept past tokens propositions events before sig
           ∙ sym (mask-quiet (identifier_of is_event now) (happened_at now) 0 event_names
           quiet.events);
       quiet = λ e. record { values = quiet.values; events = quiet.events };
+      brief = λ e.
+          let wrong : true ≡ false = sym e ∙ before in
+          absurd (cc (wrong));
     }
 
 keeps-within : (longest : ℕ) (test : List ℕ → List ℕ → Bool) (past : List Statement)

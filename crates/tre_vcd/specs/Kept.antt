@@ -1,5 +1,5 @@
 -- What the reader keeps of the past: each field is what a look back over it finds.
-use Rattle.std.specs.Prelude.{◌≡◌, ◌≤◌, ℕ, zero, suc, ◌+◌, ◌-◌, ◌^◌, Bool, false, ◌==◌, List, [], ◌∷◌, ◌++◌, length, map, All, Option, None, Some, slice_index, if◌then◌else◌}
+use Rattle.std.specs.Prelude.{◌≡◌, ◌≤◌, ℕ, zero, suc, ◌+◌, ◌-◌, ◌^◌, Bool, true, false, ◌==◌, List, [], ◌∷◌, ◌++◌, length, map, All, Option, None, Some, slice_index, if◌then◌else◌}
 use Rattle.std.specs.Option.{is_some, option_map, option_map_or, option_or}
 use Rattle.std.specs.Str.{bytes_eq}
 use Rattle.std.specs.Int.{bit_at}
@@ -10,6 +10,7 @@ use Rattle.tre_vcd.specs.declared.variable.Variable.{Variable}
 use Rattle.tre_vcd.specs.declared.variables.Variables.{Variables}
 use Rattle.tre_vcd.specs.declared.past.Past.{Past}
 use Rattle.tre_vcd.specs.declared.found.Found.{Found}
+use Rattle.tre_vcd.specs.Brief.{IsBriefOf}
 use Rattle.tre_vcd.specs.Needs.{needs}
 
 -- ---- names that have no definition
@@ -117,7 +118,7 @@ pub record IsQuiet (past : List Statement) : Type 0 where
   pub events : (identifier : List ℕ) → happened_at past identifier ≡ false
 
 -- Each field is its look-back, for propositions and events of these names. Before the declarations
--- end it is quiet.
+-- end it is quiet, and then it is told which identifiers are short.
 pub record Knows (names event_names : List (List ℕ)) (kept : Past) (past : List Statement) : Type 0
   where
     pub defined : kept.is_defined ≡ is_defined past
@@ -129,6 +130,8 @@ pub record Knows (names event_names : List (List ℕ)) (kept : Past) (past : Lis
     pub values : kept.values ≡ valuation_at past names
     pub happened : kept.happened ≡ events_at past event_names
     pub quiet : is_defined past ≡ false → IsQuiet past
+    pub brief : is_defined past ≡ true → IsBriefOf (identifier_at kept.propositions.list.items)
+        kept.brief
 
 -- ---- names that must be declared
 

@@ -5,6 +5,7 @@ pub mod Needs
 pub mod Deciding
 pub mod Dumps
 -- What the functions inside promise each other.
+pub mod Brief
 pub mod Kept
 pub mod Signals
 pub mod Offers

@@ -17,6 +17,7 @@
 //! ```
 #![tactic(auto)]
 
+mod brief;
 mod changes;
 mod command;
 mod definitions;

@@ -1,8 +1,9 @@
 // What the reader keeps of the statements that it has read.
 ghost use Rattle.std.specs.Prelude.{◌≡◌, ◌==◌, ◌&&◌, not, length, ◌∷◌, ℕ, List, [], true, false, OnOk};
-ghost use Rattle.tre_vcd.specs.VcdReading.{Statement, scope, upscope, var, definitions, time, change, scalar, wide, dump, dump_end, is_defined, scopes_at, is_signal, is_event};
+ghost use Rattle.tre_vcd.specs.VcdReading.{Statement, scope, upscope, var, definitions, time, change, scalar, wide, dump, dump_end, is_defined, in_dump, scopes_at, is_signal, is_event};
 ghost use Rattle.tre_vcd.specs.Kept.{Knows, ends_true, Declares, DeclaresNone, valuation_at, events_at};
 
+use crate::brief::Brief;
 use crate::scopes::Scopes;
 use crate::variable::set_value;
 use crate::variables::Variables;
@@ -19,6 +20,8 @@ pub struct Past {
     pub scopes: Scopes,
     pub propositions: Variables,
     pub events: Variables,
+    // Once the declarations have ended, the identifiers of the propositions.
+    pub brief: Brief,
     // Bit k is the value of proposition k.
     pub values: u64,
     // Bit k says whether event k happened at the time.
@@ -38,6 +41,7 @@ impl Past {
             scopes: Scopes::new(alloc),
             propositions: Variables::new(alloc),
             events: Variables::new(alloc),
+            brief: Brief::new(),
             values: 0,
             happened: 0,
         }
@@ -96,13 +100,14 @@ impl Past {
         Ok(())
     }
 
-    // The declarations end.
-    pub fn define(&mut self)
-        ensures { (names event_names : List (List ℕ)) (past : List Statement) →
-            Knows names event_names self.old past →
-            Knows names event_names self.new (definitions ∷ past) }
+    // The declarations end, those of the propositions of these names among them.
+    pub fn define(&mut self, names: &Names)
+        ensures { (event_names : List (List ℕ)) (past : List Statement) →
+            Knows names.now event_names self.old past →
+            Knows names.now event_names self.new (definitions ∷ past) }
     {
         self.is_defined = true;
+        self.brief = Brief::of(names, &self.propositions.list);
     }
 
     // A time is reached.
@@ -127,7 +132,7 @@ impl Past {
             Knows names event_names self.new (change wide identifier.now letters ∷ past) }
         ensures defined { self.new.is_defined ≡ self.old.is_defined }
     {
-        let changed = self.propositions.having_soon(identifier);
+        let changed = self.brief.having(&self.propositions, identifier);
         set_value(&mut self.values, changed, value);
     }
 
@@ -148,12 +153,25 @@ impl Past {
             Knows names event_names self.new (change scalar identifier.now letters ∷ past) }
         ensures defined { self.new.is_defined ≡ self.old.is_defined }
     {
-        let changed = self.propositions.having_soon(identifier);
+        let changed = self.brief.having(&self.propositions, identifier);
         set_value(&mut self.values, changed, value);
         if self.reads_events() {
-            let said = self.events.having_apart(identifier);
-            set_value(&mut self.happened, said, true);
+            self.say_event(identifier);
         }
+    }
+
+    // The events of this identifier happen. Apart from the code of its caller.
+    #[inline(never)]
+    fn say_event(&mut self, identifier: &[u8])
+        ensures happened { (values : ℕ) (names event_names : List (List ℕ))
+            (past : List Statement) (letters : List ℕ) →
+            Knows names event_names (record self.old { values = values }) past →
+            in_dump past ≡ false → self.new.happened
+            ≡ events_at (change scalar identifier.now letters ∷ past) event_names }
+        ensures same { self.new ≡ record self.old { happened = self.new.happened } }
+    {
+        let said = self.events.having(identifier);
+        set_value(&mut self.happened, said, true);
     }
 
     // A dump section opens.

@@ -541,7 +541,7 @@ impl TokenReader {
             }
             Command::Var => self.end_declaration(),
             Command::EndDefinitions => {
-                self.past.define();
+                self.past.define(&self.names);
                 self.signals.sift();
                 self.close();
                 Said::Nothing

@@ -1,6 +1,6 @@
 ghost use Rattle.std.specs.Prelude.{◌≡◌, ◌≢◌, ◌↔◌, ◌<◌, ℕ, Some, true, if◌then◌else◌, OnOk};
 ghost use Rattle.std.specs.Int.{bit_at};
-ghost use Rattle.std.specs.Option.{option_or};
+ghost use Rattle.std.specs.Option.{option_map, option_or};
 ghost use Rattle.tre_vcd.specs.Kept.{identifier_kept, has_identifier, identifier_at};
 
 use std::alloc::{AllocError, Global};
@@ -31,6 +31,16 @@ impl Variable {
         Ok(())
     }
 
+    // Its identifier, if it is declared.
+    fn identifier(&self) -> Option<&[u8]>
+        ensures { option_map (λ bytes. bytes.now) result ≡ identifier_kept self.now }
+    {
+        match &self.identifier {
+            Some(own) => Some(own.as_slice()),
+            None => None,
+        }
+    }
+
     // Whether this is its identifier.
     fn has_identifier(&self, identifier: &[u8]) -> bool
         ensures { result ≡ has_identifier (identifier_kept self.now) identifier.now }
@@ -40,6 +50,17 @@ impl Variable {
             None => false,
         }
     }
+}
+
+// The identifier of the variable of this number, if it has one.
+pub fn identifier_of(variables: &[Variable], number: u8) -> Option<&[u8]>
+    ensures { option_map (λ bytes. bytes.now) result ≡ identifier_at variables.now number }
+{
+    let place = usize::from(number);
+    if place >= variables.len() {
+        return None;
+    }
+    variables[place].identifier()
 }
 
 // Whether the variable of this number has this identifier.

@@ -74,18 +74,6 @@ impl Variables {
         self.list.as_slice().is_empty()
     }
 
-    // The same as `having`, which is asked only where an identifier ends as this one.
-    #[inline(always)]
-    pub fn having_soon(&self, identifier: &[u8]) -> u64
-        ensures { IsSieveOf self.now.list.items self.now.sieve →
-            AreHaving self.now.list.items identifier.now result }
-    {
-        if !self.sieve.may_be(identifier) {
-            return 0;
-        }
-        self.having(identifier)
-    }
-
     // The same as `having`, apart from the code of its caller.
     #[inline(never)]
     pub fn having_apart(&self, identifier: &[u8]) -> u64

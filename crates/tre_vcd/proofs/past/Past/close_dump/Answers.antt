@@ -10,4 +10,4 @@ returns c = λ names event_names past known.
       identifiers = λ test name. refl;
       values = λ identifier. refl;
       events = λ identifier. refl;
-    }) (λ e. e) known.scopes known
+    }) (λ e. e) known.brief known.scopes known

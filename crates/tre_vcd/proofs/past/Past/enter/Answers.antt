@@ -12,5 +12,5 @@ returns c = λ names event_names past known.
       identifiers = λ test name. refl;
       values = λ identifier. refl;
       events = λ identifier. refl;
-    }) (λ e. e) are known)
+    }) (λ e. e) known.brief are known)
     (c.enter.ensures (scopes_at past) known.scopes)

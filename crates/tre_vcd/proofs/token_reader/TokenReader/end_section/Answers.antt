@@ -42,7 +42,7 @@ returns-in-EndDefinitions-clause-tells c = λ past word tokens holds is.
       state = record { past = definitions ∷ past; inside = nothing };
       says = section-ended past word tokens EndDefinitions (sym c.in-EndDefinitions.is ∙ is);
       is_held = c.close-in-EndDefinitions.ensures.holds (definitions ∷ past) (record {
-        past = c.define.ensures reader.names reader.events past holds.knows.past;
+        past = c.define.ensures reader.events past holds.knows.past;
         needed = needed-same past (definitions ∷ past) reader.needed.items (λ test name. refl)
             holds.knows.needed;
         signals = c.sift.ensures.knows reader.names reader.events past holds.knows.signals;
