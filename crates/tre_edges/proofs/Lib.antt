@@ -2,6 +2,8 @@ pub mod EndsOfLists
 pub mod EmptySets
 pub mod RunLists
 pub mod SpansWithin
+pub mod PartsOfRuns
+pub mod EdgesOfRuns
 pub mod InstantLists
 pub mod Literals
 pub mod InstantsOfRests
@@ -13,6 +15,7 @@ pub mod RunsOfTraces
 pub mod EdgesOfTraces
 pub mod EventsOfTraces
 pub mod NextTurns
+pub mod NextParts
 pub mod Turns
 pub mod MomentsOfTraces
 pub mod AtomsOfSegments

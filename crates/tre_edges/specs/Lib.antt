@@ -1,6 +1,7 @@
 -- What a reader must believe: how the zones of a set stand, where a state holds, and what a piece
 -- of a trace is.
 pub mod Runs
+pub mod RunParts
 pub mod Instants
 pub mod StateWords
 pub mod Piece

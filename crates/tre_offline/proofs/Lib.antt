@@ -3,3 +3,4 @@ pub mod Operations
 pub mod FoundZones
 pub mod LastingUpTo
 pub mod Iterating
+pub mod EdgedLiterals

@@ -2,3 +2,4 @@
 -- each other is said with the words of the layers below.
 pub mod MatchSet
 pub mod Lengths
+pub mod Edged

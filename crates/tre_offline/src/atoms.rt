@@ -1,5 +1,5 @@
 // What the atoms of an expression match, over what is still to come of a trace.
-ghost use Rattle.std.specs.Prelude.{◌≡◌, ◌<◌, ◌≤◌, IfOk};
+ghost use Rattle.std.specs.Prelude.{◌≡◌, ◌<◌, ◌≤◌, IfOk, IfSome};
 ghost use Rattle.tre_pairs.specs.Pairs.{Lasting};
 ghost use Rattle.tre_pairs.specs.declared.TheConstants.{TIME_MAX};
 ghost use Rattle.tre_state.specs.State.{tree_of};
@@ -12,11 +12,12 @@ ghost use Rattle.tre_zone.specs.Interval.{LastsWithin};
 ghost use Rattle.tre_zone.specs.Zone.{GivesZone};
 ghost use Rattle.tre_zone.specs.ZoneList.{HoldExactly};
 ghost use Rattle.tre_edges.specs.Piece.{rest_of_piece};
+ghost use Rattle.tre_edges.specs.RunParts.{IsRunPart, LastsIn};
 
 use std::alloc::{AllocError, Global};
 use tre_edges::{
-    Piece, event_in, events, fall_in, falls, literal, literal_in, literal_within, moments,
-    moments_in, rise_in, rises,
+    Piece, RunEdges, event_in, events, fall_in, falls, literal, literal_in, literal_within,
+    moments, moments_in, rise_in, rises, run_parts,
 };
 use tre_state::{NAMES_MAX, State};
 use tre_trace::Trace;
@@ -59,6 +60,20 @@ pub trait Atoms {
         ensures { IfOk result (λ zones.
             HoldExactly zones (Lasting (LastsWithin interval.now)
             (AtomMatches (rest self.now) (pattern.literal (tree_of state.now))))) };
+
+    /// The matches of the state as a literal that begin and end at these edges. Where there is an
+    /// interval, those alone whose duration is in it. None where they are not found at once.
+    fn run_parts(
+        &self,
+        alloc: Global,
+        state: &State,
+        edges: RunEdges,
+        interval: Option<Interval>,
+    ) -> Result<Option<ZoneSet>, AllocError>
+        requires { NumbersBelow NAMES_MAX (tree_of state.now) }
+        ensures { IfOk result (λ found. IfSome found (λ zones.
+            HoldExactly zones (Lasting (LastsIn interval)
+            (IsRunPart edges (tree_of state.now) (rest self.now))))) };
 
     /// The instants at which the state becomes true.
     fn rises(&self, alloc: Global, state: &State) -> Result<ZoneSet, AllocError>
@@ -107,6 +122,17 @@ impl Atoms for Trace {
         literal_within(alloc, state, self, interval)
     }
 
+    fn run_parts(
+        &self,
+        alloc: Global,
+        state: &State,
+        edges: RunEdges,
+        interval: Option<Interval>,
+    ) -> Result<Option<ZoneSet>, AllocError> {
+        let zones = run_parts(alloc, state, self, edges, interval)?;
+        Ok(Some(zones))
+    }
+
     fn rises(&self, alloc: Global, state: &State) -> Result<ZoneSet, AllocError> {
         rises(alloc, state, self)
     }
@@ -147,6 +173,16 @@ impl Atoms for Piece {
     ) -> Result<ZoneSet, AllocError> {
         let all = self.literal(alloc, state)?;
         all.into_within(interval)
+    }
+
+    fn run_parts(
+        &self,
+        _alloc: Global,
+        _state: &State,
+        _edges: RunEdges,
+        _interval: Option<Interval>,
+    ) -> Result<Option<ZoneSet>, AllocError> {
+        Ok(None)
     }
 
     fn rises(&self, alloc: Global, state: &State) -> Result<ZoneSet, AllocError> {

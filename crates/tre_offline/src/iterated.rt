@@ -95,8 +95,8 @@ fn is_same_atom(one: &Expr, other: &Expr) -> bool
     }
 }
 
-// Whether the two are the same state.
-fn is_same_state(one: &State, other: &State) -> bool
+/// Whether the two are the same state.
+pub(crate) fn is_same_state(one: &State, other: &State) -> bool
     ensures { IsTrue result → states.tree_of one.now ≡ states.tree_of other.now }
 {
     match one {

@@ -20,6 +20,7 @@ pub use matching::{into_matches, local, matches, matches_among};
 
 mod atoms;
 mod closing;
+mod edged;
 mod iterated;
 mod lengths;
 mod matching;

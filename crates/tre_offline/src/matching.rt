@@ -1,5 +1,5 @@
 // The matches of an expression, from those of its parts.
-ghost use Rattle.std.specs.Prelude.{IfOk};
+ghost use Rattle.std.specs.Prelude.{IfOk, IfSome};
 ghost use Rattle.tre_pairs.specs.Pairs.{Lasting};
 ghost use Rattle.tre_syntax.specs.Expr.{tree_of};
 ghost use Rattle.tre_syntax.specs.Meaning.{MatchesRest};
@@ -12,6 +12,7 @@ ghost use Rattle.tre_edges.specs.Piece.{rest_of_piece};
 ghost use Rattle.tre_offline.specs.MatchSet.{IsMatchSet, AreMatchesAmong};
 
 use crate::atoms::Atoms;
+use crate::edged::edged;
 use crate::iterated::{is_iterated, repeats};
 use crate::lengths::{goes_first, is_repetition, longest_beside, longest_for};
 use crate::operators::{followed, joined, met, repeated, restricted, shortened};
@@ -78,6 +79,23 @@ pub fn local(alloc: Global, expr: &Expr, piece: &Piece) -> Result<ZoneSet, Alloc
     Ok(zones)
 }
 
+// The matches of the expression, where it is a literal with its edges, and where they are found at
+// once.
+fn edged_matches<A: Atoms>(
+    alloc: Global,
+    expr: &Expr,
+    atoms: &A,
+) -> Result<Option<ZoneSet>, AllocError>
+    requires { NumbersBelow NAMES_MAX (tree_of expr.now) }
+    ensures { IfOk result (λ found. IfSome found (λ zones.
+        HoldExactly zones (MatchesRest (tree_of expr.now) (A.rest atoms.now)))) }
+{
+    match edged(expr) {
+        Some(it) => atoms.run_parts(alloc, it.state, it.edges, it.interval),
+        None => Ok(None),
+    }
+}
+
 // The matches of the expression that last at most `longest`: all, where there is none. Each
 // operator makes its set of those of its parts.
 fn matches_of<A: Atoms>(
@@ -91,6 +109,9 @@ fn matches_of<A: Atoms>(
     ensures { IfOk result (λ zones. HoldExactly zones
         (Lasting (LastsUpTo longest) (MatchesRest (tree_of expr.now) (A.rest atoms.now)))) }
 {
+    if let Some(found) = edged_matches(alloc, expr, atoms)? {
+        return shortened(found, longest);
+    }
     match expr {
         Expr::Eps => {
             let all = atoms.moments(alloc)?;
@@ -174,6 +195,9 @@ fn last_matches_of(
     ensures { IfOk result (λ zones. HoldExactly zones
         (Lasting (LastsUpTo longest) (MatchesRest (tree_of expr.now) (whole trace)))) }
 {
+    if let Some(found) = edged_matches(alloc, expr, &trace)? {
+        return shortened(found, longest);
+    }
     match expr {
         Expr::Seq(left, right) => {
             if is_iterated(left, right) {

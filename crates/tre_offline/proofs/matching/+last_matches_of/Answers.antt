@@ -1,5 +1,5 @@
 -- The operator at the top is the tree's, and its parts are those of the tree.
-use Rattle.std.proofs.Common.{◌≡◌, ◌∙◌, ap}
+use Rattle.std.proofs.Common.{◌≡◌, ◌∙◌, ap, refl}
 use Rattle.tre_syntax.specs.Expr.{tree_of}
 use Rattle.tre_syntax.specs.PatternTree.{PatternTree, sequence, alternation, intersection, repetition, restriction}
 use Rattle.tre_syntax.specs.Rest.{whole}
@@ -128,3 +128,10 @@ returns-in_ok-all-in-Within t c =
     (λ zones exact. exact c.up_to-inner.result c.args.longest all rest c.up_to-inner.ensures.same
     c.in_ok-all-in-Within.ensures)
     c.restricted.ensures
+
+pub returns-in-Some : goal.returns-in-Some
+returns-in-Some t c =
+    let rest = whole c.args.trace in
+    short_of_form c.shortened.result c.args.longest rest refl _
+    (λ zones told. told (tree_of c.args.expr.now) rest (rw c.in-Some.is at c.in_ok-found.ensures))
+    c.shortened.ensures

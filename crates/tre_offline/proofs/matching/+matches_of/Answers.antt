@@ -1,5 +1,5 @@
 -- The operator at the top is the tree's, and its parts are those of the tree.
-use Rattle.std.proofs.Common.{◌≡◌, ◌∙◌, ap}
+use Rattle.std.proofs.Common.{◌≡◌, ◌∙◌, ap, refl}
 use Rattle.tre_state.specs.State as states
 use Rattle.tre_syntax.specs.Expr.{tree_of}
 use Rattle.tre_syntax.specs.PatternTree.{PatternTree, atom, empty, literal, rise, fall, event, sequence, alternation, intersection, repetition, restriction}
@@ -149,8 +149,8 @@ returns-in_ok-all-in-Eps g t c =
     let rest = g.A.Atoms.rest c.args.atoms.now in
     let part : PatternTree = atom empty in
     let tree : tree_of c.args.expr.now ≡ part = ap tree_of c.in-Eps.is in
-    short_of_form c.shortened.result c.args.longest rest tree _
-    (λ zones exact. exact part rest c.in_ok-all-in-Eps.ensures) c.shortened.ensures
+    short_of_form c.shortened-in-Eps.result c.args.longest rest tree _
+    (λ zones exact. exact part rest c.in_ok-all-in-Eps.ensures) c.shortened-in-Eps.ensures
 
 pub returns-in_ok-all-in-Lit : goal.returns-in_ok-all-in-Lit
 returns-in_ok-all-in-Lit g t c =
@@ -183,3 +183,10 @@ returns-in_ok-all-in-Event g t c =
     let tree : tree_of c.args.expr.now ≡ part = ap tree_of c.in-Event.is in
     short_of_form c.shortened-in-Event.result c.args.longest rest tree _
     (λ zones exact. exact part rest c.in_ok-all-in-Event.ensures) c.shortened-in-Event.ensures
+
+pub returns-in-Some : goal.returns-in-Some
+returns-in-Some g t c =
+    let rest = g.A.Atoms.rest c.args.atoms.now in
+    short_of_form c.shortened.result c.args.longest rest refl _
+    (λ zones told. told (tree_of c.args.expr.now) rest (rw c.in-Some.is at c.in_ok-found.ensures))
+    c.shortened.ensures
