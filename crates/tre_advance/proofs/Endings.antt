@@ -22,9 +22,7 @@ use Rattle.tre_mark.proofs.Agreeing.{agree_refl, agree_sym, agree_then, agree_co
 use Rattle.tre_mark.proofs.Growth.{mark_ends}
 use Rattle.tre_mark.proofs.Meanings.{around_present}
 use Rattle.tre_advance.specs.Moves.{AreAmong}
-use Rattle.tre_advance.specs.Tail.{TellsMarked, tail_start, tail_end, rest_of_tail}
-use Rattle.tre_advance.specs.declared.tail.Tail.{Tail}
-use Rattle.tre_advance.specs.declared.tail.Tail.TheVariants.{Over, End}
+use Rattle.tre_advance.specs.Tail.{Tail, Over, End, TellsMarked, tail_start, tail_end, rest_of_tail}
 use Rattle.tre_advance.proofs.Crossings.{distributes}
 use Rattle.tre_advance.proofs.Lists.{held_append}
 use Rattle.tre_advance.proofs.SetsOf.{no_pair, set_agrees, set_of}

@@ -26,6 +26,8 @@ pub mod Passings
 -- what a mark stands for where nothing more comes
 pub mod Closings
 pub mod Endings
+-- what a piece alone makes of a mark
+pub mod Surveys
 -- and as the calls say it
 pub mod AtomForms
 pub mod AtomLists

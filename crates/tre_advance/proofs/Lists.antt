@@ -1,5 +1,5 @@
 -- Lists of zones that are put behind others.
-use Rattle.std.proofs.Common.{◌≡◌, ◌↔◌, ◌∙◌, ℕ, ◌+◌, ◌*◌, ◌<◌, ◌≤◌, List, [], ◌∷◌, ◌++◌, length, get_or, slice_index_or, take, Option, Some, None, IfSome, inl, inr, ⊎_elim, ap, refl, sym, subst, arith}
+use Rattle.std.proofs.Common.{◌≡◌, ◌↔◌, ◌∙◌, ℕ, ◌+◌, ◌*◌, ◌<◌, ◌≤◌, List, [], ◌∷◌, ◌++◌, length, get_or, slice_index_or, ◌⊎◌, Any, take, Option, Some, None, IfSome, inl, inr, ⊎_elim, ap, refl, sym, subst, arith}
 use Rattle.std.proofs.lemmas.Bool.{cases_lt}
 use Rattle.std.proofs.lemmas.List.{append_assoc, take_all, take_more}
 use Rattle.std.proofs.Math.Nat.{mul-le-mul_right}
@@ -12,7 +12,12 @@ use Rattle.tre_zone.specs.Longest.{AllLastUpTo}
 use Rattle.tre_zone.specs.United.{GivesUnion}
 use Rattle.tre_zone.specs.ZoneList.{SetHolds, AreCanonical, HoldExactly}
 use Rattle.tre_zone.specs.declared.zone_bounds.ZoneBounds.{ZoneBounds}
-use Rattle.tre_zone.proofs.ZoneListLemmas.{AreCanonical-push, SetHolds-append, SetHolds-empty}
+use Rattle.tre_zone.proofs.ZoneListLemmas.{AreCanonical-push, SetHolds-append, SetHolds-empty, SetHolds-push}
+use Rattle.std.specs.List.{swap_remove}
+use Rattle.std.specs.List.Sorted.{IsPermutation}
+use Rattle.std.proofs.lemmas.List.Sorted.{IsPermutation-swap_remove}
+use Rattle.tre_zoneset.proofs.Thinning.{SetHolds-permutation}
+use Rattle.tre_zoneset.proofs.Unions.{SetHolds-included}
 use Rattle.tre_edges.specs.declared.piece.Piece.{Piece}
 use Rattle.tre_syntax.specs.PatternTree.{PatternTree, intersection, restriction}
 use Rattle.tre_mark.specs.MarkTree.{MarkTree, intersection_of, restriction_of}
@@ -359,3 +364,42 @@ pub two_found : (zones : List ZoneBounds) (one other : ZoneBounds) → 2 ≤ len
 two_found zones one other least most is is' None gives = tt
 two_found zones one other least most is is' (Some whole) gives =
     two_as_one zones one other least most is is' whole gives
+
+-- ---- a zone taken out of a list
+
+module _ (zones rest : List ZoneBounds) (zone : ZoneBounds) (place : ℕ)
+    (below : place < length zones) (is : zone ≡ get_or zones place zone)
+    (now : rest ≡ swap_remove zones place zone) where
+  taken_out : (a b n : ℕ) → SetHolds zones a b n ↔ (ZoneHolds zone a b n ⊎ SetHolds rest a b n)
+  taken_out a b n =
+      let order : IsPermutation zones (zone ∷ rest) =
+      subst (λ (list : List ZoneBounds). IsPermutation zones (zone ∷ list)) (sym now)
+      (IsPermutation-swap_remove zones place zone below is) in
+      let moved = SetHolds-permutation zones (zone ∷ rest) a b n order in
+      let parts = SetHolds-append (zone ∷ []) rest a b n in
+      let one = holds_alone (zone ∷ []) zone refl a b n in (
+        (λ h. ⊎_elim (λ x. inl (one.1 x)) (λ x. inr x) (parts.0 (moved.1 h))),
+        (λ h. moved.0 (parts.1 (⊎_elim (λ x. inl (one.0 x)) (λ x. inr x) h))),
+      )
+
+  pub out_dropped : Any (λ other. Includes other zone) rest → HoldExactly rest (SetHolds zones)
+  out_dropped any = record {
+    exact = λ a b n some le.
+        let same = taken_out a b n in (
+          (λ h. same.1 (inr h)),
+          (λ h. ⊎_elim (λ x. SetHolds-included rest zone any a b n some le x) (λ x. x) (same.0 h)),
+        );
+  }
+
+  pub out_back : (new : List ZoneBounds) → new ≡ rest ++ zone ∷ []
+      → HoldExactly new (SetHolds zones)
+  out_back new put = record {
+    exact = λ a b n some le.
+        let same = taken_out a b n in
+        let two = subst (λ (list : List ZoneBounds).
+        SetHolds list a b n ↔ (SetHolds rest a b n ⊎ ZoneHolds zone a b n)) (sym put)
+        (SetHolds-push rest zone a b n) in (
+          (λ h. same.1 (⊎_elim (λ x. inr x) (λ x. inl x) (two.0 h))),
+          (λ h. two.1 (⊎_elim (λ x. inr x) (λ x. inl x) (same.0 h))),
+        );
+  }

@@ -1,21 +1,17 @@
 -- Sets of ordered pairs, made by the operators.
-use Rattle.std.proofs.Common.{◌≡◌, ℕ, ◌*◌, ◌<◌, List, [], ⊎_elim, subst, refl}
+use Rattle.std.proofs.Common.{◌≡◌, ℕ, ◌<◌, List, [], subst}
 use Rattle.tre_pairs.specs.Pairs.{Pairs, Composed, Both, Lasting, Chain}
 use Rattle.tre_pairs.proofs.Agreement.{Agree-Chain}
-use Rattle.tre_pairs.proofs.Chains.{Composed-at, Chain-none, Chain-cases}
 use Rattle.tre_pairs.proofs.Laws.{IsOrdered, IsInstant, Agree}
 use Rattle.tre_pairs.proofs.Order.{IsOrdered-Chain}
-use Rattle.tre_pairs.proofs.Scaling.{moved}
 use Rattle.tre_offline.proofs.Unions.{Agree-held}
 use Rattle.tre_zone.specs.Held.{Held, IsSetOf}
-use Rattle.tre_zone.proofs.HeldSets.{Scales-Held, IsOrdered-Held, Held-empty}
-use Rattle.tre_star.proofs.Chaining.{Scales-instants}
+use Rattle.tre_zone.proofs.HeldSets.{IsOrdered-Held, Held-empty}
 use Rattle.tre_zone.specs.Interval.{IntervalEnds, LastsWithin}
 use Rattle.tre_zone.specs.Zone.{IsInstantBetween, EndsAt}
 use Rattle.tre_zone.specs.ZoneList.{SetHolds, HoldExactly}
 use Rattle.tre_zone.specs.declared.zone_bounds.ZoneBounds.{ZoneBounds}
 use Rattle.tre_zoneset.specs.ZoneSet.{IsZoneSet}
-use Rattle.tre_mark.specs.Marked.{EndBetween}
 use Rattle.tre_mark.proofs.Agreeing.{agree_refl, agree_then, agree_composed}
 
 pub set_agrees : {zones : List ZoneBounds} {R : Pairs} → IsSetOf zones R → Agree (Held zones) R
@@ -128,30 +124,6 @@ chain_set steps zones from to set held =
           let two = same.at a b n some in
           ((λ h. two.0 (one.0 h)), (λ h. one.1 (two.1 h)));
     })
-
--- Where there is no step, each pair of the set is followed by none.
-pub repeat_none : (from to : ℕ) (starts steps : List ZoneBounds) → EndBetween from to starts
-    → steps ≡ []
-    → IsSetOf starts (Composed (Held starts) (Chain (Held steps) (IsInstantBetween from to)))
-repeat_none from to starts steps between empty =
-    let E = IsInstantBetween from to in
-    record {
-      pairs = λ a b n some. (
-        (λ h. Composed-at (Held starts) (Chain (Held steps) E) a b b n h
-            (Chain-none (Held steps) E b b n (record {
-              starts = between.begin a b n some h;
-              same = refl;
-              ends = between.end a b n some h;
-            }))),
-        (λ h. ⊎_elim
-            (λ x. (Scales-Held starts).down h.factor a b n h.positive
-            (moved (Held starts) refl x.same refl h.left))
-            (λ x. absurd (no_pair steps empty (x.factor * h.midpoint) x.midpoint
-            (x.factor * (h.factor * n)) x.left))
-            (Chain-cases (Held steps) E (Scales-instants from to) h.midpoint (h.factor * b)
-            (h.factor * n) h.right)),
-      );
-    }
 
 -- The set that is composed agrees with what it is to hold.
 pub followed_set : (starts any zones : List ZoneBounds) (R : Pairs)

@@ -6,7 +6,7 @@ use Rattle.tre_pairs.specs.Cuts.{JoinedAt}
 use Rattle.tre_pairs.specs.Pairs.{Pairs, Composed, Both, Lasting}
 use Rattle.tre_pairs.proofs.Laws.{IsOrdered}
 use Rattle.tre_pairs.proofs.Shortening.{finer_duration}
-use Rattle.tre_zone.specs.Held.{Held, EndAt, IsLatest}
+use Rattle.tre_zone.specs.Held.{Held, EndAt}
 use Rattle.tre_zone.proofs.HeldSets.{Held-empty}
 use Rattle.tre_zone.proofs.ZoneListLemmas.{SetHolds-append}
 use Rattle.tre_zone.specs.Interval.{IntervalEnds, LastsWithin}

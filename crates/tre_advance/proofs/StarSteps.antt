@@ -2,8 +2,7 @@
 use Rattle.std.proofs.Common.{◌≡◌, ℕ, ◌*◌, ◌<◌, ◌≤◌, List, [], inl, inr, ⊎_elim, refl, sym, arith}
 use Rattle.std.proofs.Math.Nat.{mul-pos, mul-le-mul_right}
 use Rattle.tre_pairs.specs.Cuts.{JoinedAt, Crossing}
-use Rattle.tre_pairs.specs.Pairs.{Pairs, Composed, Either, Both, Chain}
-use Rattle.tre_pairs.proofs.Agreement.{Agree-Chain}
+use Rattle.tre_pairs.specs.Pairs.{Pairs, Composed, Either, Both}
 use Rattle.tre_pairs.proofs.Chains.{Composed-at, Chain-none, Chain-join, Composed-assoc}
 use Rattle.tre_pairs.proofs.CutLaws.{Scales-Crossing}
 use Rattle.tre_pairs.proofs.Laws.{Scales, IsOrdered, Agree}
@@ -18,14 +17,13 @@ use Rattle.tre_syntax.specs.Rest.{Rest, AtomMatches}
 use Rattle.tre_syntax.proofs.Atoms.{Scales-Atom, IsInstant-Empty, end_of-le}
 use Rattle.tre_syntax.proofs.CutMeaning.{Scales-rest, IsOrdered-rest, crossing_repetition}
 use Rattle.tre_trace.specs.Trace.{Timeline, AreLong}
-use Rattle.tre_zone.specs.Zone.{IsInstantBetween, EndsAt}
+use Rattle.tre_zone.specs.Zone.{EndsAt}
 use Rattle.tre_zone.specs.declared.zone_bounds.ZoneBounds.{ZoneBounds}
 use Rattle.tre_edges.specs.declared.piece.Piece.{Piece}
-use Rattle.tre_mark.specs.MarkTree.{MarkTree, repetition_mark, restriction_none}
+use Rattle.tre_mark.specs.MarkTree.{MarkTree, repetition_mark}
 use Rattle.tre_mark.specs.Marked.{Marked, EndBetween}
-use Rattle.tre_mark.proofs.Agreeing.{agree_refl, agree_sym, agree_then, agree_composed, agree_either, agree_assoc, joined_composed}
+use Rattle.tre_mark.proofs.Agreeing.{agree_refl, agree_then, agree_composed, agree_either, agree_assoc, joined_composed}
 use Rattle.tre_mark.proofs.Meanings.{Scales-Marked, IsOrdered-Marked, around_present}
-use Rattle.tre_mark.proofs.Starts.{end_at_none, nothing_restriction}
 use Rattle.tre_edges.specs.Piece.{end_of_piece, cut_behind}
 use Rattle.tre_advance.proofs.Crossings.{IsFront, cross_followed, cross_after, distributes}
 use Rattle.tre_mark.proofs.Growth.{mark_grows, mark_early, mark_ends, ends_composed, tree_ends}
@@ -71,28 +69,6 @@ module _ (piece : Piece) (here enter : List ZoneBounds) (body : MarkTree) (tree 
   starts_ends a b n some h = ⊎_elim
       (λ x. mark_ends (alone piece) (begin_le piece) body tree a b n x)
       (λ x. entering_ends a b n some x) h
-
-  instants_agree : Agree (IsInstantBetween piece.begin (end_of_piece piece))
-      (AtomMatches (alone piece) empty)
-  instants_agree = record {
-    at = λ a b n some. (
-      (λ h. record { begin = h.starts; same = h.same; end = h.ends }),
-      (λ h. record { starts = h.begin; same = h.same; ends = h.end }),
-    );
-  }
-
-  -- What a repetition tells.
-  pub repetition_tells : (starts steps told : List ZoneBounds)
-      → Agree (Held starts) (Starts (alone piece))
-      → Agree (Held steps) (MatchesRest tree (alone piece))
-      → Agree (Held told) (Composed (Held starts)
-      (Chain (Held steps) (IsInstantBetween piece.begin (end_of_piece piece))))
-      → Agree (Held told) (Composed (Starts (alone piece)) (Any (alone piece)))
-  repetition_tells starts steps told one two three =
-      let E = IsInstantBetween piece.begin (end_of_piece piece) in
-      agree_then three (agree_composed one
-      (Agree-Chain (Held steps) (MatchesRest tree (alone piece)) E (AtomMatches (alone piece) empty)
-      two instants_agree))
 
   module _ (told here' : List ZoneBounds) (B : Timeline → Pairs)
       (whole : Agree (Held told) (Composed (Starts (alone piece)) (Any (alone piece))))
@@ -379,32 +355,3 @@ module _ (piece : Piece) (here : List ZoneBounds) (body : MarkTree) (tree : Patt
                   (d.0 h)),
             );
       }
-
--- ---- what enters a repetition
-
-module _ (piece : Piece) (enter : List ZoneBounds) (tree : PatternTree)
-    (between : EndBetween piece.begin (end_of_piece piece) enter) where
-  -- Where nothing has begun, the starts are what enters.
-  abbrev Entered : Rest → Pairs
-  Entered rest = Starts piece [] enter restriction_none tree (end_at_none piece.begin) between rest
-
-  entered_is : (rest : Rest) → Agree (Entered rest) (Held enter)
-  entered_is rest = record {
-    at = λ a b n some. (
-      (λ h. ⊎_elim (λ x. absurd (nothing_restriction.never tree rest a b n x))
-          (λ x. ⊎_elim (λ y. absurd (Held-empty a b n y)) (λ y. y) x) h),
-      (λ h. inr (inr h)),
-    );
-  }
-
-  pub enter_tells : (steps told : List ZoneBounds)
-      → Agree (Held steps) (MatchesRest tree (alone piece))
-      → Agree (Held told) (Composed (Held enter)
-      (Chain (Held steps) (IsInstantBetween piece.begin (end_of_piece piece))))
-      → Agree (Held told) (Followed (Held enter) (repetition tree) (alone piece))
-  enter_tells steps told one two =
-      agree_then
-      (repetition_tells piece [] enter restriction_none tree (end_at_none piece.begin) between enter
-      steps told (agree_sym (entered_is (alone piece))) one two)
-      (agree_composed (entered_is (alone piece))
-      (agree_refl (MatchesRest (repetition tree) (alone piece))))

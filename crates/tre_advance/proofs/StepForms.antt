@@ -1,5 +1,5 @@
 -- What is left of an intersection or a restriction that has begun.
-use Rattle.std.proofs.Common.{◌≡◌, ℕ, ◌+◌, ◌-◌, ◌*◌, ◌<◌, ◌≤◌, List, []}
+use Rattle.std.proofs.Common.{◌≡◌, ℕ, ◌*◌, ◌<◌, ◌≤◌, List, []}
 use Rattle.std.specs.Prelude.{All}
 use Rattle.tre_pairs.specs.Pairs.{Composed, Both, Lasting}
 use Rattle.tre_syntax.specs.PatternTree.{PatternTree}

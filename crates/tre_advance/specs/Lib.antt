@@ -8,6 +8,7 @@ pub mod Closing
 -- what a mark stands for where nothing more comes than a piece or the end (TellsMarked).
 pub mod Instances
 pub mod Shortening
+pub mod Survey
 pub mod Moves
 pub mod Taking
 pub mod Tail

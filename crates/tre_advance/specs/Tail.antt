@@ -9,8 +9,12 @@ use Rattle.tre_syntax.specs.PatternTree.{PatternTree}
 use Rattle.tre_syntax.specs.Rest.{Rest, rest_of}
 use Rattle.tre_mark.specs.MarkTree.{MarkTree}
 use Rattle.tre_mark.specs.Marked.{Marked}
-use Rattle.tre_advance.specs.declared.tail.Tail.{Tail}
-use Rattle.tre_advance.specs.declared.tail.Tail.TheVariants.{Over, End}
+use Rattle.tre_edges.specs.declared.piece.Piece.{Piece}
+
+-- What comes, and nothing behind it: a piece, or the end of the trace with its events.
+pub data Tail : Type 0 where
+  Over : (piece : Piece) → Tail
+  End : (time events : ℕ) → Tail
 
 -- When it begins, its segments, the events at its end, and what held before: of the end of a trace
 -- that may be anything.

@@ -1,25 +1,20 @@
 // The pairs behind which a repetition goes on.
-ghost use Rattle.std.specs.Prelude.{◌≤◌, OnOk};
-ghost use Rattle.tre_pairs.specs.Pairs.{Composed, Either, Chain};
-ghost use Rattle.tre_pairs.specs.declared.TheConstants.{TIME_MAX};
-ghost use Rattle.tre_state.specs.declared.names.TheConstants.{NAMES_MAX};
-ghost use Rattle.tre_syntax.specs.Expr.{tree_of};
-ghost use Rattle.tre_syntax.specs.Meaning.{MatchesRest};
-ghost use Rattle.tre_syntax.specs.PatternTree.{NumbersBelow, repetition};
+ghost use Rattle.std.specs.Prelude.{◌≡◌, [], IfSome, IsTrue, OnOk};
+ghost use Rattle.tre_pairs.specs.Pairs.{Composed, Either};
 ghost use Rattle.tre_zone.specs.Held.{Held, IsSetOf};
-ghost use Rattle.tre_zone.specs.Zone.{IsInstantBetween};
+ghost use Rattle.tre_zone.specs.Zone.{Includes};
 ghost use Rattle.tre_mark.specs.MarkTree.{mark_of};
 ghost use Rattle.tre_mark.specs.Marked.{EndBetween};
-ghost use Rattle.tre_edges.specs.Piece.{end_of_piece, rest_of_piece};
+ghost use Rattle.tre_edges.specs.Piece.{end_of_piece};
+ghost use Rattle.tre_advance.specs.Survey.{AreChains, LeadsNoFurther};
 ghost use Rattle.tre_advance.specs.Taking.{IsAtomMark, TakesHere};
 
-use crate::vectors::{gather_each, is_none, known, prune, put_behind, put_missing};
+use crate::vectors::{put_behind, put_each, put_missing};
 use std::alloc::{AllocError, Global};
+use tre_compose::compose;
 use tre_edges::Piece;
-use tre_mark::Mark;
-use tre_offline::local;
+use tre_mark::{Mark, copied};
 use tre_star::closure;
-use tre_syntax::Expr;
 use tre_zone::Zone;
 use tre_zoneset::ZoneSet;
 
@@ -53,58 +48,68 @@ pub fn take_here(mark: &mut Mark, here: &mut Vec<Zone>) -> Result<(), AllocError
     }
 }
 
-/// The pairs, each followed by any number of matches of the expression inside the piece.
-pub fn repeat(
+/// The chains of one step or more inside the piece, in place of what was there.
+pub fn chains_of(
     alloc: Global,
-    body: &Expr,
+    steps: &[Zone],
     piece: &Piece,
-    starts: &mut Vec<Zone>,
+    chains: &mut Vec<Zone>,
 ) -> Result<(), AllocError>
-    requires numbers { NumbersBelow NAMES_MAX (tree_of body.now) }
-    requires starts { EndBetween piece.now.begin (end_of_piece piece.now) starts.old.items }
-    ensures tells { OnOk result (IsSetOf starts.new.items (Composed (Held starts.old.items)
-        (MatchesRest (repetition (tree_of body.now)) (rest_of_piece piece.now)))) }
-    ensures between { OnOk result (EndBetween piece.now.begin (end_of_piece piece.now)
-        starts.new.items) }
+    requires { EndBetween piece.now.begin (end_of_piece piece.now) steps.now }
+    ensures { OnOk result
+        (AreChains steps.now piece.now.begin (end_of_piece piece.now) chains.new.items) }
 {
-    if is_none(starts) {
-        return Ok(());
+    chains.clear();
+    if lead_no_further(steps) {
+        return put_behind(chains, steps);
     }
-    let steps = local(alloc, body, piece)?;
-    repeat_steps(
-        alloc,
-        &steps,
-        piece.begin,
-        piece.begin + piece.segment.len,
-        starts,
-    )
+    let all = copied(alloc, steps)?;
+    let set = ZoneSet::of_zones(alloc, all)?;
+    put_chains(alloc, &set, piece, chains)
 }
 
-// The pairs, each of which ends from `begin` to `end`, followed by any number of the steps up to
-// `end`.
-fn repeat_steps(
+// Whether two steps lead no further than one: that is seen of one zone, or of none.
+fn lead_no_further(steps: &[Zone]) -> bool
+    ensures { IsTrue result → LeadsNoFurther steps.now }
+{
+    match steps {
+        [] => true,
+        [step] => is_over(step, compose(step, step)),
+        _ => false,
+    }
+}
+
+// Whether there is nothing but what the step includes.
+fn is_over(step: &Zone, twice: Option<Zone>) -> bool
+    ensures { IsTrue result → IfSome twice (Includes step.now) }
+{
+    match twice {
+        Some(twice) => step.includes(&twice),
+        None => true,
+    }
+}
+
+fn put_chains(
     alloc: Global,
     steps: &ZoneSet,
-    begin: u64,
-    end: u64,
-    starts: &mut Vec<Zone>,
+    piece: &Piece,
+    chains: &mut Vec<Zone>,
 ) -> Result<(), AllocError>
-    requires rising { begin ≤ end }
-    requires limit { end ≤ TIME_MAX }
-    requires starts { EndBetween begin end starts.old.items }
-    ensures { OnOk result (IsSetOf starts.new.items (Composed (Held starts.old.items)
-        (Chain (Held steps.now) (IsInstantBetween begin end)))) }
+    requires { chains.old.items ≡ [] }
+    ensures { OnOk result
+        (AreChains steps.now piece.now.begin (end_of_piece piece.now) chains.new.items) }
 {
-    if steps.is_empty() {
-        return Ok(());
-    }
     // For the proof: the call says that it is a set of zones.
     let _steps = steps.zones();
-    let any = closure(alloc, steps, begin, end)?;
-    let mut all = Vec::new(alloc);
-    known(starts);
-    known(any.zones());
-    gather_each(&mut all, starts, any.zones())?;
-    *starts = all;
-    prune(alloc, starts)
+    let any = closure(alloc, steps, piece.begin, piece.begin + piece.segment.len)?;
+    put_behind(chains, any.zones())
+}
+
+/// Adds the pairs, each followed by any number of steps, of which these are the chains.
+pub fn repeat(starts: &[Zone], chains: &[Zone], found: &mut Vec<Zone>) -> Result<(), AllocError>
+    ensures { OnOk result (IsSetOf found.new.items (Either (Held found.old.items)
+        (Either (Held starts.now) (Composed (Held starts.now) (Held chains.now))))) }
+{
+    put_behind(found, starts)?;
+    put_each(found, starts, chains)
 }

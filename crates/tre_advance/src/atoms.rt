@@ -74,8 +74,8 @@ pub fn advance_literal(
     Ok(())
 }
 
-// What an atom tells over the piece.
-fn tell_atom(
+/// What an atom tells over the piece.
+pub fn tell_atom(
     here: &[Zone],
     begun: &[Zone],
     expr: &Expr,
@@ -96,8 +96,8 @@ fn tell_atom(
     }
 }
 
-// The matches of the atom inside the piece.
-fn inside_of(expr: &Expr, piece: &Piece) -> Option<Zone>
+/// The matches of the atom inside the piece.
+pub fn inside_of(expr: &Expr, piece: &Piece) -> Option<Zone>
     requires numbers { NumbersBelow NAMES_MAX (tree_of expr.now) }
     requires atom { IsBriefTree (tree_of expr.now) ⊎ IsLiteralTree (tree_of expr.now) }
     ensures { GivesZone result (MatchesRest (tree_of expr.now) (rest_of_piece piece.now)) }

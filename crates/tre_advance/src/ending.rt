@@ -1,7 +1,7 @@
-// The pairs of a mark where a piece comes, or the end of the trace, and nothing behind it.
-ghost use Rattle.std.specs.Prelude.{◌⊎◌, OnOk, IfOk};
+// The pairs of a mark where the trace ends.
+ghost use Rattle.std.specs.Prelude.{◌⊎◌, ℕ, [], Option, OnOk, IfOk};
 ghost use Rattle.tre_pairs.specs.Pairs.{Composed, Either, Both, Lasting};
-ghost use Rattle.tre_zone.specs.Held.{Held, IsSetOf};
+ghost use Rattle.tre_zone.specs.Held.{Held, EndAt, IsSetOf};
 ghost use Rattle.tre_zone.specs.Interval.{LastsWithin};
 ghost use Rattle.tre_state.specs.declared.names.TheConstants.{NAMES_MAX};
 ghost use Rattle.tre_syntax.specs.Expr.{tree_of};
@@ -10,15 +10,16 @@ ghost use Rattle.tre_mark.specs.MarkTree.{mark_of};
 ghost use Rattle.tre_mark.specs.Marked.{IsWellAt};
 ghost use Rattle.tre_advance.specs.Closing.{Closes};
 ghost use Rattle.tre_advance.specs.Moves.{IsBriefTree, IsLiteralTree};
-ghost use Rattle.tre_advance.specs.Tail.{TellsMarked, tail_start};
+ghost use Rattle.tre_advance.specs.Tail.{End, TellsMarked};
+ghost use Rattle.tre_trace.specs.Trace.{timeline_of};
+ghost use Rattle.tre_syntax.specs.Meaning.{MatchesRest};
+ghost use Rattle.tre_syntax.specs.Rest.{rest_of};
 
 use crate::instances::gather_within;
-use crate::tail::{Tail, gather_followed, repeat_over};
-use crate::vectors::{
-    all_among, gather_each, gather_meets, is_none, known, put_behind, put_missing,
-};
+use crate::vectors::{all_among, gather_meets, is_none, put_behind, put_each, put_missing};
 use std::alloc::{AllocError, Global};
 use tre_mark::{Mark, copied};
+use tre_offline::matches_at_end;
 use tre_syntax::Expr;
 use tre_zone::{Interval, Zone};
 use tre_zoneset::ZoneSet;
@@ -40,60 +41,62 @@ pub fn close(
         Closes (mark_of mark.now) (tree_of expr.now) time events told) }
 {
     let mut found = Vec::new(alloc);
-    let tail = Tail::End { time, events };
-    ending(alloc, mark, expr, &tail, &mut found)?;
+    ending(alloc, mark, expr, time, events, &mut found)?;
     ZoneSet::of_zones(alloc, found)
 }
 
-/// Adds the pairs of the mark where the tail comes.
+// Adds the pairs of the mark where the trace ends.
 #[cycle(ending)]
-pub fn ending(
+fn ending(
     alloc: Global,
     mark: &Mark,
     expr: &Expr,
-    tail: &Tail,
+    time: u64,
+    events: u64,
     found: &mut Vec<Zone>,
 ) -> Result<(), AllocError>
     requires numbers { NumbersBelow NAMES_MAX (tree_of expr.now) }
-    requires well { IsWellAt (tail_start tail.now) (mark_of mark.now) (tree_of expr.now) }
-    ensures { OnOk result (TellsMarked (mark_of mark.now) (tree_of expr.now) tail.now
+    requires well { IsWellAt time (mark_of mark.now) (tree_of expr.now) }
+    ensures { OnOk result (TellsMarked (mark_of mark.now) (tree_of expr.now) (End time events)
         found.old.items found.new.items) }
 {
     match expr {
         Expr::Eps | Expr::Lit(_) | Expr::Rise(_) | Expr::Fall(_) | Expr::Event(_) => {
-            ending_atom(alloc, mark, expr, tail, found)
+            ending_atom(mark, expr, time, events, found)
         }
-        Expr::Seq(left, right) => ending_sequence(alloc, mark, left, right, tail, found),
-        Expr::Alt(left, right) => ending_alternation(alloc, mark, left, right, tail, found),
-        Expr::Star(body) => ending_repetition(alloc, mark, body, tail, found),
-        Expr::Meet(left, right) => ending_intersection(alloc, mark, left, right, tail, found),
+        Expr::Seq(left, right) => ending_sequence(alloc, mark, left, right, time, events, found),
+        Expr::Alt(left, right) => ending_alternation(alloc, mark, left, right, time, events, found),
+        Expr::Star(body) => ending_repetition(alloc, mark, body, time, events, found),
+        Expr::Meet(left, right) => ending_intersection(
+            alloc, mark, left, right, time, events, found,
+        ),
         Expr::Within(body, interval) => {
-            ending_restriction(alloc, mark, body, interval, tail, found)
+            ending_restriction(alloc, mark, body, interval, time, events, found)
         }
     }
 }
 
 fn ending_atom(
-    alloc: Global,
     mark: &Mark,
     expr: &Expr,
-    tail: &Tail,
+    time: u64,
+    events: u64,
     found: &mut Vec<Zone>,
 ) -> Result<(), AllocError>
     requires numbers { NumbersBelow NAMES_MAX (tree_of expr.now) }
     requires atom { IsBriefTree (tree_of expr.now) ⊎ IsLiteralTree (tree_of expr.now) }
-    requires well { IsWellAt (tail_start tail.now) (mark_of mark.now) (tree_of expr.now) }
-    ensures { OnOk result (TellsMarked (mark_of mark.now) (tree_of expr.now) tail.now
+    requires well { IsWellAt time (mark_of mark.now) (tree_of expr.now) }
+    ensures { OnOk result (TellsMarked (mark_of mark.now) (tree_of expr.now) (End time events)
         found.old.items found.new.items) }
 {
     match mark {
         Mark::Atom { here, begun, .. } => {
-            gather_followed(alloc, begun, expr, tail, found)?;
+            gather_followed(begun, expr, events, found)?;
             put_missing(found, begun)?;
             if all_among(here, begun) {
                 return Ok(());
             }
-            gather_followed(alloc, here, expr, tail, found)
+            gather_followed(here, expr, events, found)
         }
         _ => unreachable!(),
     }
@@ -105,14 +108,15 @@ fn ending_sequence(
     mark: &Mark,
     left: &Expr,
     right: &Expr,
-    tail: &Tail,
+    time: u64,
+    events: u64,
     found: &mut Vec<Zone>,
 ) -> Result<(), AllocError>
     requires numbers { NumbersBelow NAMES_MAX (sequence (tree_of left.now) (tree_of right.now)) }
-    requires well { IsWellAt (tail_start tail.now) (mark_of mark.now)
+    requires well { IsWellAt time (mark_of mark.now)
         (sequence (tree_of left.now) (tree_of right.now)) }
     ensures { OnOk result (TellsMarked (mark_of mark.now)
-        (sequence (tree_of left.now) (tree_of right.now)) tail.now found.old.items
+        (sequence (tree_of left.now) (tree_of right.now)) (End time events) found.old.items
         found.new.items) }
 {
     match mark {
@@ -122,9 +126,9 @@ fn ending_sequence(
             ..
         } => {
             let mut first = Vec::new(alloc);
-            ending(alloc, one, left, tail, &mut first)?;
-            gather_followed(alloc, &first, right, tail, found)?;
-            ending(alloc, other, right, tail, found)
+            ending(alloc, one, left, time, events, &mut first)?;
+            gather_followed(&first, right, events, found)?;
+            ending(alloc, other, right, time, events, found)
         }
         _ => unreachable!(),
     }
@@ -136,21 +140,22 @@ fn ending_alternation(
     mark: &Mark,
     left: &Expr,
     right: &Expr,
-    tail: &Tail,
+    time: u64,
+    events: u64,
     found: &mut Vec<Zone>,
 ) -> Result<(), AllocError>
     requires numbers { NumbersBelow NAMES_MAX
         (alternation (tree_of left.now) (tree_of right.now)) }
-    requires well { IsWellAt (tail_start tail.now) (mark_of mark.now)
+    requires well { IsWellAt time (mark_of mark.now)
         (alternation (tree_of left.now) (tree_of right.now)) }
     ensures { OnOk result (TellsMarked (mark_of mark.now)
-        (alternation (tree_of left.now) (tree_of right.now)) tail.now found.old.items
+        (alternation (tree_of left.now) (tree_of right.now)) (End time events) found.old.items
         found.new.items) }
 {
     match mark {
         Mark::Alt(one, other) => {
-            ending(alloc, one, left, tail, found)?;
-            ending(alloc, other, right, tail, found)
+            ending(alloc, one, left, time, events, found)?;
+            ending(alloc, other, right, time, events, found)
         }
         _ => unreachable!(),
     }
@@ -161,14 +166,15 @@ fn ending_repetition(
     alloc: Global,
     mark: &Mark,
     body: &Expr,
-    tail: &Tail,
+    time: u64,
+    events: u64,
     found: &mut Vec<Zone>,
 ) -> Result<(), AllocError>
     requires numbers { NumbersBelow NAMES_MAX (repetition (tree_of body.now)) }
-    requires well { IsWellAt (tail_start tail.now) (mark_of mark.now)
+    requires well { IsWellAt time (mark_of mark.now)
         (repetition (tree_of body.now)) }
     ensures { OnOk result (TellsMarked (mark_of mark.now) (repetition (tree_of body.now))
-        tail.now found.old.items found.new.items) }
+        (End time events) found.old.items found.new.items) }
 {
     match mark {
         Mark::Star {
@@ -177,8 +183,7 @@ fn ending_repetition(
             ..
         } => {
             let mut starts = copied(alloc, here)?;
-            ending(alloc, inner, body, tail, &mut starts)?;
-            repeat_over(alloc, body, tail, &mut starts)?;
+            ending(alloc, inner, body, time, events, &mut starts)?;
             put_behind(found, &starts)
         }
         _ => unreachable!(),
@@ -191,15 +196,16 @@ fn ending_intersection(
     mark: &Mark,
     left: &Expr,
     right: &Expr,
-    tail: &Tail,
+    time: u64,
+    events: u64,
     found: &mut Vec<Zone>,
 ) -> Result<(), AllocError>
     requires numbers { NumbersBelow NAMES_MAX
         (intersection (tree_of left.now) (tree_of right.now)) }
-    requires well { IsWellAt (tail_start tail.now) (mark_of mark.now)
+    requires well { IsWellAt time (mark_of mark.now)
         (intersection (tree_of left.now) (tree_of right.now)) }
     ensures { OnOk result (TellsMarked (mark_of mark.now)
-        (intersection (tree_of left.now) (tree_of right.now)) tail.now found.old.items
+        (intersection (tree_of left.now) (tree_of right.now)) (End time events) found.old.items
         found.new.items) }
 {
     match mark {
@@ -213,10 +219,11 @@ fn ending_intersection(
                 return Ok(());
             }
             let mut first = Vec::new(alloc);
-            ending(alloc, one, left, tail, &mut first)?;
+            ending(alloc, one, left, time, events, &mut first)?;
             let mut second = Vec::new(alloc);
-            ending(alloc, other, right, tail, &mut second)?;
-            gather_both(alloc, outer, &first, &second, found)
+            ending(alloc, other, right, time, events, &mut second)?;
+            let mut both = Vec::new(alloc);
+            gather_both(outer, &first, &second, &mut both, found)
         }
         _ => unreachable!(),
     }
@@ -228,14 +235,15 @@ fn ending_restriction(
     mark: &Mark,
     body: &Expr,
     interval: &Interval,
-    tail: &Tail,
+    time: u64,
+    events: u64,
     found: &mut Vec<Zone>,
 ) -> Result<(), AllocError>
     requires numbers { NumbersBelow NAMES_MAX (restriction (tree_of body.now) interval.now) }
-    requires well { IsWellAt (tail_start tail.now) (mark_of mark.now)
+    requires well { IsWellAt time (mark_of mark.now)
         (restriction (tree_of body.now) interval.now) }
     ensures { OnOk result (TellsMarked (mark_of mark.now)
-        (restriction (tree_of body.now) interval.now) tail.now found.old.items
+        (restriction (tree_of body.now) interval.now) (End time events) found.old.items
         found.new.items) }
 {
     match mark {
@@ -248,45 +256,61 @@ fn ending_restriction(
                 return Ok(());
             }
             let mut ended = Vec::new(alloc);
-            ending(alloc, inner, body, tail, &mut ended)?;
-            gather_lasting(alloc, outer, &ended, interval, found)
+            ending(alloc, inner, body, time, events, &mut ended)?;
+            let mut lasting = Vec::new(alloc);
+            gather_lasting(outer, &ended, interval, &mut lasting, found)
         }
         _ => unreachable!(),
     }
 }
 
-// Adds the pairs of `outer`, each followed by one that both sides have.
-fn gather_both(
-    alloc: Global,
+// Adds the pairs, each followed by a match of the expression where the trace ends.
+fn gather_followed(
+    first: &[Zone],
+    expr: &Expr,
+    events: u64,
+    found: &mut Vec<Zone>,
+) -> Result<(), AllocError>
+    requires numbers { NumbersBelow NAMES_MAX (tree_of expr.now) }
+    ensures { OnOk result ((time : ℕ) (before : Option ℕ) → EndAt time first.now
+        → IsSetOf found.new.items (Either (Held found.old.items) (Composed (Held first.now)
+        (MatchesRest (tree_of expr.now) (rest_of time before (timeline_of [] events)))))) }
+{
+    if matches_at_end(expr, events) {
+        return put_behind(found, first);
+    }
+    Ok(())
+}
+
+/// Adds the pairs of `outer`, each followed by one that both sides have, which are made in the
+/// room.
+pub fn gather_both(
     outer: &[Zone],
     first: &[Zone],
     second: &[Zone],
+    room: &mut Vec<Zone>,
     found: &mut Vec<Zone>,
 ) -> Result<(), AllocError>
     ensures { OnOk result (IsSetOf found.new.items (Either (Held found.old.items)
         (Composed (Held outer.now) (Both (Held first.now) (Held second.now))))) }
 {
-    let mut both = Vec::new(alloc);
-    gather_meets(&mut both, first, second)?;
-    known(outer);
-    known(&both);
-    gather_each(found, outer, &both)
+    room.clear();
+    gather_meets(room, first, second)?;
+    put_each(found, outer, room)
 }
 
-// Adds the pairs of `outer`, each followed by one whose duration is in the interval.
-fn gather_lasting(
-    alloc: Global,
+/// Adds the pairs of `outer`, each followed by one whose duration is in the interval.
+pub fn gather_lasting(
     outer: &[Zone],
     ended: &[Zone],
     interval: &Interval,
+    room: &mut Vec<Zone>,
     found: &mut Vec<Zone>,
 ) -> Result<(), AllocError>
     ensures { OnOk result (IsSetOf found.new.items (Either (Held found.old.items)
         (Composed (Held outer.now) (Lasting (LastsWithin interval.now) (Held ended.now))))) }
 {
-    let mut lasting = Vec::new(alloc);
-    gather_within(&mut lasting, ended, interval)?;
-    known(outer);
-    known(&lasting);
-    gather_each(found, outer, &lasting)
+    room.clear();
+    gather_within(room, ended, interval)?;
+    put_each(found, outer, room)
 }

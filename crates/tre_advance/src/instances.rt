@@ -17,7 +17,7 @@ ghost use Rattle.tre_advance.specs.Instances.{IsRestriction, IsIntersection, Lea
 ghost use Rattle.tre_advance.specs.Moves.{AreMomentsFor, AreInstants};
 
 use crate::shortening::{keep_recent, shorten};
-use crate::vectors::{gather_each, gather_meets, is_none, known, put_behind, unite};
+use crate::vectors::{gather_meets, is_none, put_behind, put_each, unite};
 use std::alloc::{AllocError, Global};
 use tre_edges::Piece;
 use tre_mark::{Mark, Room};
@@ -210,10 +210,7 @@ fn tell_lasting(outer: &[Zone], room: &mut Room, interval: &Interval) -> Result<
     room.aux.clear();
     gather_within(&mut room.aux, &room.mid, interval)?;
     room.mid.clear();
-    known(outer);
-    known(&room.aux);
-    gather_each(&mut room.mid, outer, &room.aux)?;
-    Ok(())
+    put_each(&mut room.mid, outer, &room.aux)
 }
 
 /// Adds the pairs of the zones whose duration is in the interval.
@@ -348,10 +345,7 @@ fn tell_both(outer: &[Zone], room: &mut Room) -> Result<(), AllocError>
     room.aux.clear();
     gather_meets(&mut room.aux, &room.mid, &room.more)?;
     room.mid.clear();
-    known(outer);
-    known(&room.aux);
-    gather_each(&mut room.mid, outer, &room.aux)?;
-    Ok(())
+    put_each(&mut room.mid, outer, &room.aux)
 }
 
 // What is left of it at the time: nothing where one of its sides has nothing left.

@@ -21,7 +21,7 @@ mod atoms;
 mod ending;
 mod instances;
 mod shortening;
-mod tail;
+mod survey;
 mod vectors;
 mod walk;
 

@@ -1,5 +1,5 @@
 // Small operations on lists of zones, in vectors that stay.
-ghost use Rattle.std.specs.Prelude.{◌≡◌, ◌≤◌, ◌↔◌, [], ◌∷◌, ◌++◌, Any, IfSome, IsTrue, OnOk, Some};
+ghost use Rattle.std.specs.Prelude.{◌<◌, length, ◌≡◌, ◌≤◌, ◌↔◌, [], ◌∷◌, ◌++◌, Any, IfSome, IsTrue, OnOk, Some};
 ghost use Rattle.tre_pairs.specs.Pairs.{Composed, Either, Both};
 ghost use Rattle.tre_pairs.specs.declared.TheConstants.{TIME_MAX};
 ghost use Rattle.tre_zone.specs.Held.{Held, IsSetOf};
@@ -74,6 +74,16 @@ pub fn gather_each(found: &mut Vec<Zone>, first: &[Zone], second: &[Zone]) -> Re
         gather_behind(found, first, other)?;
     }
     Ok(())
+}
+
+/// The same, whatever the zones are.
+pub fn put_each(found: &mut Vec<Zone>, first: &[Zone], second: &[Zone]) -> Result<(), AllocError>
+    ensures { OnOk result (IsSetOf found.new.items
+        (Either (Held found.old.items) (Composed (Held first.now) (Held second.now)))) }
+{
+    known(first);
+    known(second);
+    gather_each(found, first, second)
 }
 
 /// Adds what the zones have in common with the others, two by two.
@@ -173,7 +183,36 @@ pub fn prune(alloc: Global, zones: &mut Vec<Zone>) -> Result<(), AllocError>
     if zones.len() == 2 {
         return prune_two(zones);
     }
+    if are_few(zones) {
+        return prune_few(zones);
+    }
     prune_more(alloc, zones)
+}
+
+// Each of a few zones is taken out once, from the last one on, and those that stay are put behind.
+fn prune_few(zones: &mut Vec<Zone>) -> Result<(), AllocError>
+    ensures { OnOk result (HoldExactly zones.new.items (SetHolds zones.old.items)) }
+{
+    let mut left = zones.len();
+    while 0 < left {
+        left -= 1;
+        put_again(zones, left)?;
+    }
+    Ok(())
+}
+
+// The zone at the place is put behind the others, or goes where one of these includes it.
+fn put_again(zones: &mut Vec<Zone>, place: usize) -> Result<(), AllocError>
+    requires { place < length zones.old.items }
+    ensures held { OnOk result (HoldExactly zones.new.items (SetHolds zones.old.items)) }
+    ensures fewer { OnOk result (place ≤ length zones.new.items) }
+{
+    let zone = zones.swap_remove(place);
+    if is_included(&zone, zones) {
+        return Ok(());
+    }
+    zones.push(zone)?;
+    Ok(())
 }
 
 /// The same, with one zone for zones that touch and are one together.

@@ -12,11 +12,10 @@ ghost use Rattle.tre_advance.specs.Adds.{Adds};
 ghost use Rattle.tre_advance.specs.Advance.{Advances};
 ghost use Rattle.tre_advance.specs.Moves.{IsBriefTree, IsLiteralTree, IsRepetitionTree};
 
-use crate::again::{put_starts, repeat, take_here};
+use crate::again::{chains_of, put_starts, repeat, take_here};
 use crate::atoms::{advance_brief, advance_literal};
-use crate::ending::ending;
 use crate::instances::{go_on_both, go_on_lasting, is_idle, make_ready, moments_for, ready_both};
-use crate::tail::Tail;
+use crate::survey::survey_anew;
 use crate::vectors::{keep_ending, prune, put_behind};
 use std::alloc::{AllocError, Global};
 use tre_edges::Piece;
@@ -311,11 +310,13 @@ fn advance_body(
         (repetition (tree_of body.now)) entering.now piece.now added
         (repetition_mark here.new.items (mark_of inner.new)))) }
 {
+    survey_anew(alloc, inner, body, piece, &mut room.mid, &mut room.aux)?;
+    chains_of(alloc, &room.mid, piece, &mut room.more)?;
+    put_starts(here, entering, &mut room.aux)?;
+    prune(alloc, &mut room.aux)?;
     room.mid.clear();
-    ending(alloc, inner, body, &Tail::Over(*piece), &mut room.mid)?;
-    put_starts(here, entering, &mut room.mid)?;
+    repeat(&room.aux, &room.more, &mut room.mid)?;
     prune(alloc, &mut room.mid)?;
-    repeat(alloc, body, piece, &mut room.mid)?;
     keep_ending(here, &room.mid, piece.begin + piece.segment.len)?;
     put_behind(told, &room.mid)?;
     room.aux.clear();

@@ -1,4 +1,5 @@
-use Rattle.tre_zone.proofs.HeldSets.{composed_set}
+use Rattle.std.proofs.lemmas.Result.{on_ok_weaker}
+use Rattle.tre_advance.proofs.Endings.{set_alone}
 use Rattle.tre_advance.proofs.Lists.{gathered_alone}
 use Rattle.tre_advance.proofs.SetsOf.{lasting_set, followed_set}
 use Rattle.tre_advance.proofs.instances.tell_lasting.Goals as goal
@@ -8,11 +9,10 @@ returns c =
     let outer = c.args.outer.now in
     let mid = c.args.room.now.mid.items in
     let aux = c.gather_within.new.found.items in
-    let new = c.gather_each.new.found.items in
-    followed_set outer aux new _
-    (composed_set outer aux new c.known.ensures (rw c.deref-2.ensures.value at c.known-2.ensures)
-    (gathered_alone c.clear-2.new.self.items new _ c.clear-2.ensures.items
-    (rw c.deref-3.ensures.value at c.in_ok-gather_each.ensures)))
+    on_ok_weaker c.put_each.result
+    (λ set. followed_set outer aux c.put_each.new.found.items _
+    (set_alone c.clear-2.ensures.items (rw c.deref-2.ensures.value at set))
     (lasting_set c.args.interval.now aux mid
     (gathered_alone c.clear.new.self.items aux _ c.clear.ensures.items
-    (rw c.deref.ensures.value at c.in_ok-gather_within.ensures)))
+    (rw c.deref.ensures.value at c.in_ok-gather_within.ensures))))
+    c.put_each.ensures

@@ -1,5 +1,5 @@
 -- Each form goes on as its parts do.
-use Rattle.std.proofs.Common.{◌≡◌, ◌∙◌, [], None, ap, subst, sym, arith}
+use Rattle.std.proofs.Common.{◌≡◌, ◌∙◌, [], ap, subst, sym, arith}
 use Rattle.std.proofs.lemmas.List.{append-nil}
 use Rattle.std.proofs.lemmas.Result.{on_ok_weaker}
 use Rattle.tre_syntax.specs.Expr.{tree_of}
@@ -7,11 +7,12 @@ use Rattle.tre_edges.specs.Piece.{end_of_piece}
 use Rattle.tre_mark.specs.Marked.{EndBetween, IsWellAt}
 use Rattle.tre_mark.specs.MarkTree.{MarkTree, mark_of, sequence_mark, alternation_mark, repetition_mark, intersection_of, restriction_of}
 use Rattle.tre_syntax.specs.PatternTree.{empty, atom, alternation}
-use Rattle.tre_advance.proofs.Endings.{tells_alone}
+use Rattle.tre_advance.proofs.CallForms.{repeat_between}
 use Rattle.tre_advance.proofs.Lists.{both_idle, lasting_idle, adds_alone, adds_then, adds_weaker, advances_told, held_append, set_moved}
 use Rattle.tre_advance.proofs.Nested.{nested_advances, nested_between, starts_alone}
 use Rattle.tre_advance.proofs.Optional.{optional_advances, taken_ends}
 use Rattle.tre_advance.proofs.Onward.{advances_moved, sequence_advances, alternation_advances, once_between, repetition_once}
+use Rattle.tre_advance.proofs.Surveys.{inside_between, repeated_told}
 use Rattle.tre_advance.proofs.walk.+advance.Goals as goal
 
 -- ---- a sequence
@@ -128,35 +129,76 @@ advance_nested-returns t c =
     (tree_of c.args.body.now) c.requires.nested (rw c.deref-2.ensures.value at goes)))
     c.advance.ensures
 
-pub advance_body-repeat-requires-clause-starts : goal.advance_body-repeat-requires-clause-starts
-advance_body-repeat-requires-clause-starts t c =
-    let ended = c.ending.new.found.items in
-    once_between c.args.piece.now c.args.here.now.items c.args.entering.now
-    (mark_of c.args.inner.now) (tree_of c.args.body.now) c.requires.ends c.requires.enter
-    ended c.prune.new.zones.items
-    (tells_alone c.clear.ensures.items c.in_ok-ending.ensures None)
-    (set_moved c.prune.new.zones.items c.put_starts.new.starts.items _ c.in_ok-prune.ensures
-    (rw c.deref.ensures.value at c.in_ok-put_starts.ensures))
+pub advance_body-chains_of-requires : goal.advance_body-chains_of-requires
+advance_body-chains_of-requires t c =
+    rw c.deref.ensures.value
+    (inside_between c.args.piece.now (tree_of c.args.body.now) c.survey_anew.new.inside.items
+    c.in_ok-survey_anew.ensures.inside)
+
+pub advance_body-advance-requires : goal.advance_body-advance-requires
+advance_body-advance-requires t c =
+    let piece = c.args.piece.now in
+    let here = c.args.here.now.items in
+    let entering = c.args.entering.now in
+    let inner = mark_of c.args.inner.now in
+    let tree = tree_of c.args.body.now in
+    let ended = c.survey_anew.new.ended.items in
+    let starts = c.prune.new.zones.items in
+    let mid = c.prune-2.new.zones.items in
+    let union = set_moved starts c.put_starts.new.starts.items _ c.in_ok-prune.ensures
+    (rw c.deref-2.ensures.value at c.in_ok-put_starts.ensures) in
+    let set = repeated_told piece tree c.survey_anew.new.inside.items c.chains_of.new.chains.items
+    c.in_ok-survey_anew.ensures.inside
+    (rw c.deref.ensures.value at c.in_ok-chains_of.ensures) starts
+    (once_between piece here entering inner tree c.requires.ends c.requires.enter ended starts
+    c.in_ok-survey_anew.ensures.ended union)
+    c.clear.new.self.items c.repeat.new.found.items mid c.clear.ensures.items
+    (rw (c.deref-3.ensures.value, c.deref-4.ensures.value) at c.in_ok-repeat.ensures)
+    c.in_ok-prune-2.ensures in (
+      omega arith,
+      (
+        c.requires.numbers,
+        (
+          subst (λ (m : MarkTree). IsWellAt piece.begin m tree)
+              (sym c.in_ok-survey_anew.ensures.same) c.requires.well,
+          subst (EndBetween piece.begin (end_of_piece piece)) (sym c.deref-7.ensures.value)
+              (repeat_between piece tree starts mid set),
+        ),
+      ),
+    )
 
 pub advance_body-returns : goal.advance_body-returns
 advance_body-returns t c =
-    let ended = c.ending.new.found.items in
-    let mid = c.repeat.new.starts.items in
+    let piece = c.args.piece.now in
+    let here = c.args.here.now.items in
+    let entering = c.args.entering.now in
+    let inner = mark_of c.args.inner.now in
+    let tree = tree_of c.args.body.now in
+    let ended = c.survey_anew.new.ended.items in
+    let starts = c.prune.new.zones.items in
+    let mid = c.prune-2.new.zones.items in
     let last = c.advance.new.told.items in
+    let known = c.in_ok-survey_anew.ensures.ended in
+    let union = set_moved starts c.put_starts.new.starts.items _ c.in_ok-prune.ensures
+    (rw c.deref-2.ensures.value at c.in_ok-put_starts.ensures) in
+    let set = repeated_told piece tree c.survey_anew.new.inside.items c.chains_of.new.chains.items
+    c.in_ok-survey_anew.ensures.inside
+    (rw c.deref.ensures.value at c.in_ok-chains_of.ensures) starts
+    (once_between piece here entering inner tree c.requires.ends c.requires.enter ended starts
+    known union)
+    c.clear.new.self.items c.repeat.new.found.items mid c.clear.ensures.items
+    (rw (c.deref-3.ensures.value, c.deref-4.ensures.value) at c.in_ok-repeat.ensures)
+    c.in_ok-prune-2.ensures in
     record {
       added = mid;
-      is = rw c.deref-3.ensures.value at c.in_ok-put_behind.ensures;
-      what = repetition_once c.args.piece.now c.args.here.now.items c.args.entering.now
-          (mark_of c.args.inner.now) (tree_of c.args.body.now) c.requires.ends c.requires.enter
-          ended c.prune.new.zones.items
-          (tells_alone c.clear.ensures.items c.in_ok-ending.ensures None)
-          (set_moved c.prune.new.zones.items c.put_starts.new.starts.items _
-          c.in_ok-prune.ensures (rw c.deref.ensures.value at c.in_ok-put_starts.ensures))
-          mid last c.keep_ending.new.kept.items (mark_of c.advance.new.mark)
-          c.in_ok-repeat.ensures.tells c.in_ok-repeat.ensures.between
+      is = rw c.deref-6.ensures.value at c.in_ok-put_behind.ensures;
+      what = repetition_once piece here entering inner tree c.requires.ends c.requires.enter
+          ended starts known union mid last c.keep_ending.new.kept.items
+          (mark_of c.advance.new.mark) set (repeat_between piece tree starts mid set)
+          (advances_moved (sym c.in_ok-survey_anew.ensures.same)
           (adds_alone c.clear-2.new.self.items last _ c.clear-2.ensures.items
-          (rw c.deref-4.ensures.value at c.in_ok-advance.ensures))
-          (rw c.deref-2.ensures.value at c.in_ok-keep_ending.ensures);
+          (rw c.deref-7.ensures.value at c.in_ok-advance.ensures)))
+          (rw c.deref-5.ensures.value at c.in_ok-keep_ending.ensures);
     }
 
 -- ---- a restriction

@@ -3,7 +3,7 @@ use Rattle.std.proofs.lemmas.Result.{on_ok_weaker}
 use Rattle.tre_syntax.specs.Expr.{tree_of}
 use Rattle.tre_advance.proofs.Closings.{met_at_end, missed_at_end}
 use Rattle.tre_advance.proofs.Endings.{follow_never, put_followed}
-use Rattle.tre_advance.proofs.tail.gather_at_end.Goals as goal
+use Rattle.tre_advance.proofs.ending.gather_followed.Goals as goal
 
 pub returns : goal.returns
 returns c time before ends =
