@@ -13,7 +13,7 @@ use Rattle.tre_parse.specs.Written.{is_blank}
 use Rattle.tre_syntax.specs.declared.name_kind.NameKind.TheVariants.{Proposition, Event as EventKind}
 use Rattle.tre_parse.specs.Tokens.{RawToken, name, number, sign, RawTokenAt, with_events, names_in, token_of}
 use Rattle.tre_parse.specs.Scanned.{RawTokens, raw_tokens_from, scanned, with_raw_token, raw_tokens_of, bad_byte, words_of, names_of}
-use Rattle.tre_parse.specs.Grammar.{expr, Spells}
+use Rattle.tre_parse.specs.TokenGrammar.{expr, Spells}
 use Rattle.tre_parse.specs.ScannedOutcome.{IsScannedSpelling}
 use Rattle.tre_parse.specs.Blanks.{counted_on, SaysAs}
 use Rattle.tre_parse.proofs.Fronts.{take_front, lexeme_front, lexeme_fits}

@@ -4,7 +4,7 @@ use Rattle.std.specs.Prelude.{nat_lt, if◌then◌else◌, MatchOption}
 use Rattle.std.proofs.lemmas.Bool.Decides.{nat_tests}
 use Rattle.tre_parse.specs.declared.limits.TheConstants.{DEPTH_MAX}
 use Rattle.tre_parse.specs.declared.token.Token.{Token}
-use Rattle.tre_parse.specs.Outcome.{open_after, deep_place}
+use Rattle.tre_parse.specs.TokenOutcome.{open_after, deep_place}
 use Rattle.tre_parse.specs.Depth.{open_from, IsDeepAt}
 
 -- So many tokens further, counted from a depth.

@@ -6,11 +6,11 @@ use Rattle.tre_pairs.specs.declared.TheConstants.{TIME_MAX}
 use Rattle.tre_zone.specs.Interval.{IntervalEnds, HasNoDuration, IsIntervalWithin}
 use Rattle.tre_parse.specs.declared.token.Token.{Token}
 use Rattle.tre_parse.specs.declared.token.Token.TheVariants.{Percent}
-use Rattle.tre_parse.specs.Grammar.{SpellsInterval}
+use Rattle.tre_parse.specs.TokenGrammar.{SpellsInterval}
 use Rattle.tre_parse.specs.Begins.{BeginsInterval}
 use Rattle.tre_parse.specs.Parts.{IsFineInterval}
 use Rattle.tre_parse.specs.Reader.{Reading, got, stop, of_interval, read}
-use Rattle.tre_parse.specs.Outcome.{HasEmptyAt}
+use Rattle.tre_parse.specs.TokenOutcome.{HasEmptyAt}
 use Rattle.tre_parse.specs.Unkept.{IsIntervalAt, NoneEmptyBefore, NoneEmpty}
 use Rattle.tre_parse.proofs.Fixpoint.{left}
 use Rattle.tre_parse.proofs.Spelt.{interval_is_read}

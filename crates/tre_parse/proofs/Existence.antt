@@ -11,7 +11,8 @@ use Rattle.tre_parse.specs.declared.token.Token.TheVariants.{Percent}
 use Rattle.tre_parse.specs.declared.fault.ParseFault.{ParseFault}
 use Rattle.tre_parse.specs.declared.fault.ParseFault.TheVariants.{Syntax, EmptyInterval}
 use Rattle.tre_parse.specs.Reader.{Reading, got, stop}
-use Rattle.tre_parse.specs.Outcome.{Outcome, spelt, refused, TextTokens, offset_of, limit_fault, size_fault, HasEmptyAt, IsFirstEmpty, IsOutcomeOfTree, IsOutcomeOfTokens, IsOutcome}
+use Rattle.tre_parse.specs.Outcome.{Outcome, spelt, refused, IsOutcome}
+use Rattle.tre_parse.specs.TokenOutcome.{TextTokens, offset_of, limit_fault, size_fault, HasEmptyAt, IsFirstEmpty, IsOutcomeOfTree, IsOutcomeOfTokens}
 use Rattle.tre_parse.specs.ScannedOutcome.{text_tokens_of, byte_fault, IsScannedOutcome}
 use Rattle.tre_parse.proofs.Agreement.{outcome_meant}
 use Rattle.tre_parse.specs.Unkept.{NoneEmptyBefore}

@@ -9,10 +9,10 @@ use Rattle.tre_zone.specs.Interval.{IntervalEnds, IsIntervalWithin}
 use Rattle.tre_syntax.specs.PatternTree.{PatternTree}
 use Rattle.tre_parse.specs.declared.token.Token.{Token}
 use Rattle.tre_parse.specs.declared.token.Token.TheVariants.{Number, LeftParen, RightParen, Comma, Semicolon, Bar, Ampersand, Star, Plus, Question, Percent, Inf}
-use Rattle.tre_parse.specs.Grammar.{opening, closing, SpellsInterval, with_high, without_high, Rule, expr, meet, seq, post, primary, Spells, expr_meet, expr_bar, meet_seq, meet_ampersand, seq_post, seq_semicolon, post_primary, post_star, post_plus, post_question, post_percent, primary_eps, primary_parens, primary_rise, primary_fall, primary_event, primary_lit, primary_begins, primary_ends, primary_begins_ends}
+use Rattle.tre_parse.specs.TokenGrammar.{opening, closing, SpellsInterval, with_high, without_high, Rule, expr, meet, seq, post, primary, Spells, expr_meet, expr_bar, meet_seq, meet_ampersand, seq_post, seq_semicolon, post_primary, post_star, post_plus, post_question, post_percent, primary_eps, primary_parens, primary_rise, primary_fall, primary_event, primary_lit, primary_begins, primary_ends, primary_begins_ends}
 use Rattle.tre_parse.specs.Parts.{IsFineInterval}
 use Rattle.tre_parse.specs.Operands.{HasFineIntervals}
-use Rattle.tre_parse.specs.Outcome.{is_big}
+use Rattle.tre_parse.specs.TokenOutcome.{is_big}
 use Rattle.tre_parse.specs.Unkept.{NoneEmpty}
 
 -- Each interval that stands among the tokens is fine.

@@ -16,7 +16,7 @@ use Rattle.tre_parse.specs.declared.fault.ParseFault.TheVariants.{TooLong, BadBy
 use Rattle.tre_parse.specs.Operands.{Operand, Represents, HasFineIntervals}
 use Rattle.tre_parse.specs.declared.token.Token.{Token}
 use Rattle.tre_parse.specs.declared.scan.Scan.{Scan}
-use Rattle.tre_parse.specs.Grammar.{expr, Spells}
+use Rattle.tre_parse.specs.TokenGrammar.{expr, Spells}
 use Rattle.tre_parse.specs.Reader.{got}
 use Rattle.tre_parse.specs.Reading.{Goes, Stops}
 use Rattle.tre_parse.proofs.Fixpoint.{left}
@@ -33,7 +33,8 @@ use Rattle.tre_parse.proofs.Counts.{kept_is}
 use Rattle.tre_parse.specs.Scan.{placed_from, IsBadByte, IsScan}
 use Rattle.tre_parse.specs.Front.{tokens_in, offsets_in}
 use Rattle.tre_parse.specs.Numbering.{IsNumberedByUse}
-use Rattle.tre_parse.specs.Outcome.{Outcome, spelt, refused, TextTokens, offset_of, is_big, is_past, deep_place, limit_fault, size_fault, IsSyntaxFaultAt, IsFirstEmpty, IsOutcomeOfTokens}
+use Rattle.tre_parse.specs.Outcome.{Outcome, spelt, refused}
+use Rattle.tre_parse.specs.TokenOutcome.{TextTokens, offset_of, is_big, is_past, deep_place, limit_fault, size_fault, IsSyntaxFaultAt, IsFirstEmpty, IsOutcomeOfTokens}
 use Rattle.tre_parse.specs.ScannedOutcome.{text_tokens_of, byte_fault, IsScannedOutcome}
 use Rattle.tre_parse.specs.Answers.{Answers, text_tokens_in, IsFaultOf, IsOutcomeWithin}
 use Rattle.tre_parse.proofs.Numbers.{counts_alike}

@@ -34,3 +34,7 @@ pub mod Table
 pub mod NameNumbers
 pub mod Ends
 pub mod Past
+pub mod WordTables
+pub mod WordTokens
+pub mod WordGrammar
+pub mod WordOutcomes

@@ -22,7 +22,7 @@ use Rattle.tre_parse.specs.declared.before.Before.TheVariants.{EventWord, EventP
 use Rattle.tre_parse.specs.Tokens.{RawToken, name, event_name, number, sign, RawTokenAt, with_events, name_of, first_uses, names_in, token_of}
 use Rattle.tre_parse.specs.Scanned.{raw_tokens_of, words_of, names_of, tokens_of}
 use Rattle.tre_parse.specs.Known.{before_next, kind_behind, names_of_kind, names_with, vocabulary_with, Known, nothing_known, numbered, next_token, vocabulary_after, known_after, tokens_from, names_from, word_is_past, past_from, offsets_of}
-use Rattle.tre_parse.specs.Outcome.{is_past}
+use Rattle.tre_parse.specs.TokenOutcome.{is_past}
 use Rattle.tre_parse.specs.ScannedOutcome.{text_tokens_of}
 use Rattle.tre_parse.specs.Past.{kind_after}
 use Rattle.tre_parse.specs.Numbering.{past_of, HasTokenAt}
@@ -31,17 +31,17 @@ use Rattle.tre_parse.proofs.NameNumbers.{HasPlace, kind_by, own_kind, for_good, 
 
 -- ---- the names of events are told apart by what stands before them
 
-abbrev apart : Before → RawToken → RawToken
+abbrev pub apart : Before → RawToken → RawToken
 apart EventParen (name bytes) = event_name bytes
 apart _ word = word
 
-abbrev apart_from : Before → List RawToken → List RawToken
+abbrev pub apart_from : Before → List RawToken → List RawToken
 apart_from before [] = []
 apart_from before (word ∷ rest) = apart before word ∷ apart_from (before_next before word) rest
 
 -- By themselves, behind `event`, and behind `event (`.
-record Told (words : List RawToken) : Type 0 where
-  other : with_events words ≡ apart_from Other words
+pub record Told (words : List RawToken) : Type 0 where
+  pub other : with_events words ≡ apart_from Other words
   event : with_events (sign Event ∷ words) ≡ sign Event ∷ apart_from EventWord words
   paren : with_events (sign Event ∷ sign LeftParen ∷ words)
       ≡ sign Event ∷ sign LeftParen ∷ apart_from EventParen words
@@ -78,7 +78,7 @@ told_word (sign token) rest h = record {
   paren = ap (λ l. sign Event ∷ sign LeftParen ∷ sign token ∷ l) h.other;
 }
 
-told : (words : List RawToken) → Told words
+pub told : (words : List RawToken) → Told words
 told [] = record { other = refl; event = refl; paren = refl }
 told (word ∷ rest) = told_word word rest (told rest)
 

@@ -18,7 +18,7 @@ use Rattle.tre_parse.specs.Tokens.{RawToken, name, event_name, number, sign, Raw
 use Rattle.tre_parse.specs.Scanned.{raw_tokens_of}
 use Rattle.tre_parse.specs.Known.{kind_behind, names_of_kind, names_with, vocabulary_with, Known, nothing_known, numbered, next_token, vocabulary_after, known_after, tokens_from, names_from, past_from, word_is_past}
 use Rattle.tre_parse.specs.Numbering.{numbers_in, IsNumberedByUse}
-use Rattle.tre_parse.specs.Outcome.{offset_of}
+use Rattle.tre_parse.specs.TokenOutcome.{offset_of}
 use Rattle.tre_parse.specs.ScannedOutcome.{text_tokens_of}
 use Rattle.tre_parse.proofs.Plain.{IsNoName, IsPlain, ArePlain, raw_tokens_plain}
 use Rattle.tre_parse.proofs.Named.{names_run, tokens_run, past_run}

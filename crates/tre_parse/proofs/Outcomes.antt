@@ -6,7 +6,8 @@ use Rattle.tre_syntax.specs.PatternTree.{PatternTree}
 use Rattle.tre_parse.specs.declared.token.Token.{Token}
 use Rattle.tre_parse.specs.declared.fault.ParseFault.{ParseFault}
 use Rattle.tre_parse.specs.declared.fault.ParseFault.TheVariants.{Syntax, EmptyInterval}
-use Rattle.tre_parse.specs.Outcome.{Outcome, spelt, refused, TextTokens, offset_of, limit_fault, size_fault, IsFirstEmpty, IsOutcomeOfTree, IsOutcomeOfTokens, IsOutcome}
+use Rattle.tre_parse.specs.Outcome.{Outcome, spelt, refused, IsOutcome}
+use Rattle.tre_parse.specs.TokenOutcome.{TextTokens, offset_of, limit_fault, size_fault, IsFirstEmpty, IsOutcomeOfTree, IsOutcomeOfTokens}
 use Rattle.tre_parse.specs.ScannedOutcome.{text_tokens_of, byte_fault, IsScannedOutcome}
 use Rattle.tre_parse.proofs.Whole.{spelt_once, fault_once}
 use Rattle.tre_parse.proofs.Agreement.{scanned_outcome}

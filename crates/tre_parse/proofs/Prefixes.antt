@@ -7,8 +7,8 @@ use Rattle.tre_parse.specs.declared.token.Token.{Token}
 use Rattle.tre_parse.specs.declared.token.Token.TheVariants.{LeftParen, RightParen, LeftBrace, RightBrace, Semicolon, Bar, DoubleBar, Ampersand, DoubleAmpersand, Percent, Rise, Fall, True, EventName}
 use Rattle.tre_parse.specs.declared.connective.Connective.TheVariants.{And, Or}
 use Rattle.tre_parse.specs.declared.connective.Join.TheVariants.{Sequence, Intersection, Alternation}
-use Rattle.tre_parse.specs.Grammar as grammar
-use Rattle.tre_parse.specs.Grammar.{StateRule, lit, state, conj, neg, SpellsState, Rule, expr, meet, seq, post, primary, Spells}
+use Rattle.tre_parse.specs.TokenGrammar as grammar
+use Rattle.tre_parse.specs.TokenGrammar.{StateRule, lit, state, conj, neg, SpellsState, Rule, expr, meet, seq, post, primary, Spells}
 use Rattle.tre_parse.specs.Begins as begin
 use Rattle.tre_parse.specs.Begins.{BeginsState, Begins, IsCompletable}
 use Rattle.tre_parse.specs.Front.{front}

@@ -11,8 +11,8 @@ use Rattle.tre_parse.specs.declared.connective.Connective.{Connective}
 use Rattle.tre_parse.specs.declared.connective.Connective.TheVariants.{And, Or}
 use Rattle.tre_parse.specs.declared.connective.Join.{Join}
 use Rattle.tre_parse.specs.declared.connective.Join.TheVariants.{Sequence, Intersection, Alternation}
-use Rattle.tre_parse.specs.Grammar as grammar
-use Rattle.tre_parse.specs.Grammar.{StateRule, state, conj, neg, SpellsState, opening, SpellsInterval, with_high, without_high, Rule, expr, meet, seq, post, primary, Spells}
+use Rattle.tre_parse.specs.TokenGrammar as grammar
+use Rattle.tre_parse.specs.TokenGrammar.{StateRule, state, conj, neg, SpellsState, opening, SpellsInterval, with_high, without_high, Rule, expr, meet, seq, post, primary, Spells}
 use Rattle.tre_parse.specs.Begins as begin
 use Rattle.tre_parse.specs.Begins.{BeginsState, BeginsInterval, Begins}
 use Rattle.tre_parse.specs.Joins.{connected, connective_sign, connected_rule, joined_by, join_sign, joined_rule, brackets_of, operand_in, edge_sign}

@@ -8,9 +8,10 @@ use Rattle.tre_syntax.specs.Pattern.{pattern_tree, names_of}
 use Rattle.tre_syntax.specs.PatternTree.{PatternTree}
 use Rattle.tre_parse.specs.declared.fault.ParseFault.{ParseFault}
 use Rattle.tre_parse.specs.declared.fault.ParseFault.TheVariants.{TooLong, BadByte}
-use Rattle.tre_parse.specs.Grammar.{expr, Spells}
+use Rattle.tre_parse.specs.TokenGrammar.{expr, Spells}
 use Rattle.tre_parse.specs.Scanned.{bad_byte, tokens_of}
-use Rattle.tre_parse.specs.Outcome.{IsSpelling, spelt, refused, limit_fault, size_fault, IsOutcomeOfTree, IsOutcomeOfTokens}
+use Rattle.tre_parse.specs.Outcome.{IsSpelling, spelt, refused}
+use Rattle.tre_parse.specs.TokenOutcome.{limit_fault, size_fault, IsOutcomeOfTree, IsOutcomeOfTokens}
 use Rattle.tre_parse.specs.ScannedOutcome.{IsScannedSpelling, text_tokens_of, byte_fault, IsScannedOutcome}
 use Rattle.tre_parse.specs.Answers.{Answers}
 use Rattle.tre_parse.proofs.Agreement.{spelling_meant}

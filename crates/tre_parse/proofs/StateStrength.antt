@@ -5,7 +5,7 @@ use Rattle.tre_state.specs.StateTree.{StateTree, conjunction, disjunction}
 use Rattle.tre_syntax.specs.PatternTree.{atom, literal}
 use Rattle.tre_parse.specs.declared.token.Token.{Token}
 use Rattle.tre_parse.specs.declared.token.Token.TheVariants.{LeftBrace, RightBrace, DoubleBar, DoubleAmpersand}
-use Rattle.tre_parse.specs.Grammar.{state, conj, neg, SpellsState, lit_braces, state_conj, state_bars, conj_neg, conj_ampersands, expr, Spells, expr_meet, meet_seq, seq_post, post_primary, primary_lit}
+use Rattle.tre_parse.specs.TokenGrammar.{state, conj, neg, SpellsState, lit_braces, state_conj, state_bars, conj_neg, conj_ampersands, expr, Spells, expr_meet, meet_seq, seq_post, post_primary, primary_lit}
 use Rattle.tre_parse.specs.Strength.{StateGroups}
 use Rattle.tre_parse.proofs.Whole.{spelt_once}
 

@@ -4,7 +4,7 @@ use Rattle.std.proofs.Common.{◌≡◌, List, ◌∷◌, ◌++◌, subst, appen
 use Rattle.tre_syntax.specs.PatternTree.{PatternTree, sequence, alternation, intersection}
 use Rattle.tre_parse.specs.declared.token.Token.{Token}
 use Rattle.tre_parse.specs.declared.token.Token.TheVariants.{Semicolon, Bar, Ampersand}
-use Rattle.tre_parse.specs.Grammar.{expr, meet, seq, post, Spells, expr_meet, expr_bar, meet_seq, meet_ampersand, seq_post, seq_semicolon}
+use Rattle.tre_parse.specs.TokenGrammar.{expr, meet, seq, post, Spells, expr_meet, expr_bar, meet_seq, meet_ampersand, seq_post, seq_semicolon}
 use Rattle.tre_parse.specs.Strength.{Groups}
 use Rattle.tre_parse.proofs.Whole.{spelt_once}
 

@@ -11,11 +11,11 @@ use Rattle.tre_parse.specs.declared.token.Token.TheVariants.{RightParen, RightBr
 use Rattle.tre_parse.specs.declared.connective.Join.{Join}
 use Rattle.tre_parse.specs.declared.connective.Join.TheVariants.{Sequence, Intersection, Alternation}
 use Rattle.tre_parse.specs.Joins.{join_sign, edge_sign}
-use Rattle.tre_parse.specs.Grammar.{StateRule, lit, state, conj, neg, SpellsState, lit_name, lit_true, lit_braces, lit_bang, state_conj, state_bars, conj_neg, conj_ampersands, neg_name, neg_true, neg_parens, neg_bang, SpellsInterval, with_high, without_high}
+use Rattle.tre_parse.specs.TokenGrammar.{StateRule, lit, state, conj, neg, SpellsState, lit_name, lit_true, lit_braces, lit_bang, state_conj, state_bars, conj_neg, conj_ampersands, neg_name, neg_true, neg_parens, neg_bang, SpellsInterval, with_high, without_high}
 use Rattle.tre_parse.specs.Begins.{BeginsInterval}
 use Rattle.tre_parse.specs.Parts.{IsFineInterval, IsMadeOf}
 use Rattle.tre_parse.specs.Operands.{Formula, RepresentsState}
-use Rattle.tre_parse.specs.Outcome.{is_big, HasEmptyAt, IsFirstEmpty}
+use Rattle.tre_parse.specs.TokenOutcome.{is_big, HasEmptyAt, IsFirstEmpty}
 use Rattle.tre_parse.specs.Reader.{Reading, got, StateTask, of_state, of_interval, read, read_state}
 use Rattle.tre_parse.specs.Reading.{Goes, Accepts}
 use Rattle.tre_parse.specs.Unkept.{NoneEmptyBefore, NoneEmpty, BeginsUnkept, Finds, FindsUpTo, unkept_at}

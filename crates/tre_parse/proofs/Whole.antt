@@ -6,10 +6,10 @@ use Rattle.std.proofs.lemmas.List.{append-nil, take_all}
 use Rattle.tre_syntax.specs.PatternTree.{PatternTree}
 use Rattle.tre_parse.specs.declared.token.Token.{Token}
 use Rattle.tre_parse.specs.declared.connective.Join.TheVariants.{Alternation}
-use Rattle.tre_parse.specs.Grammar.{expr, Spells}
+use Rattle.tre_parse.specs.TokenGrammar.{expr, Spells}
 use Rattle.tre_parse.specs.Begins.{Begins}
 use Rattle.tre_parse.specs.Front.{front}
-use Rattle.tre_parse.specs.Outcome.{BeginsExpression, IsSyntaxFaultAt}
+use Rattle.tre_parse.specs.TokenOutcome.{BeginsExpression, IsSyntaxFaultAt}
 use Rattle.tre_parse.specs.Reader.{Reading, got, stop, expression_by, of_pattern, read_pattern}
 use Rattle.tre_parse.proofs.Fixpoint.{left}
 use Rattle.tre_parse.proofs.Says.{before, Says}

@@ -9,7 +9,8 @@ use Rattle.tre_parse.specs.declared.cursor.Stop.TheVariants.{Syntax as Stuck, Me
 use Rattle.tre_parse.specs.declared.scan.Scan.{Scan}
 use Rattle.tre_parse.specs.Front.{tokens_in, offsets_in}
 use Rattle.tre_parse.specs.Scan.{vocabulary_in}
-use Rattle.tre_parse.specs.Outcome.{Outcome, spelt, refused, TextTokens, offset_of, limit_fault, IsOutcomeOfTokens}
+use Rattle.tre_parse.specs.Outcome.{Outcome, spelt, refused}
+use Rattle.tre_parse.specs.TokenOutcome.{TextTokens, offset_of, limit_fault, IsOutcomeOfTokens}
 
 -- The answer is an outcome of which this is so, or want of memory.
 abbrev pub Answers : (Outcome → Type 0) → Result Pattern ParseFault → Type 0

@@ -6,7 +6,7 @@ use Rattle.tre_zone.specs.Interval.{IntervalEnds}
 use Rattle.tre_syntax.specs.PatternTree.{PatternTree}
 use Rattle.tre_parse.specs.declared.token.Token.{Token}
 use Rattle.tre_parse.specs.declared.token.Token.TheVariants.{LeftParen, LeftBrace, Semicolon, Bar, DoubleBar, Ampersand, DoubleAmpersand, Bang, Percent, Begins as BeginsSign, Rise, Fall, Event, EventName}
-use Rattle.tre_parse.specs.Grammar.{StateRule, lit, state, conj, neg, SpellsState, SpellsInterval, Rule, expr, meet, seq, post, primary, Spells}
+use Rattle.tre_parse.specs.TokenGrammar.{StateRule, lit, state, conj, neg, SpellsState, SpellsInterval, Rule, expr, meet, seq, post, primary, Spells}
 
 -- The tokens begin a state, by the rule.
 pub data BeginsState : StateRule → List Token → Type 0 where

@@ -2,7 +2,7 @@
 use Rattle.std.specs.Prelude.{ℕ, ◌+◌, ◌<◌, ◌≤◌, List, [], ◌∷◌, length, take}
 use Rattle.tre_parse.specs.declared.limits.TheConstants.{DEPTH_MAX}
 use Rattle.tre_parse.specs.declared.token.Token.{Token}
-use Rattle.tre_parse.specs.Outcome.{open_after}
+use Rattle.tre_parse.specs.TokenOutcome.{open_after}
 
 -- How many brackets are open after the tokens.
 abbrev pub open_from : ℕ → List Token → ℕ

@@ -5,7 +5,7 @@ use Rattle.tre_syntax.specs.PatternTree.{PatternTree, literal, rise, fall, atom,
 use Rattle.tre_syntax.specs.declared.pattern.TheConstants.{NODES_MAX}
 use Rattle.tre_parse.specs.declared.token.Token.{Token}
 use Rattle.tre_parse.specs.declared.token.Token.TheVariants.{LeftParen, RightParen, LeftBrace, RightBrace, Semicolon, Bar, DoubleBar, Ampersand, DoubleAmpersand, Rise, Fall}
-use Rattle.tre_parse.specs.Grammar.{StateRule, lit, state, conj, neg, Rule, expr, meet, seq}
+use Rattle.tre_parse.specs.TokenGrammar.{StateRule, lit, state, conj, neg, Rule, expr, meet, seq}
 use Rattle.tre_parse.specs.declared.connective.Connective.{Connective}
 use Rattle.tre_parse.specs.declared.connective.Connective.TheVariants.{And, Or}
 use Rattle.tre_parse.specs.declared.connective.Join.{Join}

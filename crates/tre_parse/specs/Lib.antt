@@ -1,12 +1,16 @@
--- What a reader must believe: the grammar, the tokens of a text, and what becomes of it.
+-- What a reader must believe: the words of a text, the grammar, and what becomes of it.
+pub mod Words
 pub mod Grammar
+pub mod Outcome
+-- The same by tokens, one for each sign, and by what the scanner finds.
+pub mod TokenGrammar
 pub mod Tokens
 pub mod Written
-pub mod Outcome
--- The same by what the scanner finds.
+pub mod TokenOutcome
 pub mod Lexeme
 pub mod Scanned
 pub mod ScannedOutcome
+pub mod TokenWords
 -- What the laws say in other words.
 pub mod Begins
 pub mod Signs

@@ -7,7 +7,7 @@ use Rattle.tre_syntax.specs.PatternTree.{seen_after}
 use Rattle.tre_parse.specs.declared.token.Token.{Token}
 use Rattle.tre_parse.specs.declared.token.Token.TheVariants.{Name, EventName}
 use Rattle.tre_parse.specs.Known.{names_of_kind}
-use Rattle.tre_parse.specs.Outcome.{TextTokens, offset_of, is_past}
+use Rattle.tre_parse.specs.TokenOutcome.{TextTokens, offset_of, is_past}
 
 -- The number of a token that is a name of the kind.
 abbrev pub numbers_at : Token → NameKind → List ℕ

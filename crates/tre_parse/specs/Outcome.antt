@@ -1,5 +1,6 @@
 -- What becomes of a text: the pattern that it spells, or the refusal that comes first.
-use Rattle.std.specs.Prelude.{◌≡◌, ℕ, ◌+◌, ◌-◌, ◌<◌, Bool, false, ◌⊎◌, ◌==◌, nat_lt, if◌then◌else◌, min, Option, Some, None, MatchOption, List, [], ◌∷◌, ◌++◌, length, take, map, slice_index_or, position}
+use Rattle.std.specs.Prelude.{◌≡◌, ℕ, ◌+◌, ◌-◌, ◌<◌, Bool, false, ◌⊎◌, ◌==◌, nat_lt, if◌then◌else◌, min, Option, Some, None, MatchOption, List, [], ◌∷◌, ◌++◌, length, take, map, slice_index_or, position, codes}
+use Rattle.std.specs.List.{list_any}
 use Rattle.std.specs.Option.{option_map, option_or}
 use Rattle.tre_state.specs.declared.names.TheConstants.{NAMES_MAX}
 use Rattle.tre_trace.specs.Reading.{Vocabulary}
@@ -8,153 +9,119 @@ use Rattle.tre_syntax.specs.PatternTree.{PatternTree, node_count}
 use Rattle.tre_pairs.specs.declared.TheConstants.{TIME_MAX}
 use Rattle.tre_syntax.specs.declared.pattern.TheConstants.{NODES_MAX}
 use Rattle.tre_parse.specs.declared.limits.TheConstants.{TEXT_MAX, DEPTH_MAX, COUNT_MAX}
-use Rattle.tre_parse.specs.declared.token.Token.{Token}
-use Rattle.tre_parse.specs.declared.token.Token.TheVariants.{Name, EventName, Number, LeftParen, RightParen, LeftBracket, RightBracket, LeftBrace, RightBrace, Percent}
 use Rattle.tre_parse.specs.declared.fault.ParseFault.{ParseFault}
 use Rattle.tre_parse.specs.declared.fault.ParseFault.TheVariants.{TooLong, BadByte, Number as TooBig, TooDeep, Syntax, EmptyInterval, TooManyNames, TooLarge}
-use Rattle.tre_parse.specs.Grammar.{expr, Spells, SpellsInterval}
-use Rattle.tre_parse.specs.Tokens.{RawTokenAt, names_among, tokens_among}
-use Rattle.tre_parse.specs.Written.{AreTokens}
+use Rattle.tre_parse.specs.Words.{Word, name, event_name, number, sign, AreWords, is_sign, names_among, numbered_words}
+use Rattle.tre_parse.specs.Grammar.{Words, expr, Spells, SpellsInterval}
 
 -- The text spells the expression at the scale, and its names are these.
 pub record IsSpelling (scale : ℕ) (text : List ℕ) (tree : PatternTree) (names : Vocabulary)
     : Type 0 where
-  pub raw_tokens : List RawTokenAt
-  pub are : AreTokens 0 text raw_tokens None
-  pub spells : Spells expr (tokens_among scale raw_tokens) tree
-  pub numbered : names ≡ names_among raw_tokens
+  pub placed : List (ℕ × Word (List ℕ))
+  pub are : AreWords 0 text placed None
+  pub spells : Spells expr (numbered_words scale placed) tree
+  pub numbered : names ≡ names_among placed
 
 -- What becomes of a text.
 pub data Outcome : Type 0 where
   spelt : PatternTree → Vocabulary → Outcome
   refused : ParseFault → Outcome
 
--- What a text is made of: how many bytes, its tokens, the offset of each, and its names.
-pub record TextTokens : Type 0 where
-  pub size : ℕ
-  pub tokens : List Token
-  pub offsets : List ℕ
-  pub names : Vocabulary
-
-abbrev pub text_tokens_among : ℕ → List ℕ → List RawTokenAt → TextTokens
-text_tokens_among scale text raw_tokens =
-    record {
-      size = length text;
-      tokens = tokens_among scale raw_tokens;
-      offsets = map (λ raw. raw.at) raw_tokens;
-      names = names_among raw_tokens;
-    }
-
--- The offset of the token at a place, and the length of the text past the last.
-abbrev pub offset_of : TextTokens → ℕ → ℕ
-offset_of words place = slice_index_or words.offsets place words.size
+-- The offset of the word at a place of a text, and the length of the text past the last.
+abbrev pub offset_of : List ℕ → List (ℕ × Word (List ℕ)) → ℕ → ℕ
+offset_of text placed place = slice_index_or (map (λ one. one.0) placed) place (length text)
 
 -- A number that is no number of units, or one above the latest time.
-abbrev pub is_big : Token → Bool
-is_big (Number n) = nat_lt TIME_MAX n
-is_big _ = false
+abbrev pub is_big : Word ℕ → Bool
+is_big (number n) = nat_lt TIME_MAX n
+is_big word = false
 
 -- A name past the first NAMES_MAX of its kind.
-abbrev pub is_past : Token → Bool
-is_past (Name i) = i == NAMES_MAX
-is_past (EventName i) = i == NAMES_MAX
-is_past _ = false
+abbrev pub is_past : Word ℕ → Bool
+is_past (name i) = i == NAMES_MAX
+is_past (event_name i) = i == NAMES_MAX
+is_past word = false
 
--- How many brackets are open after one more token. Those that close take one away, but never below
+-- How many brackets are open after one more word. Those that close take one away, but never below
 -- zero.
-abbrev pub open_after : ℕ → Token → ℕ
-open_after depth LeftParen = depth + 1
-open_after depth LeftBracket = depth + 1
-open_after depth LeftBrace = depth + 1
-open_after depth RightParen = depth - 1
-open_after depth RightBracket = depth - 1
-open_after depth RightBrace = depth - 1
-open_after depth _ = depth
+abbrev pub open_after : ℕ → Word ℕ → ℕ
+open_after depth word =
+    if list_any (λ byte. is_sign (byte ∷ []) word) (codes "([{") then depth + 1
+    else (if list_any (λ byte. is_sign (byte ∷ []) word) (codes ")]}") then depth - 1 else depth)
 
 -- The first place, counted on from `place`, at which more than DEPTH_MAX brackets are open.
-abbrev pub deep_place : ℕ → ℕ → List Token → Option ℕ
+abbrev pub deep_place : ℕ → ℕ → Words → Option ℕ
 deep_place depth place [] = None
-deep_place depth place (token ∷ rest) =
-    if nat_lt DEPTH_MAX (open_after depth token) then Some place
-    else deep_place (open_after depth token) (place + 1) rest
+deep_place depth place (word ∷ rest) =
+    if nat_lt DEPTH_MAX (open_after depth word) then Some place
+    else deep_place (open_after depth word) (place + 1) rest
 
--- A text that is too long, or has a byte at which no token begins.
-abbrev pub fault_of_bytes : List ℕ → Option ℕ → Option ParseFault
-fault_of_bytes text bad =
-    if nat_lt TEXT_MAX (length text) then Some TooLong else option_map (λ at. BadByte at) bad
+-- The first of these: the text is too long; a byte at which no word begins; a number that is no
+-- number of units, or one above the latest time; too many open brackets. The word at
+-- each place stands `at` this offset.
+abbrev pub limit_fault : List ℕ → Option ℕ → (ℕ → ℕ) → Words → Option ParseFault
+limit_fault text bad at words =
+    option_or
+    (if nat_lt TEXT_MAX (length text) then Some TooLong else option_map (λ byte. BadByte byte) bad)
+    (option_or
+    (option_map (λ place. TooBig (at place)) (position is_big words))
+    (option_map (λ place. TooDeep (at place)) (deep_place 0 0 words)))
 
--- A number that is no number of units, or one above the latest time; or else too many open
--- brackets.
-abbrev pub limit_fault : TextTokens → Option ParseFault
-limit_fault words =
-    option_or (option_map (λ place. TooBig (offset_of words place)) (position is_big words.tokens))
-    (option_map (λ place. TooDeep (offset_of words place)) (deep_place 0 0 words.tokens))
-
--- The tokens begin an expression: with some more behind them they spell one.
-pub record BeginsExpression (tokens : List Token) : Type 0 where
-  pub more : List Token
+-- The words begin an expression: with some more behind them they spell one.
+pub record BeginsExpression (words : Words) : Type 0 where
+  pub more : Words
   pub tree : PatternTree
-  pub spells : Spells expr (tokens ++ more) tree
+  pub spells : Spells expr (words ++ more) tree
 
--- The tokens are no expression, and this is the place where that is seen: those before it begin an
+-- The words are no expression, and this is the place where that is seen: those before it begin an
 -- expression, and with one more they don't, or there is no more.
-pub record IsSyntaxFaultAt (tokens : List Token) (place : ℕ) : Type 0 where
-  pub none : (tree : PatternTree) → Spells expr tokens tree → ⊥
-  pub begins : BeginsExpression (take place tokens)
-  pub wrong : BeginsExpression (take (place + 1) tokens) → place ≡ length tokens
+pub record IsSyntaxFaultAt (words : Words) (place : ℕ) : Type 0 where
+  pub none : (tree : PatternTree) → Spells expr words tree → ⊥
+  pub begins : BeginsExpression (take place words)
+  pub wrong : BeginsExpression (take (place + 1) words) → place ≡ length words
 
--- An interval that no duration is in stands at a place of the tokens, right after a `%`.
-pub record HasEmptyAt (tokens : List Token) (place : ℕ) : Type 0 where
-  pub front : List Token
-  pub body : List Token
-  pub rest : List Token
+-- An interval that no duration is in stands at a place of the words, right after a `%`.
+pub record HasEmptyAt (words : Words) (place : ℕ) : Type 0 where
+  pub front : Words
+  pub body : Words
+  pub rest : Words
   pub ends : IntervalEnds
-  pub split : tokens ≡ front ++ Percent ∷ (body ++ rest)
+  pub split : words ≡ front ++ sign (codes "%") ∷ (body ++ rest)
   pub here : place ≡ length front + 1
   pub spelt : SpellsInterval body ends
   pub empty : HasNoDuration ends
 
--- The first of them stands at the place.
-abbrev pub IsFirstEmpty : List Token → ℕ → Type 0
-IsFirstEmpty tokens place =
-    HasEmptyAt tokens place × ((n : ℕ) → n < place → HasEmptyAt tokens n → ⊥)
-
 -- A name past the first NAMES_MAX of its kind, or else too many nodes.
-abbrev pub size_fault : TextTokens → PatternTree → Option ParseFault
-size_fault words tree =
+abbrev pub size_fault : (ℕ → ℕ) → Words → PatternTree → Option ParseFault
+size_fault at words tree =
     option_or
-    (option_map (λ place. TooManyNames (offset_of words place)) (position is_past words.tokens))
+    (option_map (λ place. TooManyNames (at place)) (position is_past words))
     (if nat_lt NODES_MAX (node_count tree)
     then Some (TooLarge (min (node_count tree) COUNT_MAX)) else None)
 
--- What becomes of words that spell the expression.
-abbrev pub IsOutcomeOfTree : TextTokens → PatternTree → Outcome → Type 0
-IsOutcomeOfTree words tree outcome =
-    ((place : ℕ) × IsFirstEmpty words.tokens place
-    × (outcome ≡ refused (EmptyInterval (offset_of words place))))
-    ⊎ (((place : ℕ) → HasEmptyAt words.tokens place → ⊥)
-    × MatchOption (size_fault words tree) (outcome ≡ spelt tree words.names)
+-- What becomes of words that spell the expression: the first empty interval is refused.
+abbrev pub IsOutcomeOfTree : (ℕ → ℕ) → Words → Vocabulary → PatternTree → Outcome → Type 0
+IsOutcomeOfTree at words names tree outcome =
+    ((place : ℕ) × HasEmptyAt words place × ((n : ℕ) → n < place → HasEmptyAt words n → ⊥)
+    × (outcome ≡ refused (EmptyInterval (at place))))
+    ⊎ (((place : ℕ) → HasEmptyAt words place → ⊥)
+    × MatchOption (size_fault at words tree) (outcome ≡ spelt tree names)
     (λ fault. outcome ≡ refused fault))
 
 -- What becomes of words within the limits on numbers and brackets.
-abbrev pub IsOutcomeOfTokens : TextTokens → Outcome → Type 0
-IsOutcomeOfTokens words outcome =
-    ((place : ℕ) × IsSyntaxFaultAt words.tokens place
-    × (outcome ≡ refused (Syntax (offset_of words place))))
-    ⊎ ((tree : PatternTree) × Spells expr words.tokens tree × IsOutcomeOfTree words tree outcome)
-
--- What becomes of a text of these raw tokens, up to the first byte at which none begins.
-abbrev pub IsOutcomeOf : ℕ → List ℕ → List RawTokenAt → Option ℕ → Outcome → Type 0
-IsOutcomeOf scale text raw_tokens bad outcome =
-    MatchOption (option_or (fault_of_bytes text bad)
-    (limit_fault (text_tokens_among scale text raw_tokens)))
-    (IsOutcomeOfTokens (text_tokens_among scale text raw_tokens) outcome)
-    (λ fault. outcome ≡ refused fault)
+abbrev pub IsOutcomeOfWords : (ℕ → ℕ) → Words → Vocabulary → Outcome → Type 0
+IsOutcomeOfWords at words names outcome =
+    ((place : ℕ) × IsSyntaxFaultAt words place × (outcome ≡ refused (Syntax (at place))))
+    ⊎ ((tree : PatternTree) × Spells expr words tree
+    × IsOutcomeOfTree at words names tree outcome)
 
 -- The text has this outcome at the scale. It has exactly one, and want of memory aside it is what
 -- `parse` answers.
 pub record IsOutcome (scale : ℕ) (text : List ℕ) (outcome : Outcome) : Type 0 where
-  pub raw_tokens : List RawTokenAt
+  pub placed : List (ℕ × Word (List ℕ))
   pub bad : Option ℕ
-  pub are : AreTokens 0 text raw_tokens bad
-  pub is : IsOutcomeOf scale text raw_tokens bad outcome
+  pub are : AreWords 0 text placed bad
+  pub is : MatchOption
+      (limit_fault text bad (offset_of text placed) (numbered_words scale placed))
+      (IsOutcomeOfWords (offset_of text placed) (numbered_words scale placed) (names_among placed)
+      outcome) (λ fault. outcome ≡ refused fault)

@@ -3,9 +3,10 @@ use Rattle.std.specs.Prelude.{◌≡◌, ℕ, Option, None, List}
 use Rattle.tre_trace.specs.Reading.{Vocabulary}
 use Rattle.tre_syntax.specs.PatternTree.{PatternTree}
 use Rattle.tre_parse.specs.declared.fault.ParseFault.{ParseFault}
-use Rattle.tre_parse.specs.Grammar.{expr, Spells}
+use Rattle.tre_parse.specs.TokenGrammar.{expr, Spells}
 use Rattle.tre_parse.specs.Scanned.{raw_tokens_of, bad_byte, tokens_of, names_of}
-use Rattle.tre_parse.specs.Outcome.{Outcome, TextTokens, text_tokens_among, fault_of_bytes, IsOutcomeOf}
+use Rattle.tre_parse.specs.Outcome.{Outcome}
+use Rattle.tre_parse.specs.TokenOutcome.{TextTokens, text_tokens_among, fault_of_bytes, IsOutcomeOf}
 
 pub record IsScannedSpelling (scale : ℕ) (text : List ℕ) (tree : PatternTree) (names : Vocabulary)
     : Type 0 where

@@ -4,7 +4,7 @@ use Rattle.std.specs.Prelude.{◌≡◌, List, ◌∷◌, ◌++◌}
 use Rattle.tre_state.specs.StateTree.{StateTree}
 use Rattle.tre_syntax.specs.PatternTree.{PatternTree}
 use Rattle.tre_parse.specs.declared.token.Token.{Token}
-use Rattle.tre_parse.specs.Grammar.{state, neg, SpellsState, expr, post, Spells}
+use Rattle.tre_parse.specs.TokenGrammar.{state, neg, SpellsState, expr, post, Spells}
 
 -- Three operands with these signs between them spell this and nothing else, whatever each of them
 -- is.

@@ -4,9 +4,9 @@ use Rattle.std.specs.Option.{option_or}
 use Rattle.tre_zone.specs.Interval.{IntervalEnds}
 use Rattle.tre_parse.specs.declared.token.Token.{Token}
 use Rattle.tre_parse.specs.declared.token.Token.TheVariants.{Percent}
-use Rattle.tre_parse.specs.Grammar.{SpellsInterval}
+use Rattle.tre_parse.specs.TokenGrammar.{SpellsInterval}
 use Rattle.tre_parse.specs.Parts.{IsFineInterval}
-use Rattle.tre_parse.specs.Outcome.{HasEmptyAt}
+use Rattle.tre_parse.specs.TokenOutcome.{HasEmptyAt}
 
 -- An interval with these ends stands at a place of the tokens, right after a `%`.
 pub record IsIntervalAt (tokens : List Token) (place : ℕ) (ends : IntervalEnds) : Type 0 where

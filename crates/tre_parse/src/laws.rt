@@ -1,13 +1,13 @@
 //! Laws of the grammar, each as a function whose contract it is.
-ghost use Rattle.std.specs.Prelude.{◌≡◌, ℕ, ◌+◌, ◌≤◌, Option, MatchOption, take, unwrap_or, true, Some, None, List, [], ◌∷◌, ◌++◌, length, ◌↔◌};
+ghost use Rattle.std.specs.Prelude.{◌≡◌, ℕ, ◌+◌, ◌≤◌, Option, MatchOption, take, unwrap_or, true, Some, None, List, [], ◌∷◌, ◌++◌, length, map, ◌↔◌};
 ghost use Rattle.std.specs.Option.{option_map};
 ghost use Rattle.tre_state.specs.declared.names.TheConstants.{NAMES_MAX};
 ghost use Rattle.tre_parse.specs.declared.limits.TheConstants.{DEPTH_MAX};
-ghost use Rattle.tre_state.specs.StateTree.{conjunction, disjunction};
+ghost use Rattle.tre_state.specs.StateTree.{StateTree, conjunction, disjunction};
 ghost use Rattle.tre_trace.specs.Reading.{Vocabulary};
 ghost use Rattle.tre_syntax.specs.PatternTree.{PatternTree, sequence, alternation, intersection};
 ghost use Rattle.tre_parse.specs.declared.token.Token.TheVariants.{Semicolon, Bar, DoubleBar, Ampersand, DoubleAmpersand};
-ghost use Rattle.tre_parse.specs.Grammar.{StateRule, SpellsState, Rule, Spells};
+ghost use Rattle.tre_parse.specs.TokenGrammar.{StateRule, SpellsState, Rule, Spells};
 ghost use Rattle.tre_parse.specs.Begins.{BeginsState, Begins, IsCompletable};
 ghost use Rattle.tre_parse.specs.Depth.{open_from, IsDeepAt};
 ghost use Rattle.tre_parse.specs.Strength.{Groups, StateGroups};
@@ -16,17 +16,21 @@ ghost use Rattle.tre_state.specs.Name.{starts_name, continues_name};
 ghost use Rattle.tre_parse.specs.Ends.{bytes_in, EndsRun, EndsNumber};
 ghost use Rattle.tre_parse.specs.Past.{kind_after, UsesFew, IsOneTooMany};
 ghost use Rattle.tre_parse.specs.Lexeme.{sign_lexeme, lexeme_of};
-ghost use Rattle.tre_parse.specs.Written.{is_blank, AreTokens};
+ghost use Rattle.tre_parse.specs.Written.{is_blank};
+ghost use Rattle.tre_parse.specs.Words.{AreWords, numbered_words, names_among};
+ghost use Rattle.tre_parse.specs.Grammar.{SpellsState as WordsSpellState, Spells as WordsSpell};
+ghost use Rattle.tre_parse.specs.TokenWords.{WordAt, word_of, words_of, rule_word, state_rule_word};
 ghost use Rattle.tre_parse.specs.Signs.{IsSign, TakesSign};
 ghost use Rattle.tre_parse.specs.declared.lexeme.Lexeme.TheVariants.{Sign};
 ghost use Rattle.tre_state.specs.Names.{place_of};
 ghost use Rattle.tre_parse.specs.Numbering.{past_of, HasTokenAt, IsNumberedByUse};
 ghost use Rattle.tre_parse.specs.Tokens.{RawTokenAt, name};
-ghost use Rattle.tre_parse.specs.Scanned.{raw_tokens_from, raw_tokens_of, bad_byte, tokens_of, names_of};
+ghost use Rattle.tre_parse.specs.Scanned.{raw_tokens_of, bad_byte, tokens_of, names_of};
 ghost use Rattle.tre_parse.specs.Known.{names_of_kind, numbered};
 ghost use Rattle.tre_parse.specs.Blanks.{counted_on, SaysAs};
 ghost use Rattle.tre_parse.specs.declared.token.Token.{Token};
-ghost use Rattle.tre_parse.specs.Outcome.{deep_place, IsSpelling, Outcome, spelt, IsOutcome};
+ghost use Rattle.tre_parse.specs.Outcome.{IsSpelling, Outcome, spelt, IsOutcome};
+ghost use Rattle.tre_parse.specs.TokenOutcome.{deep_place};
 ghost use Rattle.tre_parse.specs.ScannedOutcome.{text_tokens_of};
 
 /// A text spells at most one pattern at a scale.
@@ -48,12 +52,25 @@ pub fn longest_sign()
         sign_lexeme bytes ≡ Sign token len → IsSign (take len bytes) token }
 {}
 
-/// The raw tokens of a text, by what writes them, are those that are scanned, and no others.
+/// The words of a text are those of the tokens that are scanned, each the longest that is written
+/// at its place, and no others.
 pub fn longest_token()
-    ensures one { (at : ℕ) (bytes : List ℕ) (tokens : List RawTokenAt) (bad : Option ℕ) →
-        AreTokens at bytes tokens bad →
-        raw_tokens_from 0 at bytes ≡ record { raw_tokens = tokens; bad = bad } }
-    ensures some { (text : List ℕ) → AreTokens 0 text (raw_tokens_of text) (bad_byte text) }
+    ensures one { (text : List ℕ) (words : List WordAt) (bad : Option ℕ) →
+        AreWords 0 text words bad → (words ≡ words_of text) × (bad ≡ bad_byte text) }
+    ensures some { (text : List ℕ) → AreWords 0 text (words_of text) (bad_byte text) }
+{}
+
+/// What the other laws say of the tokens of a text is so of its words: they have the same numbers
+/// and the same names, and tokens spell what their words do.
+pub fn tokens_and_words()
+    ensures numbers { (scale : ℕ) (text : List ℕ) →
+        numbered_words scale (words_of text) ≡ map word_of (tokens_of scale text) }
+    ensures names { (text : List ℕ) → names_among (words_of text) ≡ names_of text }
+    ensures pattern { (rule : Rule) (tokens : List Token) (tree : PatternTree) →
+        Spells rule tokens tree ↔ WordsSpell (rule_word rule) (map word_of tokens) tree }
+    ensures state { (rule : StateRule) (tokens : List Token) (tree : StateTree) →
+        SpellsState rule tokens tree
+        ↔ WordsSpellState (state_rule_word rule) (map word_of tokens) tree }
 {}
 
 /// A word has as many bytes as can stand in a name, and a number as many digits as there are, and

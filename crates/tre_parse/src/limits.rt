@@ -1,6 +1,6 @@
 ghost use Rattle.std.specs.Prelude.{◌≡◌, ◌≤◌, position};
 ghost use Rattle.tre_parse.specs.Front.{tokens_in};
-ghost use Rattle.tre_parse.specs.Outcome.{is_big, is_past, open_after, deep_place};
+ghost use Rattle.tre_parse.specs.TokenOutcome.{is_big, is_past, open_after, deep_place};
 
 use crate::scan::PAST;
 use crate::token::{Token, TokenAt};

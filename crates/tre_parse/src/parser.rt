@@ -7,7 +7,8 @@ ghost use Rattle.tre_parse.specs.Reader.{PatternTask};
 ghost use Rattle.tre_parse.specs.Reading.{Reads};
 ghost use Rattle.tre_parse.specs.Unkept.{FindsUpTo};
 ghost use Rattle.tre_parse.specs.Numbering.{IsNumberedByUse};
-ghost use Rattle.tre_parse.specs.Outcome.{IsSpelling, Outcome, limit_fault, IsOutcome};
+ghost use Rattle.tre_parse.specs.Outcome.{IsSpelling, Outcome, IsOutcome};
+ghost use Rattle.tre_parse.specs.TokenOutcome.{limit_fault};
 ghost use Rattle.tre_parse.specs.Answers.{text_tokens_in, IsFaultOf, IsOutcomeWithin, Answers};
 
 use crate::connective::Join;

@@ -9,3 +9,4 @@ pub mod Outcomes
 pub mod LineOrder
 pub mod Rising
 pub mod Lines
+pub mod Shown

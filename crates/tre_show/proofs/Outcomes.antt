@@ -17,11 +17,12 @@ use Rattle.tre_parse.specs.declared.before.Before.TheVariants.{Other}
 use Rattle.tre_parse.specs.declared.token.Token.TheVariants.{Number, Percent}
 use Rattle.tre_parse.specs.declared.fault.ParseFault.{ParseFault}
 use Rattle.tre_parse.specs.declared.fault.ParseFault.TheVariants.{TooLong, BadByte, Number as TooBig, TooDeep, TooManyNames, TooLarge}
-use Rattle.tre_parse.specs.Grammar.{expr, Spells}
+use Rattle.tre_parse.specs.TokenGrammar.{expr, Spells}
 use Rattle.tre_parse.specs.Scanned.{raw_tokens_from, tokens_of, bad_byte}
 use Rattle.tre_parse.specs.Known.{before_sign, nothing_known}
 use Rattle.tre_parse.specs.Unkept.{NoneEmpty}
-use Rattle.tre_parse.specs.Outcome.{IsSpelling, Outcome, spelt, refused, TextTokens, is_big, is_past, deep_place, offset_of, size_fault, IsOutcomeOfTokens, IsOutcome}
+use Rattle.tre_parse.specs.Outcome.{IsSpelling, Outcome, spelt, refused, IsOutcome}
+use Rattle.tre_parse.specs.TokenOutcome.{TextTokens, is_big, is_past, deep_place, offset_of, size_fault, IsOutcomeOfTokens}
 use Rattle.tre_parse.specs.ScannedOutcome.{text_tokens_of}
 use Rattle.tre_parse.proofs.Agreement.{scanned_outcome, outcome_meant, spelling_meant}
 use Rattle.tre_parse.proofs.Named.{names_run, tokens_run, past_run}

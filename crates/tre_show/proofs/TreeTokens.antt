@@ -14,9 +14,9 @@ use Rattle.tre_syntax.specs.PatternTree.{Atom, empty, literal, rise, fall, event
 use Rattle.tre_parse.specs.declared.token.Token.{Token}
 use Rattle.tre_parse.specs.declared.token.Token.TheVariants.{Name, EventName, Number, LeftParen, RightParen, LeftBracket, RightBracket, LeftBrace, RightBrace, Comma, Semicolon, Bar, DoubleBar, Ampersand, DoubleAmpersand, Bang, Star, Plus, Question, Percent, Begins, Ends, Eps, Rise, Fall, Inf, True, Event, EndOfText}
 use Rattle.tre_parse.specs.declared.sign.TheConstants.{LEFT_PAREN, RIGHT_PAREN, LEFT_BRACKET, RIGHT_BRACKET, LEFT_BRACE, RIGHT_BRACE, COMMA, SEMICOLON, BAR, DOUBLE_BAR, AMPERSAND, DOUBLE_AMPERSAND, BANG, STAR, PLUS, QUESTION, PERCENT, BEGINS, ENDS}
-use Rattle.tre_parse.specs.Grammar.{StateRule, SpellsState, lit, state as any_state, conj, neg, lit_name, lit_true, lit_braces, lit_bang, state_conj, state_bars, conj_neg, conj_ampersands, neg_name, neg_true, neg_parens, neg_bang}
-use Rattle.tre_parse.specs.Grammar.{opening, closing, SpellsInterval, with_high, without_high}
-use Rattle.tre_parse.specs.Grammar.{Rule, Spells, expr, meet, seq, post, primary, expr_meet, expr_bar, meet_seq, meet_ampersand, seq_post, seq_semicolon, post_primary, post_star, post_percent, primary_eps, primary_parens, primary_rise, primary_fall, primary_event, primary_lit}
+use Rattle.tre_parse.specs.TokenGrammar.{StateRule, SpellsState, lit, state as any_state, conj, neg, lit_name, lit_true, lit_braces, lit_bang, state_conj, state_bars, conj_neg, conj_ampersands, neg_name, neg_true, neg_parens, neg_bang}
+use Rattle.tre_parse.specs.TokenGrammar.{opening, closing, SpellsInterval, with_high, without_high}
+use Rattle.tre_parse.specs.TokenGrammar.{Rule, Spells, expr, meet, seq, post, primary, expr_meet, expr_bar, meet_seq, meet_ampersand, seq_post, seq_semicolon, post_primary, post_star, post_percent, primary_eps, primary_parens, primary_rise, primary_fall, primary_event, primary_lit}
 use Rattle.tre_parse.specs.declared.before.Before.{Before}
 use Rattle.tre_parse.specs.declared.before.Before.TheVariants.{Other}
 use Rattle.tre_parse.specs.Numbering.{numbers_at, numbers_in}

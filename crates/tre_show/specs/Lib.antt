@@ -1,6 +1,7 @@
 -- What a reader must believe
 pub mod Interval
 pub mod Line
+pub mod Shown
 pub mod Order
 pub mod StateText
 pub mod PatternText

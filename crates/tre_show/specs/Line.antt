@@ -7,7 +7,6 @@ use Rattle.tre_zone.specs.Zone.{ZoneHolds}
 use Rattle.tre_zone.specs.declared.zone_bounds.ZoneBounds.{ZoneBounds}
 use Rattle.tre_show.specs.Interval.{interval_text}
 
--- Three intervals on a line.
 abbrev pub line_text : ℕ → IntervalEnds → IntervalEnds → IntervalEnds → List ℕ
 line_text scale begin end duration =
     interval_text scale begin ++ codes " " ++ interval_text scale end ++ codes " "
@@ -34,7 +33,6 @@ pub record TellsZone (scale : ℕ) (line : List ℕ) (zone : ZoneBounds) : Type 
   pub text : line ≡ line_text scale begin end duration
   pub exact : (a b n : ℕ) → 0 < n → ZoneHolds zone a b n ↔ LieWithin begin end duration a b n
 
--- The lines of the zones, in their order.
 unfoldable pub lines_of : ℕ → List ZoneBounds → List ℕ
 lines_of scale zones = flat_map (line_of scale) zones
 

@@ -35,6 +35,5 @@ operand_text scale least names (repetition e) = operand_text scale POSTFIX names
 operand_text scale least names (restriction e ends) =
     operand_text scale POSTFIX names e ++ codes " % " ++ interval_text scale ends
 
--- The text of an expression.
 abbrev pub expression_text : ℕ → Vocabulary → PatternTree → List ℕ
 expression_text scale names tree = operand_text scale ALTERNATION names tree

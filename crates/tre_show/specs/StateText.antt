@@ -27,7 +27,6 @@ state_operand_text least names (disjunction s t) =
     (state_operand_text DISJUNCTION names s ++ codes " || "
     ++ state_operand_text CONJUNCTION names t)
 
--- The text of a state.
 abbrev pub state_text : List (List ℕ) → StateTree → List ℕ
 state_text names state = state_operand_text DISJUNCTION names state
 

@@ -1,8 +1,9 @@
 //! Laws of the printed texts, each as a function whose contract it is.
-ghost use Rattle.std.specs.Prelude.{◌≡◌, ◌<◌, ◌≤◌, ◌^◌, ℕ, List, ◌∷◌, ◌++◌, codes};
+ghost use Rattle.std.specs.Prelude.{◌≡◌, ◌<◌, ◌≤◌, ◌^◌, ◌↔◌, ℕ, List, ◌∷◌, ◌++◌, codes};
 ghost use Rattle.tre_pairs.specs.declared.TheConstants.{TIME_MAX};
 ghost use Rattle.tre_zone.specs.declared.zone_bounds.ZoneBounds.{ZoneBounds};
-ghost use Rattle.tre_zone.specs.Zone.{IsCanonical};
+ghost use Rattle.tre_zone.specs.Zone.{IsCanonical, ZoneHolds};
+ghost use Rattle.tre_show.specs.Shown.{ShownHolds, IsTightShown, shown};
 ghost use Rattle.tre_zone.specs.ZoneList.{AreCanonical};
 ghost use Rattle.std.specs.Cmp.Lexicographic.{slice_cmp};
 ghost use Rattle.std.specs.Ordering.{int_cmp};
@@ -17,6 +18,14 @@ use tre_decimal::one_number;
 pub fn line_tells_zone()
     ensures { (scale : ℕ) (zone : ZoneBounds) → IsCanonical zone →
         TellsZone scale (line_of scale zone) zone }
+{}
+
+/// A canonical zone holds exactly the pairs that its three printed ranges hold, and each of these
+/// is the smallest that the pairs allow.
+pub fn shown_zones()
+    ensures holds { (zone : ZoneBounds) → IsCanonical zone → (a b n : ℕ) → 0 < n →
+        ZoneHolds zone a b n ↔ ShownHolds (shown zone) a b n }
+    ensures tight { (zone : ZoneBounds) → IsCanonical zone → IsTightShown (shown zone) }
 {}
 
 /// A printed text is that of one list of zones, and of one end, at each scale. The end of a trace

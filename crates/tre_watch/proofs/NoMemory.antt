@@ -4,7 +4,8 @@ use Rattle.std.specs.Prelude.{MatchOption, position, if◌then◌else◌}
 use Rattle.std.specs.Char.{is_newline}
 use Rattle.std.specs.List.{slice_split}
 use Rattle.std.specs.Option.{option_map, option_or}
-use Rattle.tre_parse.specs.Outcome.{Outcome as Parsed, spelt, refused, TextTokens, offset_of, is_big, is_past, deep_place, limit_fault, size_fault, IsOutcomeOfTree, IsOutcomeOfTokens, IsOutcome as ParsesTo}
+use Rattle.tre_parse.specs.Outcome.{Outcome as Parsed, spelt, refused, IsOutcome as ParsesTo}
+use Rattle.tre_parse.specs.TokenOutcome.{TextTokens, offset_of, is_big, is_past, deep_place, limit_fault, size_fault, IsOutcomeOfTree, IsOutcomeOfTokens}
 use Rattle.tre_parse.specs.ScannedOutcome.{text_tokens_of, byte_fault}
 use Rattle.tre_parse.specs.Scanned.{bad_byte}
 use Rattle.tre_parse.proofs.Agreement.{scanned_outcome}

@@ -5,7 +5,7 @@ use Rattle.tre_parse.specs.Joins.{edged_literal}
 use Rattle.tre_parse.specs.Reader.{got, give, accept, state_operand, unsigned, run, read, read_state, read_pattern}
 use Rattle.tre_parse.proofs.Equations.{literal_read, literal_ends}
 use Rattle.tre_parse.proofs.Steps.{goes_first, goes_turned, stops_first}
-use Rattle.tre_parse.specs.Grammar.{lit}
+use Rattle.tre_parse.specs.TokenGrammar.{lit}
 use Rattle.tre_parse.proofs.Unkept.{up_to_accept, up_to_accepted, up_to_state}
 use Rattle.tre_parse.proofs.expression.literal.Goals as goal
 

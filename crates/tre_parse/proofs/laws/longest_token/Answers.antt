@@ -1,5 +1,5 @@
-use Rattle.tre_parse.proofs.Meant.{one_list, some_tokens}
+use Rattle.tre_parse.proofs.Agreement.{one_list_of_words, some_words}
 use Rattle.tre_parse.proofs.laws.longest_token.Goals as goal
 
 pub returns : goal.returns
-returns c = record { one = one_list; some = some_tokens }
+returns c = record { one = one_list_of_words; some = some_words }

@@ -1,7 +1,7 @@
 use Rattle.std.proofs.Common.{◌≡◌, ◌≤◌, drop}
 use Rattle.tre_parse.specs.declared.limits.TheConstants.{DEPTH_MAX}
 use Rattle.tre_parse.specs.Front.{tokens_in}
-use Rattle.tre_parse.specs.Outcome.{deep_place}
+use Rattle.tre_parse.specs.TokenOutcome.{deep_place}
 use Rattle.tre_parse.proofs.limits.first_deep.Given as goal
 
 abbrev pub invariant-loop-place : goal.invariant-loop-place

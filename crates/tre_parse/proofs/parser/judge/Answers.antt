@@ -1,7 +1,7 @@
 use Rattle.std.proofs.Common.{length, ◌-◌, refl, sym, ◌∙◌, ap, arith, inr}
 use Rattle.std.specs.Prelude.{position}
 use Rattle.tre_parse.specs.Front.{tokens_in}
-use Rattle.tre_parse.specs.Outcome.{offset_of, is_past}
+use Rattle.tre_parse.specs.TokenOutcome.{offset_of, is_past}
 use Rattle.tre_parse.specs.Scan.{vocabulary_in}
 use Rattle.tre_parse.specs.Answers.{text_tokens_in}
 use Rattle.tre_parse.proofs.Judging.{is_whole, none_found, first_found, empty_outcome, past_outcome, large_outcome, is_buildable, expr_is, expr_some, pattern_some, spelt_outcome}

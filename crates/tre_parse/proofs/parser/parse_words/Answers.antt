@@ -3,7 +3,7 @@ use Rattle.std.specs.Prelude.{position}
 use Rattle.tre_parse.specs.declared.token.Token.{Token}
 use Rattle.tre_parse.specs.Operands.{Represents}
 use Rattle.tre_parse.specs.Front.{tokens_in}
-use Rattle.tre_parse.specs.Outcome.{is_big, deep_place}
+use Rattle.tre_parse.specs.TokenOutcome.{is_big, deep_place}
 use Rattle.tre_parse.specs.Answers.{text_tokens_in}
 use Rattle.tre_parse.specs.Reader.{got}
 use Rattle.tre_parse.specs.Reading.{Goes, Stops}
