@@ -19,7 +19,6 @@ use Rattle.tre_answer.specs.Recorded.{recording_for, watched_of}
 use Rattle.tre_answer.specs.Request.{Request}
 use Rattle.tre_answer.specs.Wanted.{IsOfflineAnswer, AreTooMany}
 
--- The modes in which the input is read.
 abbrev pub ReadsInput : Mode → Type 0
 ReadsInput Show = ⊥
 ReadsInput (Generate count) = ⊥

@@ -11,7 +11,6 @@ use Rattle.tre_words.specs.declared.job.Format.{Format}
 use Rattle.tre_words.specs.declared.job.Format.TheVariants.{Text, Vcd, Csv}
 use Rattle.tre_answer.specs.Request.{Request}
 
--- the names of the first pattern
 abbrev pub first_names : List Sought → Vocabulary
 first_names [] = no_names
 first_names (pattern ∷ patterns) = pattern.names
@@ -44,6 +43,5 @@ watched_of request = record {
   scale = request.job.scale;
 }
 
--- What the bytes of an input come to for a request.
 abbrev pub outcome_for : Request → List ℕ → Outcome
 outcome_for request bytes = outcome_of (recording_for request) request.job.max_bytes bytes

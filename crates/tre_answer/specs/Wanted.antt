@@ -35,7 +35,6 @@ pub record AreZonesOf (normal : Bool) (wanted : Pairs) (zones : List ZoneBounds)
   pub rising : IsRising zones
   pub strips : normal ≡ true → AreStrips wanted zones
 
--- The zones are right for an input of these bytes.
 pub record AreZonesFor (request : Request) (bytes : List ℕ) (zones : List ZoneBounds) : Type 0
   where
     pub traces : List Timeline

@@ -22,7 +22,6 @@ abbrev pub recording_within : (Bool → List ℕ → Recording) → ℕ → List
 recording_within recording limit bytes =
     recording (nat_le (length bytes) limit) (take limit bytes)
 
--- What they come to.
 unfoldable pub outcome_of : (Bool → List ℕ → Recording) → ℕ → List ℕ → Outcome
 outcome_of recording limit bytes =
     outcome_from (nat_le (length bytes) limit) (recording_within recording limit bytes).fault

@@ -1,5 +1,5 @@
 -- What was read of an input.
-use Rattle.std.specs.Prelude.{◌≡◌, ℕ, ◌+◌, ◌<◌, ◌≤◌, Bool, false, List, [], ◌++◌, length, take, Option, IfSome, IsTrue, IsErrOf, Result, Ok, Err}
+use Rattle.std.specs.Prelude.{◌≡◌, ℕ, ◌+◌, ◌<◌, ◌≤◌, false, List, [], ◌++◌, length, take, Option, IfSome, IsTrue, IsErrOf, Result, Ok, Err}
 use Rattle.std.specs.Io.KnownBytes.{Consumes, IsAtEnd}
 use Rattle.tre_io.specs.Faults.{counted}
 use Rattle.tre_io.specs.Told.{SourceTold}
@@ -15,7 +15,6 @@ pub record InputTold : Type 0 where
 abbrev pub input_told : SourceTold → SourceTold → InputTold
 input_told before now = record { before = before; now = now }
 
--- no read failed
 abbrev pub AllReadsGood : InputTold → Type 0
 AllReadsGood input = input.now.faults ≡ input.before.faults
 

@@ -11,7 +11,6 @@ use Rattle.tre_feed.specs.declared.fault.Fault.{Fault}
 use Rattle.tre_feed.specs.declared.fault.Fault.TheVariants.{Trace, TooLong, Read, Memory}
 use Rattle.tre_feed.specs.declared.input.Input.{Input}
 
--- The trace that a recording is for these names.
 abbrev pub trace_for : Recording → Vocabulary → Timeline
 trace_for said asked =
     timeline_of (segments_for asked said.stretches) (events_for asked said.last)

@@ -3,8 +3,7 @@ use Rattle.std.specs.Prelude.{ℕ, zero, suc, ◌+◌, ◌%◌, List, [], ◌∷
 use Rattle.tre_trace.specs.Segments.{plain_segment}
 use Rattle.tre_trace.specs.declared.segment.Segment.{Segment}
 
--- The segment of a number: one, two or three ticks long, and proposition 0 is true on every other
--- one. No event happens.
+-- One, two or three ticks long, and proposition 0 is true on every other one.
 abbrev pub made_segment : ℕ → Segment
 made_segment number = plain_segment (1 + number % 3) (number % 2)
 

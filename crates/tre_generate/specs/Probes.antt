@@ -4,8 +4,7 @@ use Rattle.tre_pairs.specs.Pairs.{Pairs}
 use Rattle.tre_trace.specs.declared.segment.Segment.{Segment}
 use Rattle.tre_trace.specs.Trace.{end_of}
 
--- The probe of a segment, by its place from 0: from where the segment begins to one and a half
--- ticks behind its end, both in half ticks.
+-- The probe of a segment: from its begin to one and a half ticks behind its end, in half ticks.
 abbrev pub probe_begin : List Segment → ℕ → ℕ
 probe_begin segments place = 2 * end_of 0 (take place segments)
 

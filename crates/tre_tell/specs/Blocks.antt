@@ -16,7 +16,6 @@ pub record AreAccounts (patterns : List Sought) (traces : List Timeline)
   pub over_traces : map (λ account. account.trace) accounts ≡ traces
   pub told : All IsTranscript accounts
 
--- the lines of zones at a scale, each behind the label
 abbrev pub lines_with : ℕ → List ℕ → List ZoneBounds → List ℕ
 lines_with scale label zones = flat_map (λ zone. label ++ line_of scale zone) zones
 
@@ -33,7 +32,6 @@ blocks_from scale accounts i start (segment ∷ segments) =
     block_of scale accounts i (start + segment.len)
     ++ blocks_from scale accounts (suc i) (start + segment.len) segments
 
--- The text of the blocks of all segments.
 unfoldable pub blocks_text : ℕ → List Account → List Segment → List ℕ
 blocks_text scale accounts segments = blocks_from scale accounts 0 0 segments
 

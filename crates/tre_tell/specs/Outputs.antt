@@ -11,7 +11,6 @@ pub record OutputTold : Type 0 where
 abbrev pub output_told : SinkTold → SinkTold → OutputTold
 output_told before now = record { before = before; now = now }
 
--- no write failed
 abbrev pub AllWritesGood : OutputTold → Type 0
 AllWritesGood output = output.now.faults ≡ output.before.faults
 

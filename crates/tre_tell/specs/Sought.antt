@@ -11,7 +11,6 @@ pub record Sought : Type 0 where
   pub tree : PatternTree
   pub names : Vocabulary
 
--- the names of each of the patterns
 abbrev pub all_names : List Sought → List Vocabulary
 all_names patterns = map (λ pattern. pattern.names) patterns
 

@@ -23,7 +23,6 @@ watched_by labels patterns recording limit scale = record {
   scale = scale;
 }
 
--- the trace of these stretches for each of the patterns
 abbrev pub fronts : List Sought → List Stretch → List Timeline
 fronts patterns stretches =
     map (λ pattern. quiet (segments_for pattern.names stretches)) patterns

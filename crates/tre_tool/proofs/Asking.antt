@@ -5,9 +5,9 @@ use Rattle.tre_answer.specs.Ends.{ReadsInput}
 use Rattle.tre_feed.specs.Input.{AllReadsGood, InputTold}
 use Rattle.tre_tell.specs.Sought.{Sought}
 use Rattle.tre_tool.specs.Checks.{ChecksWereRead, SayPatterns}
-use Rattle.tre_tool.specs.Parts.{RefusesDefinitions, StopsAsking, StopsChecks}
+use Rattle.tre_tool.specs.Parts.{IsRefusalOfFile, RefusesDefinitions, StopsAsking, StopsChecks}
 use Rattle.tre_tool.proofs.Definings.{IsRefusalOfWatch-definitions}
-use Rattle.tre_tool.specs.Request.{Spell, texts_with, ArePatterns, IsRefusalOf, IsRefusalOfFile, IsRefusalOfWatch, IsRefusalIn}
+use Rattle.tre_tool.specs.Request.{Spell, texts_with, ArePatterns, IsRefusalOf, IsRefusalOfWatch, IsRefusalIn}
 use Rattle.tre_tool.specs.declared.status.Status.{Status}
 use Rattle.tre_tool.specs.declared.status.Status.TheVariants.{Done, Usage, Expression, Minus, Definitions, Watch as WatchStatus, Trace, InputTooLong, TooManyZones, ReadFault, WriteFault, Memory}
 use Rattle.tre_watch.specs.Outcome.{Outcome}

@@ -24,8 +24,7 @@ use Rattle.tre_watch.specs.declared.fault.WatchFault.TheVariants.{TooLarge, BadL
 use Rattle.tre_watch.specs.declared.reader.TheConstants.{FILE_MAX}
 use Rattle.tre_tool.specs.Checks.{ChecksWereRead, labelled}
 use Rattle.tre_tool.specs.Status.{fault_status}
-use Rattle.tre_tool.specs.Parts.{StopsChecks}
-use Rattle.tre_tool.specs.Request.{IsRefusalOfFile}
+use Rattle.tre_tool.specs.Parts.{IsRefusalOfFile, StopsChecks}
 use Rattle.tre_tool.specs.Status.{watch_status}
 use Rattle.tre_tool.specs.declared.status.Status.TheVariants.{Watch, ReadFault, Memory}
 

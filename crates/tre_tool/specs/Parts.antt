@@ -14,12 +14,13 @@ use Rattle.tre_parse.specs.declared.fault.ParseFault.TheVariants.{TooLong, BadBy
 use Rattle.tre_syntax.specs.Pattern.{pattern_tree, names_of}
 use Rattle.tre_syntax.specs.declared.pattern.Pattern.{Pattern}
 use Rattle.tre_tell.specs.Sought.{Sought}
+use Rattle.tre_watch.specs.Outcome.{Outcome, faulty}
 use Rattle.tre_words.specs.declared.job.Job.{Job}
 use Rattle.tre_words.specs.declared.job.Mode.TheVariants.{Watch}
 use Rattle.tre_tool.specs.Checks.{ChecksWereRead}
-use Rattle.tre_tool.specs.Request.{AreDefinitions, ArePatterns, AreRefusedIn, IsRefusalIn, IsRefusalOfFile, text_read}
+use Rattle.tre_tool.specs.Request.{AreDefinitions, ArePatterns, AreRefusedIn, IsRefusalIn, text_read}
 use Rattle.tre_tool.specs.declared.status.Status.{Status}
-use Rattle.tre_tool.specs.declared.status.Status.TheVariants.{Done, Definitions, ReadFault, Memory}
+use Rattle.tre_tool.specs.declared.status.Status.TheVariants.{Done, Definitions, Watch as WatchStatus, ReadFault, Memory}
 
 -- how a run ended that went on as `?` does
 abbrev pub status_of : {T : Type 0} → Result T Status → Status
@@ -62,6 +63,11 @@ pub record RefusesDefinitions (job : Job) (status : Status) : Type 0 where
   pub text : List ℕ
   pub given : text_read job.mode job.lets ≡ Some text
   pub refuses : AreRefusedIn job.format (parts_of text) fault
+
+-- The file of checks of a watch at this scale is refused so.
+abbrev pub IsRefusalOfFile : (ℕ → Outcome → Type 0) → ℕ → Status → Type 0
+IsRefusalOfFile Says scale (WatchStatus fault) = Says scale (faulty fault)
+IsRefusalOfFile Says scale refusal = ⊥
 
 -- Why a file of checks of this name says no patterns at the scale.
 pub record StopsChecks (file : List ℕ) (scale : ℕ) (checks : InputTold) (status : Status) : Type 0

@@ -25,7 +25,6 @@ use Rattle.tre_tool.specs.Checks.{SayPatterns}
 use Rattle.tre_tool.specs.declared.status.Status.{Status}
 use Rattle.tre_tool.specs.declared.status.Status.TheVariants.{Expression, Minus, Definitions, Watch as WatchStatus}
 
--- one pattern, without a label
 abbrev pub alone : PatternTree → Vocabulary → List Sought
 alone tree names = record { label = []; tree = tree; names = names } ∷ []
 
@@ -59,7 +58,6 @@ AreDefinedIn Csv parts lets signals = Define parts lets × (signals ≡ [])
 AreDefinedIn Vcd parts lets signals = (lets ≡ []) × DefineSignals parts signals
 AreDefinedIn TextFormat parts lets signals = (lets ≡ []) × (signals ≡ [])
 
--- They are none, for this fault.
 abbrev pub AreRefusedIn : Format → List (List ℕ) → LetFault → Type 0
 AreRefusedIn Csv parts fault = IsRefusedAt parts fault
 AreRefusedIn Vcd parts fault = AreRefused parts fault
@@ -96,16 +94,12 @@ IsRefusalOf job (Definitions fault) =
     AreRefusedDefinitions (Spell job.scale (texts_with job.expr job.minus)) job fault
 IsRefusalOf job refusal = ⊥
 
--- The file of checks of a watch at this scale is refused so.
-abbrev pub IsRefusalOfFile : (ℕ → Outcome → Type 0) → ℕ → Status → Type 0
-IsRefusalOfFile Says scale (WatchStatus fault) = Says scale (faulty fault)
-IsRefusalOfFile Says scale refusal = ⊥
-
 -- A watch is refused so: its file of checks is, or the file isn't and the definitions are.
 abbrev pub IsRefusalOfWatch : (ℕ → Outcome → Type 0) → Job → Status → Type 0
 IsRefusalOfWatch Says job (Definitions fault) =
     AreRefusedDefinitions (SayPatterns Says job.scale) job fault
-IsRefusalOfWatch Says job refusal = IsRefusalOfFile Says job.scale refusal
+IsRefusalOfWatch Says job (WatchStatus fault) = Says job.scale (faulty fault)
+IsRefusalOfWatch Says job refusal = ⊥
 
 -- A job in this mode is. Of a made run nothing is refused.
 abbrev pub IsRefusalIn : Mode → (ℕ → Outcome → Type 0) → Job → Status → Type 0
@@ -134,7 +128,6 @@ pub record IsRefused (Gives : Job → Type 0) (Says : ℕ → Outcome → Type 0
   pub gives : Gives job
   pub refuses : IsRefusalIn job.mode Says job refusal
 
--- They give no job.
 abbrev pub GiveNone : (Job → Type 0) → Type 0
 GiveNone Gives = (job : Job) → Gives job → ⊥
 

@@ -21,7 +21,6 @@ use Rattle.tre_tool.specs.Request.{AsksFor, Asks, IsRefused, GiveNone}
 use Rattle.tre_tool.specs.declared.status.Status.{Status}
 use Rattle.tre_tool.specs.declared.status.Status.TheVariants.{Done, Usage, Expression, Minus, Definitions, Watch as WatchStatus, Trace, InputTooLong, TooManyZones, ReadFault, WriteFault, Memory}
 
--- the job that these words give
 abbrev pub Gives : {Z : Type 0} → List (String Z) → Job → Type 0
 Gives words = GivesJob (map string_bytes words)
 
@@ -31,7 +30,6 @@ IsFrontOf IsName most input =
     IsTrue input.now.opened → IfSome input.before.name IsName × TakesAtMost most input.before.file
     input.now.left
 
--- The modes of a run that reads a file of checks.
 abbrev pub ReadsChecks : Mode → Type 0
 ReadsChecks (Watch file) = Unit {0}
 ReadsChecks mode = ⊥
@@ -104,7 +102,6 @@ EndsAs Gives checks input output Memory = EndsMemory Gives checks input output
 EndsAs Gives checks input output refusal =
     IsRefused Gives (ChecksWereRead checks) refusal × NothingDone input output
 
--- The status is this one, or memory was wanting.
 abbrev pub IsUnlessMemory : Status → Status → Type 0
 IsUnlessMemory wanted status = (status ≡ wanted) ⊎ (status ≡ Memory)
 

@@ -49,7 +49,6 @@ fault_status FaultRead = ReadFault
 fault_status FaultWrite = WriteFault
 fault_status FaultMemory = Memory
 
--- the program's exit status
 abbrev pub code_of : Status → ℕ
 code_of Done = 0
 code_of Usage = 2
@@ -77,7 +76,6 @@ kind_name CutShort = codes "CutShort"
 kind_name Spent = codes "Spent"
 kind_name KindMemory = codes "Memory"
 
--- a number in digits, and the line's end
 abbrev pub number_line : ℕ → List ℕ
 number_line n = decimal n ++ codes "\n"
 
