@@ -12,9 +12,12 @@
 //! ```
 //!
 //! - `montre`: a case begins, with the words of the run; in `'..'` a word may have blanks.
+//! - `word`: a text behind the last of these words.
 //! - `<`: the bytes of the input.
+//! - `again`: those of the case before.
 //! - `checks`: the bytes of the file `f` of checks; where there is no such line, to open it fails.
 //! - `>` and `!`: what the output and standard error are given.
+//! - `ends`, in the place of `>`: what the output ends with.
 //! - `=`: the code with which the run ends, where it isn't 0.
 //! - `file`: the name of the input, where it isn't `-`.
 //! - `reads`, `asks`, `writes`, `tells`: how many bytes a call takes at most, and which call fails
@@ -22,8 +25,13 @@
 //! - `alike`, in the place of all that must come: on so many halves of ticks, the blocks of a run
 //!   with `--online` over the first lines of the input, however many, tell just what the run finds.
 //! - `says`, in the place of all that must come: what a watch of the checks `p0`, `p1` .. and `e0`,
-//!   `e1` .. tells of the input, with reads of 1 to 5 bytes too: each segment as its length and its
+//!   `e1` .. tells of the input, with short reads too: each segment as its length and its
 //!   valuation, with `@` and the events at its begin, and then the events at the end, or the fault.
+//! - `cuts`: with reads of each number of bytes up to this one, that is told too.
+//! - `holds` and `lacks`, in the place of all that must come: the number of a block and a pair of
+//!   times, as `2 0 1.5`, that a zone of the block holds, or none. A run without `--online` has one
+//!   block; behind the last block, in the place of the next, stands what the end completes.
+//! - `times`: a number and one of these lines, which is taken so many times.
 //!
 //! Texts of several lines of one word follow one another as they are. In a text `\n`, `\r`, `\t`
 //! and `\\` are one byte, and so is `\x` with two digits. Behind `#` is a comment.
@@ -35,6 +43,7 @@
 mod alike;
 mod case;
 mod device;
+mod pairs;
 mod running;
 mod says;
 mod text;

@@ -4,6 +4,7 @@ ghost use Rattle.std.specs.Prelude.{◌≡◌, IfOk, false};
 use crate::alike::is_alike;
 use crate::case::Case;
 use crate::device::{Device, SLOW, SOUND, failing};
+use crate::pairs::tells;
 use crate::says::says;
 use std::alloc::{AllocError, Global};
 use std::io;
@@ -30,7 +31,7 @@ pub(crate) fn run_file(
         let (word, rest) = line.split_once(' ').unwrap_or((line, ""));
         if word == "montre" {
             end_case(rt, alloc, &case, &mut count)?;
-            case = Some(Case::new(alloc, rest)?);
+            case = Some(Case::new(alloc, rest, input_of(alloc, case))?);
         } else if !takes(&mut case, alloc, word, rest)? {
             println!(rt; "{name}: no line of a case: {line}")?;
         }
@@ -38,6 +39,13 @@ pub(crate) fn run_file(
     end_case(rt, alloc, &case, &mut count)?;
     println!(rt; "{name}: {} cases, {} differ", count.all, count.differ)?;
     Ok(())
+}
+
+fn input_of(alloc: Global, case: Option<Case>) -> Vec<u8> {
+    match case {
+        Some(case) => case.input,
+        None => Vec::new(alloc),
+    }
 }
 
 // Whether the line is one of the case, or says nothing.
@@ -52,8 +60,23 @@ fn takes(
     }
     match case {
         None => Ok(false),
+        Some(case) if word == "times" => take_often(case, alloc, text),
         Some(case) => case.take(alloc, word, text),
     }
+}
+
+// Takes the line behind a number that many times.
+fn take_often(case: &mut Case, alloc: Global, text: &str) -> Result<bool, AllocError> {
+    let Some((count, line)) = text.split_once(' ') else {
+        return Ok(false);
+    };
+    let (word, rest) = line.split_once(' ').unwrap_or((line, ""));
+    for _ in 0..count.parse::<u32>().unwrap_or(0) {
+        if !case.take(alloc, word, rest)? {
+            return Ok(false);
+        }
+    }
+    Ok(true)
 }
 
 // Runs the case, if there is one, and counts it.
@@ -94,7 +117,16 @@ fn is_told(alloc: Global, case: &Case) -> Result<Option<bool>, AllocError> {
     if let Some(want) = &case.says {
         return Ok(Some(says(alloc, case, want.as_str())?));
     }
-    Ok(None)
+    if case.pairs.is_empty() {
+        return Ok(None);
+    }
+    Ok(Some(tells_pairs(alloc, case, SOUND)? && tells_pairs(alloc, case, SLOW)?))
+}
+
+// Whether the run tells the pairs of the case as they say.
+fn tells_pairs(alloc: Global, case: &Case, reads: Device) -> Result<bool, AllocError> {
+    let ran = run(alloc, &case.words, &case.input, case, reads)?;
+    Ok(tells(&ran, &case.pairs))
 }
 
 // Whether the run comes to what the case says. Where it doesn't, prints what it comes to.
@@ -105,7 +137,7 @@ fn comes_to(
     reads: Device,
 ) -> Result<bool, anyhow::Error> {
     let ran = run(alloc, &case.words, &case.input, case, reads)?;
-    let same = ran.code == case.code && ran.out == case.out && ran.err == case.err;
+    let same = u16::from(ran.code) == case.code && is_out(&ran, case) && ran.err == case.err;
     if !same {
         println!(rt; "montre {:?}", case.words)?;
         println!(rt; "> {:?}", str::from_utf8(&ran.out).unwrap_or_default())?;
@@ -113,6 +145,13 @@ fn comes_to(
         println!(rt; "= {}", ran.code)?;
     }
     Ok(same)
+}
+
+fn is_out(ran: &Ran, case: &Case) -> bool {
+    if case.ends.is_empty() {
+        return ran.out == case.out;
+    }
+    ran.out.ends_with(&case.ends)
 }
 
 /// How a run over memory ended, and what it wrote.

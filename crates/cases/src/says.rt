@@ -8,23 +8,33 @@ use tests_support::zone_of;
 use tre_zone::Zone;
 
 /// How many bytes a read gives.
-const READS: [usize; 5] = [4096, 1, 2, 3, 5];
+const READS: [usize; 7] = [4096, 1, 2, 3, 5, 16, 40];
 
 /// Whether the input says this: each segment as its length and its valuation, with `@` and the
 /// events at its begin, and then `@` and the events at the end, or the fault. The checks `p0`, `p1`
 /// and so on are propositions, and `e0` and so on events.
 pub(crate) fn says(alloc: Global, case: &Case, want: &str) -> Result<bool, AllocError> {
     for most in READS {
-        let reads = Device {
-            most: most.max(1),
-            fails: 0,
-        };
-        let ran = run(alloc, &case.words, &case.input, case, reads)?;
-        if said(alloc, &ran)?.as_str().trim_end() != want {
+        if !says_cut(alloc, case, most, want)? {
+            return Ok(false);
+        }
+    }
+    for most in 1..=case.cuts {
+        if !says_cut(alloc, case, most, want)? {
             return Ok(false);
         }
     }
     Ok(true)
+}
+
+// The same of reads that give so many bytes.
+fn says_cut(alloc: Global, case: &Case, most: usize, want: &str) -> Result<bool, AllocError> {
+    let reads = Device {
+        most: most.max(1),
+        fails: 0,
+    };
+    let ran = run(alloc, &case.words, &case.input, case, reads)?;
+    Ok(said(alloc, &ran)?.as_str().trim_end() == want)
 }
 
 // A zone that is told, the kind of its check, and the number in its name.

@@ -30,7 +30,7 @@ fn put_words(
 }
 
 /// The text, without its escapes. Where its bytes are no text, it is empty.
-fn text_of(alloc: Global, part: &str) -> Result<String, AllocError> {
+pub(crate) fn text_of(alloc: Global, part: &str) -> Result<String, AllocError> {
     let mut bytes = Vec::new(alloc);
     put_bytes(&mut bytes, part)?;
     String::from_str(alloc, str::from_utf8(&bytes).unwrap_or_default())

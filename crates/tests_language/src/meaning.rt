@@ -1,138 +1,10 @@
 // Tests of tre_syntax.
-use crate::checker::decide;
 use std::alloc::{AllocError, Global};
 use std::test::Fail;
-use tests_support::{names_of, trace_of, trace_with};
+use tests_support::names_of;
 use tre_parse::parse;
 use tre_state::{Names, State};
 use tre_syntax::{Expr, Pattern};
-use tre_trace::Trace;
-
-// The lengths and valuations of segments. On a valuation of 1 p is true, of 2 q.
-type Lengths = &'static [(u64, u64)];
-
-// A stretch from `a/n` to `b/n`, as a, b and n.
-type Stretch = (u8, u8, u8);
-
-// Whether the pattern matches the stretch of the trace, if a match needs at most so many cuts.
-fn matches(
-    alloc: Global,
-    text: &str,
-    lengths: Lengths,
-    stretch: &Stretch,
-    cuts: u8,
-) -> Result<bool, Fail> {
-    let pattern = parse(alloc, text, 0)?;
-    let trace = trace_of(alloc, lengths)?;
-    let (a, b, n) = *stretch;
-    Ok(decide(&pattern, &trace, a, b, n, cuts))
-}
-
-// Patterns, traces, stretches, how many cuts a match needs, and whether there is one.
-const ROWS: [(&str, Lengths, Stretch, u8, bool); 12] = [
-    // The midpoint of a sequence is a fraction.
-    ("p;p", &[(1, 1)], (0, 1, 1), 1, true),
-    ("p;p", &[(1, 1)], (0, 1, 1), 0, false),
-    // A state of two propositions is not two literals.
-    ("p|q", &[(1, 1), (1, 2)], (0, 2, 1), 0, false),
-    ("p|q", &[(1, 1), (1, 2)], (0, 1, 1), 0, true),
-    ("{p || q}", &[(1, 1), (1, 2)], (0, 2, 1), 0, true),
-    // A repetition has steps at any time. A chain has at most three, so two cuts.
-    ("(p % [1,1])*", &[(3, 1)], (0, 0, 1), 2, true),
-    ("(p % [1,1])*", &[(3, 1)], (0, 1, 1), 2, true),
-    ("(p % [1,1])*", &[(3, 1)], (0, 2, 1), 2, true),
-    ("(p % [1,1])*", &[(3, 1)], (0, 3, 1), 2, true),
-    ("(p % [1,1])*", &[(3, 1)], (1, 3, 1), 2, true),
-    ("(p % [1,1])*", &[(3, 1)], (1, 3, 2), 2, true),
-    ("(p % [1,1])*", &[(3, 1)], (1, 2, 2), 2, false),
-];
-
-#[test]
-fn stretches(rt: HostRuntime) -> Result<(), Fail> {
-    for (text, lengths, stretch, cuts, want) in &ROWS {
-        let found = matches(rt.alloc(), *text, *lengths, stretch, *cuts)?;
-        assert!(rt; found == *want, "{text} on {stretch:?}");
-    }
-    Ok(())
-}
-
-// Whether the pattern matches the stretch from `from` to `to`, in halves of a tick, and no other.
-fn is_only_match(pattern: &Pattern, trace: &Trace, from: u8, to: u8) -> bool {
-    for a in 0..=12u8 {
-        for b in a..=12u8 {
-            if decide(pattern, trace, a, b, 2, 2) != (a == from && b == to) {
-                return false;
-            }
-        }
-    }
-    true
-}
-
-// Whether a pulse of p, which lasts three ticks from the second on, is the only match of its form.
-fn is_from_edge_to_edge(alloc: Global) -> Result<bool, Fail> {
-    let pattern = parse(alloc, "<:p:>", 0)?;
-    let trace = trace_of(alloc, &[(2, 0), (3, 1), (1, 0)])?;
-    Ok(is_only_match(&pattern, &trace, 4, 10))
-}
-
-#[test]
-fn a_pulse_is_matched_from_edge_to_edge(rt: HostRuntime) -> Result<(), Fail> {
-    assert!(rt; is_from_edge_to_edge(rt.alloc())?);
-    Ok(())
-}
-
-// The lengths, valuations and events of segments, and the events at the end.
-type Happenings = (&'static [(u64, u64, u64)], u64);
-
-// Patterns, traces with events, stretches, and whether there is a match. The first event of a
-// pattern is bit 0, the second bit 1.
-const EVENTS: [(&str, Happenings, Stretch, bool); 14] = [
-    // At the begin of a segment, at the start, and at the end; nowhere else.
-    ("event(a)", (&[(3, 1, 0), (2, 1, 1)], 0), (3, 3, 1), true),
-    ("event(a)", (&[(3, 1, 0), (2, 1, 1)], 0), (5, 5, 1), false),
-    ("event(a)", (&[(3, 1, 0), (2, 1, 1)], 0), (7, 7, 2), false),
-    ("event(a)", (&[(3, 1, 1)], 0), (0, 0, 1), true),
-    ("event(a)", (&[(3, 1, 0)], 1), (3, 3, 1), true),
-    ("event(a)", (&[(3, 1, 0)], 1), (0, 0, 1), false),
-    ("event(a)", (&[], 1), (0, 0, 1), true),
-    // It lasts no time.
-    ("event(a) % (0,inf)", (&[(3, 1, 1)], 0), (0, 0, 1), false),
-    // Two at one moment, and the same twice.
-    ("event(a) & event(b)", (&[(3, 1, 3)], 0), (0, 0, 1), true),
-    ("event(a) & event(b)", (&[(3, 1, 1)], 2), (0, 0, 1), false),
-    ("event(a) ; event(a)", (&[(3, 1, 1)], 0), (0, 0, 1), true),
-    // A number of its own: the proposition p and the event p are two.
-    ("event(p) ; p", (&[(3, 1, 1)], 0), (0, 3, 1), true),
-    (
-        "event(p) ; p",
-        (&[(2, 1, 1), (1, 1, 0)], 0),
-        (2, 3, 1),
-        false,
-    ),
-    (
-        "p ; event(q)",
-        (&[(2, 1, 0), (2, 0, 1)], 0),
-        (0, 2, 1),
-        true,
-    ),
-];
-
-// Whether the pattern matches the stretch of the trace, if a match needs at most one cut.
-fn happen(alloc: Global, text: &str, trace: &Happenings, stretch: &Stretch) -> Result<bool, Fail> {
-    let pattern = parse(alloc, text, 0)?;
-    let trace = trace_with(alloc, trace.0, trace.1)?;
-    let (a, b, n) = *stretch;
-    Ok(decide(&pattern, &trace, a, b, n, 1))
-}
-
-#[test]
-fn events_have_numbers_of_their_own(rt: HostRuntime) -> Result<(), Fail> {
-    for (text, trace, stretch, want) in &EVENTS {
-        let found = happen(rt.alloc(), *text, trace, stretch)?;
-        assert!(rt; found == *want, "{text} on {stretch:?}");
-    }
-    Ok(())
-}
 
 fn p() -> Expr {
     Expr::Lit(State::Prop(0))
@@ -175,19 +47,30 @@ fn right_comb(alloc: Global, count: u32) -> Result<Expr, AllocError> {
     Ok(expr)
 }
 
+// How many nodes both patterns have, if these are as many.
+fn common_nodes(one: &Pattern, other: &Pattern) -> Option<u64> {
+    if one.nodes() == other.nodes() {
+        return Some(one.nodes());
+    }
+    None
+}
+
+fn nodes_with_copy(alloc: Global, pattern: &Pattern) -> Result<Option<u64>, AllocError> {
+    let copy = pattern.try_clone(alloc)?;
+    Ok(common_nodes(&copy, pattern))
+}
+
 // How many nodes the pattern of the expression, its names and those of its events has, if there is
 // one, and whether a copy of it has as many.
-fn nodes(alloc: Global, expr: Expr, names: &str, events: &str) -> Result<Option<u64>, Fail> {
-    let names = names_of(alloc, names)?;
-    let events = names_of(alloc, events)?;
-    let Some(pattern) = Pattern::new(expr, names, events) else {
-        return Ok(None);
-    };
-    let copy = pattern.try_clone(alloc)?;
-    if copy.nodes() == pattern.nodes() {
-        Ok(Some(copy.nodes()))
-    } else {
-        Ok(None)
+fn nodes(
+    alloc: Global,
+    expr: Expr,
+    names: Names,
+    events: Names,
+) -> Result<Option<u64>, AllocError> {
+    match Pattern::new(expr, names, events) {
+        Some(pattern) => nodes_with_copy(alloc, &pattern),
+        None => Ok(None),
     }
 }
 
@@ -230,8 +113,10 @@ fn made(alloc: Global, form: Form) -> Result<Expr, AllocError> {
 
 // The same of an expression that is made.
 fn nodes_of(alloc: Global, form: Form, names: &str, events: &str) -> Result<Option<u64>, Fail> {
+    let names = names_of(alloc, names)?;
+    let events = names_of(alloc, events)?;
     let expr = made(alloc, form)?;
-    nodes(alloc, expr, names, events)
+    Ok(nodes(alloc, expr, names, events)?)
 }
 
 // Expressions, the names of their propositions and of their events, and how many nodes there are.
@@ -254,8 +139,10 @@ const NODES: [(Form, &str, &str, Option<u64>); 11] = [
 #[test]
 fn a_pattern_has_its_nodes(rt: HostRuntime) -> Result<(), Fail> {
     for (form, names, events, count) in &NODES {
-        let found = nodes_of(rt.alloc(), *form, *names, *events)?;
-        assert!(rt; found == *count, "{form:?}");
+        assert!(rt;
+            nodes_of(rt.alloc(), *form, *names, *events)? == *count,
+            "{form:?}"
+        );
     }
     Ok(())
 }
@@ -290,22 +177,6 @@ fn event_nodes(alloc: Global, count: u8) -> Result<Option<u64>, Fail> {
 fn a_pattern_has_a_name_for_each_event(rt: HostRuntime) -> Result<(), Fail> {
     assert!(rt; event_nodes(rt.alloc(), 64)? == Some(127));
     assert!(rt; event_nodes(rt.alloc(), 65)?.is_none());
-    Ok(())
-}
-
-// Whether a copy of the deepest pattern matches one tick of p.
-fn matches_deeply(alloc: Global) -> Result<bool, Fail> {
-    let expr = negations(alloc, 998)?;
-    let Some(pattern) = Pattern::new(expr, names_of(alloc, "p")?, Names::new(alloc)) else {
-        return Ok(false);
-    };
-    let trace = trace_of(alloc, &[(1, 1)])?;
-    Ok(decide(&pattern.try_clone(alloc)?, &trace, 0, 1, 1, 0))
-}
-
-#[test]
-fn the_deepest_pattern_is_copied(rt: HostRuntime) -> Result<(), Fail> {
-    assert!(rt; matches_deeply(rt.alloc())?);
     Ok(())
 }
 

@@ -49,15 +49,19 @@ fn numbered(names: &mut Names, text: &str) -> Option<Result<u8, NameFault>> {
     None
 }
 
+// Whether p and q get their numbers, each once.
+fn are_numbered(names: &mut Names) -> bool {
+    numbered(names, "p") == Some(Ok(0))
+        && numbered(names, "q") == Some(Ok(1))
+        && numbered(names, "p") == Some(Ok(0))
+        && names.find("r").is_none()
+}
+
 #[test]
 fn names_are_numbered_once(rt: HostRuntime) -> Result<(), Fail> {
     let mut names = Names::new(rt.alloc());
-    assert!(rt; numbered(&mut names, "p") == Some(Ok(0)));
-    assert!(rt; numbered(&mut names, "q") == Some(Ok(1)));
-    assert!(rt; numbered(&mut names, "p") == Some(Ok(0)));
-    assert!(rt; names.find("r").is_none());
-    let copy = names.try_clone()?;
-    assert!(rt; ends_with_q(&copy));
+    assert!(rt; are_numbered(&mut names));
+    assert!(rt; ends_with_q(&names.try_clone()?));
     Ok(())
 }
 
@@ -73,12 +77,17 @@ fn sixty_four(alloc: Global) -> Result<Names, Fail> {
     Ok(names)
 }
 
+// Whether p63 is the last of the names, and no other gets a number.
+fn are_all(names: &mut Names) -> bool {
+    numbered(names, "p63") == Some(Ok(63))
+        && numbered(names, "q") == Some(Err(NameFault::TooMany))
+        && names.len() == 64
+}
+
 #[test]
 fn the_sixty_fifth_name_is_refused(rt: HostRuntime) -> Result<(), Fail> {
     let mut names = sixty_four(rt.alloc())?;
-    assert!(rt; numbered(&mut names, "p63") == Some(Ok(63)));
-    assert!(rt; numbered(&mut names, "q") == Some(Err(NameFault::TooMany)));
-    assert!(rt; names.len() == 64);
+    assert!(rt; are_all(&mut names));
     Ok(())
 }
 
@@ -99,13 +108,18 @@ fn not_both(alloc: Global) -> Result<State, AllocError>
     Ok(State::Not(both))
 }
 
+// Whether a copy of the state is the same, and is false where both are true.
+fn is_copied(alloc: Global, state: &State) -> Result<bool, AllocError>
+    requires { NumbersBelow NAMES_MAX (tree_of state.now) }
+{
+    let copy = state.try_clone(alloc)?;
+    let values = copy.eval(0b00) && copy.eval(0b01) && copy.eval(0b10) && !copy.eval(0b11);
+    Ok(values && copy == *state)
+}
+
 #[test]
 fn a_copy_of_a_state_is_the_state(rt: HostRuntime) -> Result<(), Fail> {
     let state = not_both(rt.alloc())?;
-    let copy = state.try_clone(rt.alloc())?;
-    assert!(rt; copy == state);
-    for (valuation, want) in [(0b00, true), (0b01, true), (0b10, true), (0b11, false)] {
-        assert!(rt; copy.eval(valuation) == want);
-    }
+    assert!(rt; is_copied(rt.alloc(), &state)?);
     Ok(())
 }

@@ -1,5 +1,5 @@
 // What derivatives and marks tell of the second and third piece of a trace, and what goes on.
-ghost use Rattle.std.specs.Prelude.{Some, [], IfOk};
+ghost use Rattle.std.specs.Prelude.{◌≤◌, Some, [], IfOk, OnOk};
 ghost use Rattle.tre_state.specs.declared.names.TheConstants.{NAMES_MAX};
 ghost use Rattle.tre_syntax.specs.Expr.{tree_of};
 ghost use Rattle.tre_syntax.specs.PatternTree.{NumbersBelow};
@@ -63,16 +63,76 @@ fn pairs_across_two_pieces(rt: HostRuntime) -> Result<(), Fail> {
     Ok(())
 }
 
-#[test]
-fn no_pair_before_its_edge(rt: HostRuntime) -> Result<(), Fail> {
-    let pattern = pattern(rt.alloc(), FALLING)?;
-    let piece = first_piece((2, 1));
-    assert!(rt; local(rt.alloc(), pattern.expr(), &piece)?.is_empty());
-    Ok(())
+// What was read of a trace: its segments, what was told of them, and what goes on.
+#[derive(Drop)]
+struct Reading {
+    trace: Trace,
+    told: ZoneSet,
+    begun: Residual,
+}
+
+fn nothing(alloc: Global) -> Reading {
+    Reading {
+        trace: Trace::new(alloc),
+        told: ZoneSet::new(alloc),
+        begun: Residual::Nil,
+    }
+}
+
+// Adds what the expression matches in the piece.
+fn tell_inside(
+    alloc: Global,
+    expr: &Expr,
+    piece: &Piece,
+    told: &mut ZoneSet,
+) -> Result<(), AllocError>
+    requires { NumbersBelow NAMES_MAX (tree_of expr.now) }
+{
+    let inside = local(alloc, expr, piece)?;
+    told.join(&inside)
+}
+
+// Adds what the residual tells of the piece, and gives what is left of it.
+fn go_over(
+    alloc: Global,
+    begun: &Residual,
+    piece: &Piece,
+    told: &mut ZoneSet,
+) -> Result<Residual, AllocError>
+    requires well { IsWellAt piece.now.begin (residual_tree begun.now) }
+    requires takes { CanGoOn (before_piece piece.now) (residual_tree begun.now) }
+    ensures well { IfOk result (λ rest. IsWellAt (end_of_piece piece.now) (residual_tree rest)) }
+    ensures takes { IfOk result (λ rest.
+        CanGoOn (since (end_of_piece piece.now) (Some piece.now.segment.val) [])
+        (residual_tree rest)) }
+{
+    let stepped = step(alloc, begun, piece)?;
+    told.join(&stepped.told)?;
+    Ok(stepped.rest)
+}
+
+// What is left, or what begins in the piece.
+fn with_fresh(
+    alloc: Global,
+    rest: Residual,
+    expr: &Expr,
+    piece: &Piece,
+) -> Result<Residual, AllocError>
+    requires numbers { NumbersBelow NAMES_MAX (tree_of expr.now) }
+    requires well { IsWellAt (end_of_piece piece.now) (residual_tree rest) }
+    requires takes { CanGoOn (since (end_of_piece piece.now) (Some piece.now.segment.val) [])
+        (residual_tree rest) }
+    ensures well { IfOk result (λ whole. IsWellAt (end_of_piece piece.now) (residual_tree whole)) }
+    ensures takes { IfOk result (λ whole.
+        CanGoOn (since (end_of_piece piece.now) (Some piece.now.segment.val) [])
+        (residual_tree whole)) }
+{
+    let new = fresh(alloc, expr, piece)?;
+    Residual::or(alloc, rest, new)
 }
 
 // Reads a piece: adds the pairs that it tells to those told before, and gives what goes on.
-fn read(
+fn go_on(
     alloc: Global,
     expr: &Expr,
     piece: &Piece,
@@ -87,42 +147,84 @@ fn read(
         CanGoOn (since (end_of_piece piece.now) (Some piece.now.segment.val) [])
         (residual_tree rest)) }
 {
-    told.join(&local(alloc, expr, piece)?)?;
-    let stepped = step(alloc, begun, piece)?;
-    told.join(&stepped.told)?;
-    let new = fresh(alloc, expr, piece)?;
-    Residual::or(alloc, stepped.rest, new)
+    tell_inside(alloc, expr, piece, told)?;
+    let rest = go_over(alloc, begun, piece, told)?;
+    with_fresh(alloc, rest, expr, piece)
 }
 
-// Whether what was told of the trace and one more piece are the matches so far.
-fn is_right(
+// Whether what was told are the matches so far.
+fn is_right(alloc: Global, pattern: &Pattern, reading: &Reading) -> Result<bool, AllocError> {
+    are_matches(alloc, pattern, &reading.trace, &reading.told, 14)
+}
+
+// Reads one more piece, and says whether what was told are the matches so far.
+fn read(
     alloc: Global,
     pattern: &Pattern,
-    trace: &mut Trace,
     piece: &Piece,
-    told: &ZoneSet,
-) -> Result<bool, Fail> {
-    trace.push(piece.segment)?;
-    let right = are_matches(alloc, pattern, trace, told, 14)?;
-    Ok(right)
+    reading: &mut Reading,
+) -> Result<bool, Fail>
+    requires well { IsWellAt piece.now.begin (residual_tree reading.old.begun) }
+    requires takes { CanGoOn (before_piece piece.now) (residual_tree reading.old.begun) }
+    ensures well { OnOk result (IsWellAt (end_of_piece piece.now)
+        (residual_tree reading.new.begun)) }
+    ensures takes { OnOk result (CanGoOn
+        (since (end_of_piece piece.now) (Some piece.now.segment.val) [])
+        (residual_tree reading.new.begun)) }
+{
+    let told = &mut reading.told;
+    reading.begun = go_on(alloc, pattern.expr(), piece, &reading.begun, told)?;
+    reading.trace.push(piece.segment)?;
+    Ok(is_right(alloc, pattern, reading)?)
 }
 
-// After how many of the pieces what was told so far were the matches so far.
-fn right(alloc: Global, text: &str, lengths: &[Length; 3]) -> Result<u8, Fail> {
+// Comes to the end, and says whether what was told are all matches.
+fn end(
+    alloc: Global,
+    pattern: &Pattern,
+    piece: &Piece,
+    events: u64,
+    reading: &mut Reading,
+) -> Result<bool, AllocError>
+    requires end { end_of_piece piece.now ≤ 1024 }
+    requires well { IsWellAt (end_of_piece piece.now) (residual_tree reading.old.begun) }
+{
+    let time = piece.begin + piece.segment.len;
+    let last = close(alloc, &reading.begun, time, events)?;
+    reading.told.join(&last)?;
+    reading.trace.set_last(events);
+    is_right(alloc, pattern, reading)
+}
+
+// Whether what three pieces tell, with these events at their begins, and then the end with the last
+// of them, are the matches each time.
+fn are_right(
+    alloc: Global,
+    pattern: &Pattern,
+    lengths: &[Length; 3],
+    events: &[u64; 4],
+    reading: &mut Reading,
+) -> Result<bool, Fail> {
+    reading.begun = Residual::Nil;
+    let one = first_with(lengths[0], events[0]);
+    let first = read(alloc, pattern, &one, reading)?;
+    let two = next_with(&one, lengths[1], events[1]);
+    let second = read(alloc, pattern, &two, reading)?;
+    let three = next_with(&two, lengths[2], events[2]);
+    let third = read(alloc, pattern, &three, reading)?;
+    let last = end(alloc, pattern, &three, events[3], reading)?;
+    Ok(first && second && third && last)
+}
+
+fn tells_right(
+    alloc: Global,
+    text: &str,
+    lengths: &[Length; 3],
+    events: &[u64; 4],
+) -> Result<bool, Fail> {
     let pattern = pattern(alloc, text)?;
-    let mut told = ZoneSet::new(alloc);
-    let mut trace = Trace::new(alloc);
-    let mut right = 0;
-    let one = first_piece(lengths[0]);
-    let begun = read(alloc, pattern.expr(), &one, &Residual::Nil, &mut told)?;
-    right += u8::from(is_right(alloc, &pattern, &mut trace, &one, &told)?);
-    let two = next_piece(&one, lengths[1]);
-    let begun = read(alloc, pattern.expr(), &two, &begun, &mut told)?;
-    right += u8::from(is_right(alloc, &pattern, &mut trace, &two, &told)?);
-    let three = next_piece(&two, lengths[2]);
-    let _begun = read(alloc, pattern.expr(), &three, &begun, &mut told)?;
-    right += u8::from(is_right(alloc, &pattern, &mut trace, &three, &told)?);
-    Ok(right)
+    let mut reading = nothing(alloc);
+    are_right(alloc, &pattern, lengths, events, &mut reading)
 }
 
 const PATTERNS: [&str; 7] = [
@@ -142,41 +244,19 @@ const TRACES: [[Length; 3]; 4] = [
     [(2, 1), (2, 3), (1, 1)],
 ];
 
+const NO_EVENTS: [u64; 4] = [0, 0, 0, 0];
+
 #[test]
 fn told_by_each_piece_are_the_matches(rt: HostRuntime) -> Result<(), Fail> {
     for text in &PATTERNS {
         for lengths in &TRACES {
-            assert!(rt; right(rt.alloc(), *text, lengths)? == 3, "{text}");
+            assert!(rt;
+                tells_right(rt.alloc(), *text, lengths, &NO_EVENTS)?,
+                "{text}"
+            );
         }
     }
     Ok(())
-}
-
-// Whether what three pieces tell, with these events at their begins, and then the end with the last
-// of them, are the matches.
-fn is_right_with_end(
-    alloc: Global,
-    text: &str,
-    lengths: &[Length; 3],
-    events: &[u64; 4],
-) -> Result<bool, Fail> {
-    let pattern = pattern(alloc, text)?;
-    let mut told = ZoneSet::new(alloc);
-    let mut trace = Trace::new(alloc);
-    let one = first_with(lengths[0], events[0]);
-    trace.push(one.segment)?;
-    let begun = read(alloc, pattern.expr(), &one, &Residual::Nil, &mut told)?;
-    let two = next_with(&one, lengths[1], events[1]);
-    trace.push(two.segment)?;
-    let begun = read(alloc, pattern.expr(), &two, &begun, &mut told)?;
-    let three = next_with(&two, lengths[2], events[2]);
-    trace.push(three.segment)?;
-    let begun = read(alloc, pattern.expr(), &three, &begun, &mut told)?;
-    let end = three.begin + three.segment.len;
-    told.join(&close(alloc, &begun, end, events[3])?)?;
-    trace.set_last(events[3]);
-    let right = are_matches(alloc, &pattern, &trace, &told, 14)?;
-    Ok(right)
 }
 
 const EVENTFUL: [&str; 11] = [
@@ -200,8 +280,7 @@ fn told_with_the_end_are_the_matches(rt: HostRuntime) -> Result<(), Fail> {
     for text in &EVENTFUL {
         for lengths in &TRACES {
             for events in &EVENTS {
-                let right = is_right_with_end(rt.alloc(), *text, lengths, events)?;
-                assert!(rt; right, "{text} {lengths:?} {events:?}");
+                assert!(rt; tells_right(rt.alloc(), *text, lengths, events)?, "{text}");
             }
         }
     }

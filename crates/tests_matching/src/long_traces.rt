@@ -117,42 +117,57 @@ fn plain_either(p: &ZoneSet, q: &ZoneSet) -> Result<ZoneSet, AllocError> {
     Ok(set)
 }
 
-fn plain_within(alloc: Global, zones: &[Zone], interval: &Interval) -> Result<ZoneSet, AllocError> {
+// The parts of p that last as long as the interval says; of no interval none.
+fn plain_within(
+    alloc: Global,
+    p: &ZoneSet,
+    interval: Option<Interval>,
+) -> Result<ZoneSet, AllocError> {
     let mut set = ZoneSet::new(alloc);
-    for zone in zones {
-        set.add_found(zone.within(interval))?;
+    let Some(interval) = interval else {
+        return Ok(set);
+    };
+    for zone in p.zones() {
+        set.add_found(zone.within(&interval))?;
     }
     Ok(set)
 }
 
-fn plain_short(alloc: Global, p: &ZoneSet) -> Result<ZoneSet, Fail> {
-    let interval = Interval::new(1, false, Some(2), false).ok_or("no interval")?;
-    let set = plain_within(alloc, p.zones(), &interval)?;
-    Ok(set)
+// Adds what the steps give before each of the zones.
+fn add_longer(alloc: Global, steps: &ZoneSet, set: &mut ZoneSet) -> Result<(), AllocError> {
+    let longer = plain_pairs(alloc, Pairing::Composed, steps, set)?;
+    add_all(set, longer.zones())
 }
 
-fn plain_ticks(alloc: Global, p: &ZoneSet) -> Result<ZoneSet, Fail> {
-    let tick = Interval::new(1, true, Some(1), true).ok_or("no interval")?;
-    let steps = plain_within(alloc, p.zones(), &tick)?;
+fn plain_steps(alloc: Global, steps: &ZoneSet) -> Result<ZoneSet, AllocError> {
     let mut set = ZoneSet::new(alloc);
     set.add(Zone::instants(0, TICKS_MAX))?;
     for _ in 0..STEPS_MAX {
-        let longer = plain_pairs(alloc, Pairing::Composed, &steps, &set)?;
-        add_all(&mut set, longer.zones())?;
+        add_longer(alloc, steps, &mut set)?;
     }
     Ok(set)
 }
 
+fn plain_ticks(alloc: Global, p: &ZoneSet) -> Result<ZoneSet, AllocError> {
+    let tick = Interval::new(1, true, Some(1), true);
+    let steps = plain_within(alloc, p, tick)?;
+    plain_steps(alloc, &steps)
+}
+
 // What the operator makes of the matches of p and of q.
-fn plain(alloc: Global, operator: Operator, p: &ZoneSet, q: &ZoneSet) -> Result<ZoneSet, Fail> {
-    let set = match operator {
-        Operator::Sequence => plain_pairs(alloc, Pairing::Composed, p, q)?,
-        Operator::Alternation => plain_either(p, q)?,
-        Operator::Meet => plain_pairs(alloc, Pairing::Met, p, q)?,
-        Operator::Short => plain_short(alloc, p)?,
-        Operator::Ticks => plain_ticks(alloc, p)?,
-    };
-    Ok(set)
+fn plain(
+    alloc: Global,
+    operator: Operator,
+    p: &ZoneSet,
+    q: &ZoneSet,
+) -> Result<ZoneSet, AllocError> {
+    match operator {
+        Operator::Sequence => plain_pairs(alloc, Pairing::Composed, p, q),
+        Operator::Alternation => plain_either(p, q),
+        Operator::Meet => plain_pairs(alloc, Pairing::Met, p, q),
+        Operator::Short => plain_within(alloc, p, Interval::new(1, false, Some(2), false)),
+        Operator::Ticks => plain_ticks(alloc, p),
+    }
 }
 
 // Whether both sets, of which neither has a zone twice, have the same zones in any order.
@@ -170,16 +185,31 @@ const OPERATORS: [(&str, Operator, usize); 5] = [
     ("(p % [1,1])*", Operator::Ticks, 3_001),
 ];
 
+// The matches of the pattern over the turns.
+fn of_turns(alloc: Global, text: &str, turn: Lengths) -> Result<ZoneSet, Fail> {
+    let lengths = long(alloc, turn)?;
+    found(alloc, text, &lengths)
+}
+
+fn plain_of_turns(alloc: Global, operator: Operator) -> Result<ZoneSet, Fail> {
+    let p = of_turns(alloc, "p", TURN)?;
+    let q = of_turns(alloc, "p", EXCHANGED)?;
+    Ok(plain(alloc, operator, &p, &q)?)
+}
+
+fn is_as_plain(alloc: Global, text: &str, operator: Operator, count: usize) -> Result<bool, Fail> {
+    let plain = plain_of_turns(alloc, operator)?;
+    let found = of_turns(alloc, text, TURN)?;
+    Ok(plain.zones().len() == count && are_same(&found, &plain))
+}
+
 #[test]
 fn as_by_the_plain_program(rt: HostRuntime) -> Result<(), Fail> {
-    let lengths = long(rt.alloc(), TURN)?;
-    let p = found(rt.alloc(), "p", &lengths)?;
-    let q = found(rt.alloc(), "p", &long(rt.alloc(), EXCHANGED)?)?;
     for (text, operator, count) in &OPERATORS {
-        let found = found(rt.alloc(), *text, &lengths)?;
-        let plain = plain(rt.alloc(), *operator, &p, &q)?;
-        assert!(rt; plain.zones().len() == *count, "{text}");
-        assert!(rt; are_same(&found, &plain), "{text}");
+        assert!(rt;
+            is_as_plain(rt.alloc(), *text, *operator, *count)?,
+            "{text}"
+        );
     }
     Ok(())
 }

@@ -1,6 +1,6 @@
 // What sessions tell of the segments that come, and what they keep.
 
-use crate::given::{Lengths, pattern};
+use crate::given::pattern;
 use std::alloc::Global;
 use std::test::Fail;
 use tre_online::Session;
@@ -17,67 +17,6 @@ fn read(session: &mut Session, len: u64, val: u64) -> Result<ZoneSet, PushFault>
     session.segment(Segment::plain(len, val))
 }
 
-// What is told of the last of the segments.
-fn told(alloc: Global, text: &str, lengths: Lengths) -> Result<ZoneSet, Fail> {
-    let mut session = session(alloc, text)?;
-    let mut told = ZoneSet::new(alloc);
-    for &(len, val) in lengths {
-        told = read(&mut session, len, val)?;
-    }
-    Ok(told)
-}
-
-/// `2 p / 3 p`
-const LONG: Lengths<'static> = &[(2, 1), (3, 1)];
-/// `2 p q / 2 q`
-const BOTH: Lengths<'static> = &[(2, 3), (2, 2)];
-/// `2 p / 1 q`
-const ENDS: Lengths<'static> = &[(2, 1), (1, 2)];
-/// `2 p / 3 p / 1 q`
-const ANSWERED: Lengths<'static> = &[(2, 1), (3, 1), (1, 2)];
-
-const FALLING: &str = "(p;fall(p)) & p";
-
-/// Of each row: the pattern, the segments, a pair of times, and whether the last segment tells it.
-const PAIRS: [(&str, Lengths<'static>, (u64, u64, u32), bool); 12] = [
-    ("p", &[(2, 1)], (0, 2, 1), true),
-    ("p", &[(2, 1)], (1, 3, 2), true),
-    ("p", LONG, (0, 5, 1), true),
-    ("p", LONG, (3, 5, 2), true),
-    ("p", LONG, (5, 9, 2), true),
-    // What ends before the segment isn't told again.
-    ("p", LONG, (0, 1, 1), false),
-    ("p;q", BOTH, (1, 7, 2), true),
-    // The first part ends strictly inside the first segment.
-    ("(p % [1,1]);q", BOTH, (0, 3, 1), true),
-    // An edge is known only once the segment behind it has come.
-    (FALLING, &[(2, 1)], (0, 2, 1), false),
-    (FALLING, ENDS, (0, 2, 1), true),
-    ("p;rise(q)", LONG, (0, 5, 1), false),
-    ("p;rise(q)", ANSWERED, (0, 5, 1), true),
-];
-
-fn tells(
-    alloc: Global,
-    text: &str,
-    lengths: Lengths,
-    pair: &(u64, u64, u32),
-) -> Result<bool, Fail> {
-    let (a, b, n) = *pair;
-    Ok(n > 0 && told(alloc, text, lengths)?.holds(a, b, n))
-}
-
-#[test]
-fn the_last_segment_tells_the_pair(rt: HostRuntime) -> Result<(), Fail> {
-    for (text, lengths, pair, want) in &PAIRS {
-        assert!(rt;
-            tells(rt.alloc(), *text, *lengths, pair)? == *want,
-            "{text} {pair:?}"
-        );
-    }
-    Ok(())
-}
-
 // Why the session refuses a segment of p, if it does.
 fn fault(session: &mut Session, len: u64) -> Option<PushFault> {
     read(session, len, 1).err()
@@ -89,18 +28,27 @@ fn tells_until(session: &mut Session, end: u64) -> Result<bool, PushFault> {
     Ok(told.holds(0, end, 1))
 }
 
+// Whether a segment of this length is refused for this, and the session stays at this time.
+fn refuses(session: &mut Session, len: u64, why: PushFault, at: u64) -> bool {
+    fault(session, len) == Some(why) && session.at() == at
+}
+
+fn is_unchanged(session: &mut Session) -> Result<bool, PushFault> {
+    let late = PushFault::TooLate {
+        end: 1_099_511_627_778,
+    };
+    let zero = refuses(session, 0, PushFault::Zero, 0);
+    let first = tells_until(session, 2)?;
+    let long = refuses(session, 1 << 40, late, 2);
+    let second = tells_until(session, 4)?;
+    let nodes = session.pattern().nodes() == 2 && session.kept_nodes() == 1;
+    Ok(zero && first && long && second && nodes)
+}
+
 #[test]
 fn a_refused_segment_changes_nothing(rt: HostRuntime) -> Result<(), Fail> {
     let mut session = session(rt.alloc(), "p")?;
-    assert!(rt; fault(&mut session, 0) == Some(PushFault::Zero));
-    assert!(rt; session.at() == 0);
-    assert!(rt; tells_until(&mut session, 2)?);
-    let end = 1_099_511_627_778;
-    assert!(rt; fault(&mut session, 1 << 40) == Some(PushFault::TooLate { end }));
-    assert!(rt; session.at() == 2);
-    assert!(rt; tells_until(&mut session, 4)?);
-    assert!(rt; session.pattern().nodes() == 2);
-    assert!(rt; session.kept_nodes() == 1);
+    assert!(rt; is_unchanged(&mut session)?);
     Ok(())
 }
 

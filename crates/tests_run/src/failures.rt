@@ -1,9 +1,7 @@
 // Runs over devices of which a call fails.
 ghost use Rattle.std.specs.Prelude.{◌<◌};
 
-use crate::memory::{
-    Device, FIRST_FAILS, Ran, SOUND, no_checks, ran_over, ran_with, sink_of, source_of, words_of,
-};
+use crate::memory::{Device, Ran, SOUND, no_checks, ran_with, sink_of, source_of, words_of};
 use std::alloc::{AllocError, Global};
 use std::io::Cursor;
 use std::test::Fail;
@@ -23,7 +21,7 @@ fn read_fails(alloc: Global, most: usize, fails: u64) -> Result<bool, AllocError
     requires { 0 < most }
 {
     let read = Device { most, fails };
-    let ran = ran_with(alloc, &["p"], "3 p q\n", [read, SOUND, SOUND])?;
+    let ran = ran_with(alloc, &["p"], "3 p q\n", read, SOUND)?;
     if fails <= calls_for(6, most).saturating_add(2) {
         Ok(ran.is(6, "", "montre: read fault\n"))
     } else {
@@ -50,7 +48,7 @@ fn write_fails(alloc: Global, most: usize, fails: u64) -> Result<bool, AllocErro
     requires { 0 < most }
 {
     let write = Device { most, fails };
-    let ran = ran_with(alloc, &["p"], "3 p\n", [SOUND, write, SOUND])?;
+    let ran = ran_with(alloc, &["p"], "3 p\n", SOUND, write)?;
     let out = "[0,3) (0,3] (0,3]\nend 3\n";
     if fails > calls_for(24, most) {
         return Ok(ran.is(0, out, ""));
@@ -79,26 +77,6 @@ fn each_write_fails_in_turn(rt: HostRuntime) -> Result<(), Fail> {
     Ok(())
 }
 
-/// Whether a first part of the line is there, so many bytes, with the status of a sound standard
-/// error.
-fn tells_part(alloc: Global, fails: u64, len: usize) -> Result<bool, AllocError> {
-    let tell = Device { most: 4096, fails };
-    let ran = ran_with(alloc, &["p"], "x\n", [SOUND, SOUND, tell])?;
-    let line = b"montre: trace: BadNumber at 1\n".as_slice();
-    Ok(ran.code == 4 && ran.err.len() == len && line.starts_with(ran.err.as_slice()))
-}
-
-/// Of each row: the call of standard error that fails, and how many bytes are there.
-#[test]
-fn standard_error_fails(rt: HostRuntime) -> Result<(), Fail> {
-    for (fails, len) in [(1, 0), (2, 15), (3, 24), (4, 28), (5, 29), (6, 30)] {
-        assert!(rt; tells_part(rt.alloc(), fails, len)?, "call {fails}");
-    }
-    let ran = ran_with(rt.alloc(), &[], "", [SOUND, SOUND, FIRST_FAILS])?;
-    assert!(rt; ran.is(2, "", ""));
-    Ok(())
-}
-
 /// How a run ends of which both outputs take some bytes and then none.
 fn ended_full(alloc: Global) -> Result<Status, AllocError> {
     let words = words_of(alloc, &["p"])?;
@@ -112,13 +90,5 @@ fn ended_full(alloc: Global) -> Result<Status, AllocError> {
 #[test]
 fn outputs_that_take_no_more(rt: HostRuntime) -> Result<(), Fail> {
     assert!(rt; ended_full(rt.alloc())? == Status::WriteFault);
-    Ok(())
-}
-
-#[test]
-fn another_file_is_not_read(rt: HostRuntime) -> Result<(), Fail> {
-    let file = ("other", b"3 p\n".as_slice());
-    let ran = ran_over(rt.alloc(), &["p"], file, [SOUND, SOUND, SOUND])?;
-    assert!(rt; ran.has_out(6, ""));
     Ok(())
 }

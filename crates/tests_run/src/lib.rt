@@ -1,5 +1,5 @@
-//! Tests of runs that no row of the program `cases` can say: calls that fail in turn, large inputs.
-//! Also of tre_words and tre_generate.
+//! Tests of runs that no row of the program `cases` can say: calls that fail in turn, and
+//! devices of other kinds. Also of tre_words and tre_generate.
 //!
 //! The crate has nothing but tests, and uses what it tests by its public calls, so that those
 //! crates are proved without them. `memory` runs over devices that fail where a test wants it.
@@ -15,9 +15,3 @@ mod jobs;
 mod made_runs;
 #[cfg(test)]
 mod memory;
-#[cfg(test)]
-mod online;
-#[cfg(test)]
-mod refusals;
-#[cfg(test)]
-mod watch;

@@ -5,9 +5,9 @@ ghost use Rattle.tre_zone.specs.Zone.{AreValuesWithin};
 
 use tre_zone::{Bound, TIME_MAX, Zone, ZoneBounds};
 
-/// The six bounds that a line such as `[0,3) (0,3] (0,3]` names, whether or not a pair of times
-/// meets them. None where it is no line.
-pub fn bounds_of(line: &str) -> Option<ZoneBounds>
+// The six bounds that a line such as `[0,3) (0,3] (0,3]` names, whether or not a pair of times
+// meets them. None where it is no line.
+fn bounds_of(line: &str) -> Option<ZoneBounds>
     ensures { IfSome result (λ bounds. AreValuesWithin (2 ^ 42) bounds) }
 {
     let (begin, rest) = line.split_once(' ')?;

@@ -13,25 +13,6 @@ pub fn trace_of(alloc: Global, segments: &[(u64, u64)]) -> Result<Trace, PushFau
     Ok(trace)
 }
 
-/// The trace of segments, each with its length, its valuation and the events at its begin, and
-/// with these events at the end.
-pub fn trace_with(
-    alloc: Global,
-    segments: &[(u64, u64, u64)],
-    last: u64,
-) -> Result<Trace, PushFault> {
-    let mut trace = Trace::new(alloc);
-    for (len, val, ev) in segments {
-        trace.push(Segment {
-            len: *len,
-            val: *val,
-            ev: *ev,
-        })?;
-    }
-    trace.set_last(last);
-    Ok(trace)
-}
-
 /// The names that stand in the text, with one space between two; of no text there are none.
 pub fn names_of(alloc: Global, text: &str) -> Result<Names, Fail> {
     let mut names = Names::new(alloc);

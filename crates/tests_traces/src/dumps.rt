@@ -31,51 +31,6 @@ fn names_need_not_be_declared(rt: HostRuntime) -> Result<(), Fail> {
     Ok(())
 }
 
-// Values of every form, and what they say.
-const VALUES: &str = "$var wire 1 ! p $end $var wire 1 ab q $end $var event 1 % e $end \
-    $enddefinitions $end\r\n#0 1! zab\r\n#3 b101 ab 1%\r\n#4 B0  ab H! r1.5 ! #6 bz1 ! 0ab #9\r\n";
-
-const SAID: &str = "3:1 1:3@1 2:0 3:1 ";
-
-// What the dump says in pieces of so many bytes.
-fn told(alloc: Global, dump: &str, most: usize) -> Result<String, Fail> {
-    let names = names_of(alloc, "p q")?;
-    let events = names_of(alloc, "e")?;
-    let tokens = TokenReader::new(alloc, names, events, 0);
-    let mut reader = VcdReader::new(alloc, tokens);
-    Ok(read(alloc, &mut reader, dump.as_bytes(), most)?)
-}
-
-#[test]
-fn values_are_read_alike_in_pieces_of_any_length(rt: HostRuntime) -> Result<(), Fail> {
-    for most in [1, 16, 40, 1000] {
-        let said = told(rt.alloc(), VALUES, most)?;
-        assert!(rt; said.as_str() == SAID, "{most}: {said}");
-    }
-    Ok(())
-}
-
-// Behind the values, with the white space, begin the tokens that have a fault.
-const FAULTS: [(&str, &str); 5] = [
-    ("#8 1! #12 1! 0ab 1! 0ab ", "TimeBack 150"),
-    ("1! 1 0ab #12 1! 0ab 1! 0ab ", "BadToken 153"),
-    ("b1 ab b ab #12 1! 0ab 1! ", "BadToken 156"),
-    ("q1 ab b1 ab #12 1! 0ab 1! ", "BadToken 150"),
-    ("1! b1 ab b1 0ab #12 1! b1 ", "CutShort 176"),
-];
-
-#[test]
-fn faults_are_told_alike_in_pieces_of_any_length(rt: HostRuntime) -> Result<(), Fail> {
-    for (behind, fault) in FAULTS {
-        let dump = format!(in rt.alloc(); "{VALUES}{behind}")?;
-        for most in [1, 1000] {
-            let said = told(rt.alloc(), &dump, most)?;
-            assert!(rt; said.as_str().ends_with(fault), "{behind}: {said}");
-        }
-    }
-    Ok(())
-}
-
 fn fault(place: u64, kind: TraceKind) -> Result<(), TraceFault> {
     Err(TraceFault { place, kind })
 }

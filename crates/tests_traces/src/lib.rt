@@ -11,8 +11,6 @@ mod bytes;
 #[cfg(test)]
 mod define;
 #[cfg(test)]
-mod dump_definitions;
-#[cfg(test)]
 mod dumps;
 #[cfg(test)]
 mod num;

@@ -51,19 +51,6 @@ fn spaces(alloc: Global) -> Result<Vec<u8>, Fail> {
 }
 
 #[test]
-fn a_line_may_have_so_many_bytes(rt: HostRuntime) -> Result<(), Fail> {
-    let spaces = spaces(rt.alloc())?;
-    let said = read(
-        rt.alloc(),
-        &mut reader(rt.alloc(), "p", "")?,
-        &spaces,
-        65_536,
-    )?;
-    assert!(rt; said.is_empty());
-    Ok(())
-}
-
-#[test]
 fn a_line_may_have_no_more_bytes(rt: HostRuntime) -> Result<(), Fail> {
     let mut reader = reader(rt.alloc(), "p", "")?;
     let mut segments = Vec::new(rt.alloc());
