@@ -17,7 +17,8 @@ use Rattle.tre_zone.specs.declared.zone_bounds.ZoneBounds.{ZoneBounds}
 use Rattle.tre_zoneset.specs.ZoneSet.{IsZoneSet}
 use Rattle.tre_tell.specs.Outputs.{OutputTold, NothingWritten}
 use Rattle.tre_tell.specs.Sought.{Sought, all_names}
-use Rattle.tre_answer.specs.Ends.{IsAnswerIn, ReadsInput, StandsSoFar, EndsAtInput}
+use Rattle.tre_answer.specs.Answering.{IsTextIn, StandsBefore, IsAtFault}
+use Rattle.tre_answer.specs.Ends.{ReadsInput}
 use Rattle.tre_answer.specs.Parts.{IsFound, IsFoundFor, StopsAs}
 use Rattle.tre_answer.specs.Recorded.{recording_for}
 use Rattle.tre_answer.specs.Request.{Request}
@@ -104,7 +105,7 @@ module _ (request : Request) (input : InputTold) (set zones : List ZoneBounds) (
       → text ≡ offline_text request.job.scale zones end → IsFoundFor request input text
   IsFoundFor-text offline text few printed = record {
     reads = found.reads;
-    right = subst (λ mode. IsAnswerIn mode request input text) (sym offline) (record {
+    right = subst (λ mode. IsTextIn mode request input text) (sym offline) (record {
       bytes = found.bytes;
       all = found.all;
       is_so = record {
@@ -142,7 +143,7 @@ module _ (request : Request) (input : InputTold) (offline : request.job.mode ≡
   reads_here = rw offline tt
 
   nothing_so_far : (output : OutputTold) (blocks : Type 0) → NothingWritten output
-      → StandsSoFar request.job.mode output blocks
+      → StandsBefore request.job.mode output blocks
   nothing_so_far output blocks unwritten = rw offline unwritten
 
   -- memory was wanting
@@ -151,7 +152,7 @@ module _ (request : Request) (input : InputTold) (offline : request.job.mode ≡
 
   stops_decided : (outcome : Outcome) (output : OutputTold)
       → IsDecided (recording_for request) request.job.max_bytes input outcome
-      → NothingWritten output → EndsAtInput outcome request input output
+      → NothingWritten output → IsAtFault outcome request input output
   stops_decided outcome output decided unwritten = record {
     reads_input = reads_here;
     opened = decided.opened;

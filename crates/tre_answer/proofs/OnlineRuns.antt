@@ -14,7 +14,8 @@ use Rattle.tre_trace.specs.Reading.{Recording}
 use Rattle.tre_words.specs.declared.job.Job.{Job}
 use Rattle.tre_words.specs.declared.job.Mode.{Mode}
 use Rattle.tre_words.specs.declared.job.Mode.TheVariants.{Offline, Online, Show, Generate, Watch}
-use Rattle.tre_answer.specs.Ends.{ReadsInput, as_it_comes, IsAnswerIn, StandsSoFar, PartIsWritten, EndsAtInput, EndsOver}
+use Rattle.tre_answer.specs.Answering.{IsTextIn, StandsBefore, PartIsWritten, IsAtFault, EndsAnswering}
+use Rattle.tre_answer.specs.Ends.{ReadsInput, as_it_comes}
 use Rattle.tre_answer.specs.Recorded.{recording_for, watched_of}
 use Rattle.tre_answer.specs.Request.{Request, request_for}
 use Rattle.tre_answer.specs.declared.asked.Asked.{Asked}
@@ -38,7 +39,7 @@ told_reads (Watch file) comes = tt
 module _ (request : Request) (input : InputTold) (output : OutputTold) where
   told_answer : (mode : Mode) (text : List ℕ) → as_it_comes mode ≡ true
       → OfAllBytes input (λ bytes. IsOnlineAnswer (watched_of request) bytes text)
-      → IsAnswerIn mode request input text
+      → IsTextIn mode request input text
   told_answer Offline text comes right = absurd (cc)
   told_answer Online text comes right = right
   told_answer Show text comes right = absurd (cc)
@@ -46,14 +47,14 @@ module _ (request : Request) (input : InputTold) (output : OutputTold) where
   told_answer (Watch file) text comes right = right
 
   blocks_so_far : (mode : Mode) (blocks : Type 0) → as_it_comes mode ≡ true → blocks
-      → StandsSoFar mode output blocks
+      → StandsBefore mode output blocks
   blocks_so_far mode blocks comes stands =
       subst (λ told. MatchBool told blocks (NothingWritten output)) (sym comes) stands
 
   module _ (comes : as_it_comes request.job.mode ≡ true) where
     at_fault : (outcome : Outcome)
         → IsToldToFault (watched_of request) input output outcome
-        → EndsAtInput outcome request input output
+        → IsAtFault outcome request input output
     at_fault outcome told = record {
       reads_input = told_reads request.job.mode comes;
       opened = told.opened;
@@ -63,9 +64,9 @@ module _ (request : Request) (input : InputTold) (output : OutputTold) where
     }
 
     -- the input was told to its end
-    EndsOver-told : (value : Unit {0}) → IsTold (watched_of request) input output
-        → EndsOver request input output (Ok value)
-    EndsOver-told value told = record {
+    EndsAnswering-told : (value : Unit {0}) → IsTold (watched_of request) input output
+        → EndsAnswering request input output (Ok value)
+    EndsAnswering-told value told = record {
       reads = told.reads;
       text = told.text;
       right = told_answer request.job.mode told.text comes told.right;
@@ -74,19 +75,19 @@ module _ (request : Request) (input : InputTold) (output : OutputTold) where
     }
 
     -- the telling stopped
-    EndsOver-stopped : (fault : Fault)
+    EndsAnswering-stopped : (fault : Fault)
         → EndsTelling {T = Unit {0}} (watched_of request) request.job.input input output (Err fault)
-        → EndsOver {T = Unit {0}} request input output (Err fault)
-    EndsOver-stopped (Trace fault) told = (told.0, at_fault (refuses fault) told.1)
-    EndsOver-stopped TooLong told = at_fault exceeds told
-    EndsOver-stopped (TooManyZones zones) told = absurd told
-    EndsOver-stopped Read told = record {
+        → EndsAnswering {T = Unit {0}} request input output (Err fault)
+    EndsAnswering-stopped (Trace fault) told = (told.0, at_fault (refuses fault) told.1)
+    EndsAnswering-stopped TooLong told = at_fault exceeds told
+    EndsAnswering-stopped (TooManyZones zones) told = absurd told
+    EndsAnswering-stopped Read told = record {
       reads_input = told_reads request.job.mode comes;
       unread = record { cause = told.cause; unsound = told.unsound };
       goes_on = told.goes_on;
       stands = blocks_so_far request.job.mode _ comes told.stands;
     }
-    EndsOver-stopped Write told = record {
+    EndsAnswering-stopped Write told = record {
       cause = told.cause;
       reads = told.reads;
       stands = subst (λ told. MatchBool told
@@ -94,7 +95,7 @@ module _ (request : Request) (input : InputTold) (output : OutputTold) where
           ⊎ EndIsCut (watched_of request) input output)
           (PartIsWritten request input output)) (sym comes) told.stands;
     }
-    EndsOver-stopped Memory told =
+    EndsAnswering-stopped Memory told =
         (told.reads, blocks_so_far request.job.mode _ comes told.stands)
 
 -- What was told of these patterns is what was asked for.
@@ -111,13 +112,13 @@ module _ (job : Job) (definitions : Definitions) (asked : Asked) (texts : List (
       ≡ watched_of (request_for job definitions asked)
   as_asked = rw (same_texts, same_patterns, same, limited) refl
 
-  pub EndsOver-told_by : (result : Result (Unit {0}) Fault)
+  pub EndsAnswering-told_by : (result : Result (Unit {0}) Fault)
       → EndsTelling (watched_by texts patterns recording limit job.scale) name input output result
-      → EndsOver (request_for job definitions asked) input output result
-  EndsOver-told_by (Ok value) told = EndsOver-told (request_for job definitions asked) input output
+      → EndsAnswering (request_for job definitions asked) input output result
+  EndsAnswering-told_by (Ok value) told = EndsAnswering-told (request_for job definitions asked) input output
       (told_way job.mode reads other) value
       (subst (λ watched. IsTold watched input output) as_asked told)
-  EndsOver-told_by (Err fault) told = EndsOver-stopped (request_for job definitions asked) input output
+  EndsAnswering-told_by (Err fault) told = EndsAnswering-stopped (request_for job definitions asked) input output
       (told_way job.mode reads other) fault
       (subst (λ n. EndsTelling {T = Unit {0}} (watched_of (request_for job definitions asked)) n input
       output (Err fault)) same_name

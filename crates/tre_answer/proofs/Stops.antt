@@ -10,7 +10,8 @@ use Rattle.tre_tell.specs.Outputs.{OutputTold, AllWritesGood}
 use Rattle.tre_tell.specs.Standing.{BlockIsCut, EndIsCut}
 use Rattle.tre_words.specs.declared.job.Mode.{Mode}
 use Rattle.tre_words.specs.declared.job.Mode.TheVariants.{Offline, Online, Show, Generate, Watch}
-use Rattle.tre_answer.specs.Ends.{ReadsInput, as_it_comes, PartIsWritten, EndsOver}
+use Rattle.tre_answer.specs.Answering.{PartIsWritten, EndsAnswering}
+use Rattle.tre_answer.specs.Ends.{ReadsInput, as_it_comes}
 use Rattle.tre_answer.specs.Parts.{IsFoundFor}
 use Rattle.tre_answer.specs.Recorded.{watched_of}
 use Rattle.tre_answer.specs.Request.{Request}
@@ -26,12 +27,12 @@ pub made_once : (mode : Mode) (count : ℕ) → mode ≡ Generate count → as_i
 made_once mode count makes = ap as_it_comes makes
 
 -- an answer that is written at once, and of which a write failed
-EndsOver-cut : (request : Request) (input : InputTold) (output : OutputTold) (text : List ℕ)
+EndsAnswering-cut : (request : Request) (input : InputTold) (output : OutputTold) (text : List ℕ)
     → as_it_comes request.job.mode ≡ false → IsFoundFor request input text
     → output.now.faults ≡ counted output.before.faults
     → AppendsPart output.before.written output.now.written text
-    → EndsOver {T = Unit {0}} request input output (Err Write)
-EndsOver-cut request input output text once found cause part = record {
+    → EndsAnswering {T = Unit {0}} request input output (Err Write)
+EndsAnswering-cut request input output text once found cause part = record {
   cause = cause;
   reads = found.reads;
   stands = subst (λ comes. MatchBool comes
@@ -41,11 +42,11 @@ EndsOver-cut request input output text once found cause part = record {
 }
 
 -- one that was written
-EndsOver-done : (request : Request) (input : InputTold) (output : OutputTold) (text : List ℕ)
+EndsAnswering-done : (request : Request) (input : InputTold) (output : OutputTold) (text : List ℕ)
     (value : Unit {0}) → IsFoundFor request input text → AllWritesGood output
     → Appends output.before.written output.now.written text
-    → EndsOver request input output (Ok value)
-EndsOver-done request input output text value found writes written = record {
+    → EndsAnswering request input output (Ok value)
+EndsAnswering-done request input output text value found writes written = record {
   reads = found.reads;
   text = text;
   right = found.right;
@@ -54,20 +55,20 @@ EndsOver-done request input output text value found writes written = record {
 }
 
 -- an answer of which all, or a first part, was written at once
-pub EndsOver-written : (request : Request) (input : InputTold) (output : OutputTold)
+pub EndsAnswering-written : (request : Request) (input : InputTold) (output : OutputTold)
     (text given : List ℕ) → given ≡ text → as_it_comes request.job.mode ≡ false
     → IsFoundFor request input text → (result : Result (Unit {0}) Fault)
     → OnOk result (Appends output.before.written output.now.written given)
     → OnOk result (AllWritesGood output)
     → OnErr result (AppendsPart output.before.written output.now.written given)
     → OnErr result (output.now.faults ≡ counted output.before.faults)
-    → IfErr result (λ fault. fault ≡ Write) → EndsOver request input output result
-EndsOver-written request input output text given same once found (Ok value) all good part cause
-    fault = EndsOver-done request input output text value found good
+    → IfErr result (λ fault. fault ≡ Write) → EndsAnswering request input output result
+EndsAnswering-written request input output text given same once found (Ok value) all good part cause
+    fault = EndsAnswering-done request input output text value found good
     (subst (Appends output.before.written output.now.written) same all)
-EndsOver-written request input output text given same once found (Err fault) all good part cause
-    is = subst (λ f. EndsOver {T = Unit {0}} request input output (Err f)) (sym is)
-    (EndsOver-cut request input output text once found cause
+EndsAnswering-written request input output text given same once found (Err fault) all good part cause
+    is = subst (λ f. EndsAnswering {T = Unit {0}} request input output (Err f)) (sym is)
+    (EndsAnswering-cut request input output text once found cause
     (subst (AppendsPart output.before.written output.now.written) same part))
 
 -- a job that shows its patterns, or makes its trace, reads no input, and another does

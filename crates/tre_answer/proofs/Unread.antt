@@ -14,7 +14,8 @@ use Rattle.tre_tell.proofs.Loop.{FirstBlocksStand-unread}
 use Rattle.tre_words.specs.declared.job.Job.{Job}
 use Rattle.tre_words.specs.declared.job.Mode.{Mode}
 use Rattle.tre_words.specs.declared.job.Mode.TheVariants.{Show, Generate}
-use Rattle.tre_answer.specs.Ends.{as_it_comes, IsAnswerIn, EndsOver}
+use Rattle.tre_answer.specs.Answering.{IsTextIn, EndsAnswering}
+use Rattle.tre_answer.specs.Ends.{as_it_comes}
 use Rattle.tre_answer.specs.Parts.{IsFoundFor}
 use Rattle.tre_answer.specs.Recorded.{recording_for, watched_of}
 use Rattle.tre_answer.specs.Request.{FitsJob, request_for}
@@ -36,9 +37,9 @@ module _ (job : Job) (definitions : Definitions) (asked : Asked) (input : InputT
       (recording_for request) job.max_bytes job.scale (nothing_said request) input output
       (λ is_open. cc) (λ is_open. cc) unwritten
 
-  pub EndsOver-early : input.now.opened ≡ false → AllReadsGood input → NothingWritten output
-      → EndsOver {T = Unit {0}} (request_for job definitions asked) input output (Err Memory)
-  EndsOver-early closed reads unwritten =
+  pub EndsAnswering-early : input.now.opened ≡ false → AllReadsGood input → NothingWritten output
+      → EndsAnswering {T = Unit {0}} (request_for job definitions asked) input output (Err Memory)
+  EndsAnswering-early closed reads unwritten =
       (reads, early_by (as_it_comes job.mode) closed unwritten)
 
 -- ---- where no input is read
@@ -85,13 +86,13 @@ module _ (job : Job) (definitions : Definitions) (asked : Asked) (fits : FitsJob
     (reads : AllReadsGood input) (text : List ℕ) where
   shown_in : (mode : Mode) → mode ≡ Show
       → text ≡ expression_text job.scale (names_of pattern) (pattern_tree pattern) ++ codes "\n"
-      → IsAnswerIn mode (request_for job definitions asked) input text
+      → IsTextIn mode (request_for job definitions asked) input text
   shown_in mode is same = rw is (shown_one job.scale (map string_bytes asked.labels.items)
       asked.patterns.items pattern text (labels_fit job definitions asked fits) alone first same)
 
   made_in : (mode : Mode) (count : ℕ) (copy : Pattern) → mode ≡ Generate count
       → pattern_tree copy ≡ pattern_tree pattern → IsSummary (pattern_tree copy) count text
-      → IsAnswerIn mode (request_for job definitions asked) input text
+      → IsTextIn mode (request_for job definitions asked) input text
   made_in mode count copy is copied summary = rw is (made_one count
       (map string_bytes asked.labels.items) asked.patterns.items pattern copy text
       (labels_fit job definitions asked fits) alone first copied summary)

@@ -1,9 +1,8 @@
 -- When two requests ask for the same of two inputs.
 use Rattle.std.specs.Prelude.{◌≡◌, ℕ, ◌<◌, ◌≤◌, ◌↔◌, true, List}
-use Rattle.tre_tell.specs.Watched.{AreTraces}
 use Rattle.tre_trace.specs.Reading.{no_names, segments_for}
 use Rattle.tre_trace.specs.Trace.{Timeline, end_of}
-use Rattle.tre_answer.specs.Recorded.{recording_for, watched_of}
+use Rattle.tre_answer.specs.Recorded.{recording_for, AreReadAs}
 use Rattle.tre_answer.specs.Request.{Request}
 use Rattle.tre_answer.specs.Wanted.{IsWanted}
 
@@ -15,6 +14,6 @@ pub record WantTheSame (one other : Request) (bytes others : List ℕ) : Type 0 
   pub most : one.job.max_zones ≡ other.job.max_zones
   pub end : end_of 0 (segments_for no_names (recording_for one true bytes).stretches)
       ≡ end_of 0 (segments_for no_names (recording_for other true others).stretches)
-  pub wanted : (traces seconds : List Timeline) → AreTraces (watched_of one) bytes traces
-      → AreTraces (watched_of other) others seconds → (a b n : ℕ) → 0 < n → a ≤ b
+  pub wanted : (traces seconds : List Timeline) → AreReadAs one bytes traces
+      → AreReadAs other others seconds → (a b n : ℕ) → 0 < n → a ≤ b
       → IsWanted one.patterns traces a b n ↔ IsWanted other.patterns seconds a b n

@@ -6,14 +6,13 @@ use Rattle.tre_feed.specs.Standing.{Asks, limit_of}
 use Rattle.tre_feed.specs.declared.input.Input.{Input}
 use Rattle.tre_syntax.specs.Pattern.{names_of}
 use Rattle.tre_tell.specs.Outputs.{OutputTold, NothingWritten}
-use Rattle.tre_tell.specs.Watched.{AreTraces}
 use Rattle.tre_trace.specs.Reading.{Vocabulary, no_names, segments_for}
 use Rattle.tre_trace.specs.Trace.{Timeline, end_of}
 use Rattle.tre_words.specs.declared.job.Job.{Job}
 use Rattle.tre_zone.specs.ZoneList.{HoldExactly}
 use Rattle.tre_zone.specs.declared.zone_bounds.ZoneBounds.{ZoneBounds}
-use Rattle.tre_answer.specs.Ends.{EndsOver, IsAnswerIn}
-use Rattle.tre_answer.specs.Recorded.{recording_for, watched_of}
+use Rattle.tre_answer.specs.Answering.{EndsAnswering, IsTextIn}
+use Rattle.tre_answer.specs.Recorded.{recording_for, AreReadAs}
 use Rattle.tre_answer.specs.Request.{Request}
 use Rattle.tre_answer.specs.Wanted.{IsWanted}
 use Rattle.tre_answer.specs.declared.asked.Asked.{Asked}
@@ -21,12 +20,12 @@ use Rattle.tre_answer.specs.declared.asked.Asked.{Asked}
 -- What was done with the input is as at an end with this fault that wrote nothing.
 abbrev pub StopsAs : Request → InputTold → Fault → Type 0
 StopsAs request input fault = (output : OutputTold) → NothingWritten output →
-    EndsOver {T = Unit {0}} request input output (Err fault)
+    EndsAnswering {T = Unit {0}} request input output (Err fault)
 
 -- The text is the answer to the request, and nothing of the input is left.
 pub record IsFoundFor (request : Request) (input : InputTold) (text : List ℕ) : Type 0 where
   pub reads : AllReadsGood input
-  pub right : IsAnswerIn request.job.mode request input text
+  pub right : IsTextIn request.job.mode request input text
 
 -- The zones hold just the pairs that a request asks for over the whole input, which ends so.
 pub record IsFound (request : Request) (input : InputTold) (zones : List ZoneBounds) (end : ℕ)
@@ -35,7 +34,7 @@ pub record IsFound (request : Request) (input : InputTold) (zones : List ZoneBou
   pub bytes : List ℕ
   pub all : AreAllBytes input bytes
   pub traces : List Timeline
-  pub are : AreTraces (watched_of request) bytes traces
+  pub are : AreReadAs request bytes traces
   pub exact : HoldExactly zones (IsWanted request.patterns traces)
   pub ends : end
       ≡ end_of 0 (segments_for no_names (recording_for request true bytes).stretches)

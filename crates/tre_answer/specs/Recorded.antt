@@ -1,11 +1,13 @@
 -- What the bytes of an input say, in the format of a request.
-use Rattle.std.specs.Prelude.{ℕ, Bool, List, [], ◌∷◌}
-use Rattle.tre_feed.specs.Comes.{Outcome, outcome_of}
+use Rattle.std.specs.Prelude.{◌≡◌, ℕ, ◌≤◌, nat_le, All, Bool, true, List, [], ◌∷◌, length, map, take, None}
+use Rattle.tre_feed.specs.Comes.{Outcome, outcome_from}
+use Rattle.tre_feed.specs.Traces.{trace_for}
 use Rattle.tre_num.specs.Rows.{rows_recording}
 use Rattle.tre_tell.specs.Sought.{Sought, all_names}
 use Rattle.tre_tell.specs.Watched.{Watched}
 use Rattle.tre_text.specs.TextReading.{text_recording}
 use Rattle.tre_trace.specs.Reading.{Recording, Vocabulary, no_names}
+use Rattle.tre_trace.specs.Trace.{Timeline, IsTrace}
 use Rattle.tre_vcd.specs.VcdReading.{vcd_recording}
 use Rattle.tre_words.specs.declared.job.Format.{Format}
 use Rattle.tre_words.specs.declared.job.Format.TheVariants.{Text, Vcd, Csv}
@@ -43,5 +45,23 @@ watched_of request = record {
   scale = request.job.scale;
 }
 
-abbrev pub outcome_for : Request → List ℕ → Outcome
-outcome_for request bytes = outcome_of (recording_for request) request.job.max_bytes bytes
+-- What is known of bytes, closed or not yet: those past the limit aren't judged.
+abbrev pub known_for : Request → Bool → List ℕ → Recording
+known_for request closed bytes = recording_for request closed (take request.job.max_bytes bytes)
+
+-- What all bytes say: those past the limit keep the input from closing.
+abbrev pub whole_recording : Request → List ℕ → Recording
+whole_recording request bytes =
+    known_for request (nat_le (length bytes) request.job.max_bytes) bytes
+
+unfoldable pub outcome_for : Request → List ℕ → Outcome
+outcome_for request bytes = outcome_from (nat_le (length bytes) request.job.max_bytes)
+    (whole_recording request bytes).fault
+
+-- The bytes are within the limit, they have no fault, and each pattern has its trace of them.
+pub record AreReadAs (request : Request) (bytes : List ℕ) (traces : List Timeline) : Type 0 where
+  pub within : length bytes ≤ request.job.max_bytes
+  pub whole : (recording_for request true bytes).fault ≡ None
+  pub are : traces ≡ map (λ pattern. trace_for (recording_for request true bytes) pattern.names)
+      request.patterns
+  pub are_traces : All (λ trace. IsTrace trace.segments) traces

@@ -10,8 +10,7 @@ use Rattle.tre_trace.specs.Trace.{Timeline, end_of}
 use Rattle.tre_zone.specs.ZoneList.{IsApart, AreTight, HoldExactly}
 use Rattle.tre_zone.specs.declared.zone_bounds.ZoneBounds.{ZoneBounds}
 use Rattle.tre_tell.specs.Sought.{Sought}
-use Rattle.tre_tell.specs.Watched.{AreTraces}
-use Rattle.tre_answer.specs.Recorded.{recording_for, watched_of}
+use Rattle.tre_answer.specs.Recorded.{recording_for, AreReadAs}
 use Rattle.tre_answer.specs.Request.{Request}
 
 -- A match of one of the patterns, each over its own trace.
@@ -38,7 +37,7 @@ pub record AreZonesOf (normal : Bool) (wanted : Pairs) (zones : List ZoneBounds)
 pub record AreZonesFor (request : Request) (bytes : List ℕ) (zones : List ZoneBounds) : Type 0
   where
     pub traces : List Timeline
-    pub are : AreTraces (watched_of request) bytes traces
+    pub are : AreReadAs request bytes traces
     pub found : AreZonesOf request.job.normal (IsWanted request.patterns traces) zones
 
 -- The text tells zones that are right for an input of these bytes, no more than there may be.

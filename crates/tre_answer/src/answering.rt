@@ -1,5 +1,6 @@
 // From a request to the text that answers it.
 ghost use Rattle.std.specs.Prelude.{◌≡◌, ◌≤◌, ◌<◌, ◌+◌, ◌++◌, codes, false, IsTrue, IfOk, IfSome, length, string_bytes};
+ghost use Rattle.tre_answer.specs.Answering.{EndsAnswering};
 ghost use Rattle.tre_answer.specs.Ends.{EndsOver, ReadsInput};
 ghost use Rattle.tre_answer.specs.Parts.{IsInputOf};
 ghost use Rattle.tre_answer.specs.Recorded.{recording_for};
@@ -43,7 +44,7 @@ fn answer_by<S: Source, R: TraceReader + Drop, O: Sink>(
     requires new { IsNew R.terms R.represents R.names input }
     ensures ends { (definitions : Definitions) → recording_of R.recording R.terms input
         ≡ recording_for (request_for job.now definitions asked.now) →
-        EndsOver (request_for job.now definitions asked.now)
+        EndsAnswering (request_for job.now definitions asked.now)
         (input_told (S.told source.old) (S.told source.new))
         (output_told (O.told out.old) (O.told out.new)) result }
     ensures bounded { IsTrue (S.told source.new).opened →
@@ -82,7 +83,7 @@ fn answer_input<S: Source, O: Sink>(
     requires job { IsJob job.now }
     requires reads { ReadsInput job.now.mode }
     requires fits { FitsJob job.now asked.now }
-    ensures ends { EndsOver (request_for job.now definitions asked.now)
+    ensures ends { EndsAnswering (request_for job.now definitions asked.now)
         (input_told (S.told source.old) (S.told source.new))
         (output_told (O.told out.old) (O.told out.new)) result }
     ensures bounded { IsTrue (S.told source.new).opened →

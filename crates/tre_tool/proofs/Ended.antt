@@ -3,7 +3,7 @@
 use Rattle.std.proofs.Common.{◌≡◌, ◌≢◌, Result, Ok, Err, refl, inl, inr}
 use Rattle.tre_answer.specs.Ends.{EndsOver}
 use Rattle.tre_feed.specs.declared.fault.Fault.{Fault}
-use Rattle.tre_feed.specs.declared.fault.Fault.TheVariants.{Trace as FaultTrace, TooLong as FaultTooLong, TooManyZones as FaultTooMany, Read as FaultRead, Write as FaultWrite, Memory as FaultMemory}
+use Rattle.tre_feed.specs.declared.fault.Fault.TheVariants.{Trace as FaultTrace, TooLong as FaultTooLong, TooManyZones as FaultTooMany, Read as FaultRead, Write as FaultWrite}
 use Rattle.tre_feed.specs.Input.{InputTold}
 use Rattle.tre_tell.specs.Outputs.{OutputTold}
 use Rattle.tre_words.specs.declared.job.Job.{Job}

@@ -1,16 +1,15 @@
 -- What words of a made run give, and how such a run ends.
-use Rattle.std.proofs.Common.{◌≡◌, ◌∙◌, ℕ, Bool, true, List, [], All, Some, Ok, Err, ap, sym, subst, ⊎_elim, arith}
-use Rattle.std.specs.Prelude.{◌⊎◌, MatchBool, option_map}
+use Rattle.std.proofs.Common.{◌≡◌, ◌∙◌, ℕ, Bool, true, false, List, [], All, Some, Ok, Err, ap, sym, subst, ⊎_elim, arith}
+use Rattle.std.specs.Prelude.{IsTrue, MatchBool, option_map}
 use Rattle.std.proofs.lemmas.Bool.Decides.{when_true}
-use Rattle.tre_answer.specs.Ends.{ReadsInput, as_it_comes, IsAnswerIn, StandsSoFar, PartIsWritten, EndsOver, StandsAtMemory}
-use Rattle.tre_answer.specs.Recorded.{watched_of}
+use Rattle.tre_answer.specs.Ends.{ReadsInput, as_it_comes, IsAnswerIn, EndsOver, StandsAtMemory}
+use Rattle.tre_answer.specs.Online.{BlocksStand}
 use Rattle.tre_answer.specs.Request.{Request}
 use Rattle.tre_feed.specs.declared.fault.Fault.TheVariants.{Trace as FaultTrace, TooLong as FaultTooLong, TooManyZones as FaultTooMany, Read as FaultRead, Write as FaultWrite, Memory as FaultMemory}
 use Rattle.tre_feed.specs.Input.{InputTold}
 use Rattle.tre_generate.specs.FixedPattern.{fixed_tree, fixed_vocabulary}
 use Rattle.tre_generate.specs.Summary.{IsSummary}
 use Rattle.tre_tell.specs.Outputs.{OutputTold, NothingWritten}
-use Rattle.tre_tell.specs.Standing.{FirstBlocksStand, BlockIsCut, EndIsCut}
 use Rattle.tre_watch.specs.Outcome.{Outcome}
 use Rattle.tre_words.specs.Job.{GivesJob, made_count, made_job}
 use Rattle.tre_words.specs.declared.job.Job.{Job}
@@ -25,6 +24,10 @@ use Rattle.tre_tool.proofs.Ended.{Answer, answered_status, Ended, by_usage, by_r
 
 one_value : {X : Type 0} {x y : X} → Some x ≡ Some y → x ≡ y
 one_value e = cc
+
+-- what is written at once isn't written as the input comes
+written_once : {X : Type 0} (comes : Bool) → comes ≡ false → IsTrue comes → X
+written_once comes is so = absurd (cc)
 
 module _ (words : List (List ℕ)) (count : ℕ) (asks : AsksForMadeRun words count) where
   job_given : (job : Job) → GivesJob words job → job ≡ made_job count
@@ -42,12 +45,13 @@ module _ (words : List (List ℕ)) (count : ℕ) (asks : AsksForMadeRun words co
   mode_given job gives = ap (λ (j : Job). j.mode) (job_given job gives)
 
   module _ (Says : ℕ → Outcome → Type 0) where
-    summary_asked : (request : Request) (input : InputTold) (text : List ℕ)
+    summary_asked : (request : Request) (input : InputTold) (front text : List ℕ)
         → AsksFor (GivesJob words) Says request
-        → IsAnswerIn request.job.mode request input text → IsSummary fixed_tree count text
-    summary_asked request input text asked right =
-        let here : IsAnswerIn (Generate count) request input text =
-        subst (λ (mode : Mode). IsAnswerIn mode request input text)
+        → IsAnswerIn request.job.mode request input front text
+        → IsSummary fixed_tree count text
+    summary_asked request input front text asked right =
+        let here : IsAnswerIn (Generate count) request input front text =
+        subst (λ (mode : Mode). IsAnswerIn mode request input front text)
         (mode_given request.job asked.gives) right in
         let one : request.patterns ≡ alone fixed_tree fixed_vocabulary =
         subst (λ (mode : Mode). ArePatterns mode Says request.job request.patterns)
@@ -70,9 +74,9 @@ module _ (words : List (List ℕ)) (count : ℕ) (asks : AsksForMadeRun words co
         → AsksFor (GivesJob words) Says request → StandsAtMemory request input output
         → NothingWritten output
     stands_nothing request input output asked stands =
-        subst (λ (mode : Mode). StandsSoFar mode output
-        (FirstBlocksStand (watched_of request) input output))
-        (mode_given request.job asked.gives) stands
+        subst (λ (mode : Mode). MatchBool (as_it_comes mode)
+        (BlocksStand request output stands.0) (NothingWritten output))
+        (mode_given request.job asked.gives) stands.2
 
     -- how it ends, of an answer to what they ask for
     answered_made : (request : Request) (input : InputTold) (output : OutputTold)
@@ -81,9 +85,9 @@ module _ (words : List (List ℕ)) (count : ℕ) (asks : AsksForMadeRun words co
         → EndsMadeRun count output (answered_status answer)
     answered_made request input output (Ok value) asked done = record {
       text = done.text;
-      right = summary_asked request input done.text asked done.right;
-      writes = done.writes;
-      written = done.written;
+      right = summary_asked request input done.front done.text asked done.right;
+      writes = done.written.writes;
+      written = done.written.written;
     }
     answered_made request input output (Err (FaultTrace fault)) asked found =
         reads_nothing request asked found.1.reads_input
@@ -96,16 +100,17 @@ module _ (words : List (List ℕ)) (count : ℕ) (asks : AsksForMadeRun words co
     answered_made request input output (Err FaultRead) asked found =
         reads_nothing request asked found.reads_input
     answered_made request input output (Err FaultWrite) asked found =
-        let here : PartIsWritten request input output =
-        subst (λ (mode : Mode). MatchBool (as_it_comes mode)
-        (BlockIsCut (watched_of request) input output ⊎ EndIsCut (watched_of request) input output)
-        (PartIsWritten request input output))
-        (mode_given request.job asked.gives) found.stands in
         record {
-          text = here.text;
-          right = summary_asked request input here.text asked here.right;
-          cause = found.cause;
-          written = here.written;
+          text = found.text;
+          right = ⊎_elim (summary_asked request input found.front found.text asked)
+              (λ block. written_once (as_it_comes request.job.mode)
+              (ap as_it_comes (mode_given request.job asked.gives)) block.0) found.right;
+          cause = found.cut.cause;
+          written = record {
+            count = found.cut.count;
+            short = found.cut.short;
+            appends = found.cut.written;
+          };
         }
     answered_made request input output (Err FaultMemory) asked found =
         stands_nothing request input output asked found.1

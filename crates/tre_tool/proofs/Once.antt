@@ -12,7 +12,7 @@ use Rattle.tre_words.specs.declared.job.Job.{Job}
 use Rattle.tre_words.specs.declared.job.Mode.{Mode}
 use Rattle.tre_words.specs.declared.job.Mode.TheVariants.{Offline, Online, Show, Generate, Watch as WatchMode}
 use Rattle.tre_tool.specs.Checks.{SayPatterns, labelled}
-use Rattle.tre_tool.specs.Request.{texts_with, ArePatterns, AreDefinitions, AreRefusedDefinitions, IsRefusalOfWatch, IsRefusalIn, AsksFor, Asks, IsRefused, AsksForNothing}
+use Rattle.tre_tool.specs.Request.{texts_with, ArePatterns, AreDefinitions, AreRefusedDefinitions, IsRefusalOfWatch, IsRefusalIn, AsksFor, IsRefused, AsksForNothing}
 use Rattle.tre_tool.specs.declared.status.Status.{Status}
 use Rattle.tre_tool.specs.declared.status.Status.TheVariants.{Done, Usage, Expression, Minus, Definitions, Watch, Trace, InputTooLong, TooManyZones, ReadFault, WriteFault, Memory}
 use Rattle.tre_tool.proofs.Texts.{spell_once, definitions_once, defined_or_refused, lets_once, texts_or_refused, text_refusal_once}
@@ -170,10 +170,10 @@ module _ (Gives : Job → Type 0) (once : GiveOne Gives) (Says Tells : Meaning)
       ∙ ap (λ s. request_of other.job other.patterns other.lets s) same_lets.1))
 
   -- what is so of it
-  pub the_request : (request : Request) (IsSo : Request → Type 0) → AsksFor Gives Tells request
-      → Asks Gives Says IsSo → IsSo request
-  the_request request IsSo asks some = subst IsSo
-      (request_once some.request request some.asks asks) some.is_so
+  pub the_request : (request other : Request) (IsSo : Request → Type 0)
+      → AsksFor Gives Tells request → AsksFor Gives Says other → IsSo other → IsSo request
+  the_request request other IsSo asks asks' so =
+      subst IsSo (request_once other request asks' asks) so
 
   -- it isn't refused
   pub asked_or_refused : (request : Request) (refusal : Status) → AsksFor Gives Says request

@@ -1,6 +1,6 @@
 -- The end of a run by the parts that it is made of.
-use Rattle.std.proofs.Common.{◌≡◌, ◌≢◌, List, ℕ, Option, None, Some, IfSome, Result, Ok, Err, OnOk, OnErr, refl, sym, subst, inl, inr}
-use Rattle.std.specs.Io.KnownBytes.{Appends}
+use Rattle.std.proofs.Common.{◌≡◌, ◌≢◌, List, ℕ, ◌≤◌, length, arith, Option, None, Some, IfSome, Result, Ok, Err, OnOk, OnErr, refl, sym, subst, inl, inr}
+use Rattle.std.specs.Io.KnownBytes.{Appends, Consumes}
 use Rattle.tre_answer.specs.Ends.{ReadsInput, EndsOver, EndsDone}
 use Rattle.tre_answer.specs.Request.{Request, request_for, sought_in}
 use Rattle.tre_answer.specs.declared.asked.Asked.{Asked}
@@ -8,7 +8,7 @@ use Rattle.tre_answer.specs.declared.asked.Definitions.{Definitions as Meanings}
 use Rattle.tre_feed.specs.declared.fault.Fault.{Fault}
 use Rattle.tre_feed.specs.declared.fault.Fault.TheVariants.{Trace as FaultTrace, TooLong as FaultTooLong, TooManyZones as FaultTooMany, Read as FaultRead, Write as FaultWrite, Memory as FaultMemory}
 use Rattle.tre_feed.specs.Front.{IsUnreadable}
-use Rattle.tre_feed.specs.Input.{InputTold, AllReadsGood}
+use Rattle.tre_feed.specs.Input.{InputTold, AllReadsGood, TakesAtMost}
 use Rattle.tre_io.specs.Faults.{HasCause}
 use Rattle.tre_io.specs.Written.{AppendsPart}
 use Rattle.tre_io.specs.declared.faults.Failed.{Failed}
@@ -161,14 +161,29 @@ never_first FaultRead first = first
 never_first FaultWrite first = first
 never_first FaultMemory first = first
 
+none_behind : (n : ℕ) → 0 ≤ n
+none_behind n = omega (arith)
+
 -- a call that tells a line, or fails
 pub IsLineTold-of : {T : Type 0} (output : OutputTold) (line : List ℕ) (result : Result T Failed)
     → HasCause output.before.faults output.now.faults result
     → OnOk result (Appends output.before.written output.now.written line)
     → OnErr result (AppendsPart output.before.written output.now.written line)
     → IsLineTold output line
-IsLineTold-of output line (Ok value) cause all part = inl (cause.ok, all)
-IsLineTold-of output line (Err fault) cause all part = inr (cause.failed, part)
+IsLineTold-of output line (Ok value) cause all part =
+    inl (record { writes = cause.ok; written = all })
+IsLineTold-of output line (Err fault) cause all part = inr (record {
+  cause = cause.failed;
+  count = part.count;
+  behind = none_behind part.count;
+  short = part.short;
+  written = part.appends;
+})
+
+-- what was taken of a file
+pub taken_of : (most : ℕ) (file left : Option (List ℕ)) → TakesAtMost most file left
+    → (taken : List ℕ) × (length taken ≤ most) × Consumes file left taken
+taken_of most file left takes = (takes.taken, takes.few, takes.front)
 
 -- ---- the job that words give
 

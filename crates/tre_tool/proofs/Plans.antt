@@ -1,5 +1,5 @@
 -- What a file of checks comes to, from what was read of it.
-use Rattle.std.proofs.Common.{◌≡◌, ◌≢◌, ◌⊎◌, ℕ, ◌+◌, ◌<◌, nat_le, nat_lt, Bool, true, false, MatchBool, Option, None, Some, is_some, IfSome, List, [], ◌∷◌, ◌++◌, codes, length, take, map, slice_get, string_bytes, String, Global, refl, sym, ◌∙◌, ap, subst, inl, inr, ⊎_elim, append-nil, length-append, arith}
+use Rattle.std.proofs.Common.{◌≡◌, ◌≢◌, ◌⊎◌, ℕ, ◌+◌, ◌<◌, ◌≤◌, nat_le, nat_lt, Bool, true, false, MatchBool, Option, None, Some, is_some, IfSome, List, [], ◌∷◌, ◌++◌, codes, length, take, map, slice_get, string_bytes, String, Global, refl, sym, ◌∙◌, ap, subst, inl, inr, ⊎_elim, append-nil, length-append, arith}
 use Rattle.std.proofs.lemmas.Bool.{cases_lt}
 use Rattle.std.proofs.lemmas.Bool.Decides.{nat_tests}
 use Rattle.std.proofs.lemmas.List.{length-map, map-append, take_more}
@@ -66,15 +66,24 @@ whole_as_front scale bytes (Some told) (Some rest) outcome front all comes =
     (λ long. still_large scale bytes rest outcome (omega arith) comes)
     (cases_lt (length bytes) (FILE_MAX + 1)))
 
+below_next : (n : ℕ) → n ≤ FILE_MAX → n < FILE_MAX + 1
+below_next n few = omega (arith, few)
+
 pub ChecksWereRead-of : (checks : InputTold) (scale : ℕ) (bytes : List ℕ) (outcome : Outcome)
     → IsFront (FILE_MAX + 1) checks bytes → IsOutcome scale bytes outcome
     → ChecksWereRead checks scale outcome
 ChecksWereRead-of checks scale bytes outcome front comes = record {
-  bytes = bytes;
-  front = front;
-  comes = comes;
-  whole = whole_as_front scale bytes checks.before.file checks.now.left outcome front.front
-      front.all comes;
+  comes = record {
+    opened = front.opened;
+    reads = front.reads;
+    bytes = bytes;
+    front = front.front;
+    is_so = comes;
+    whole = whole_as_front scale bytes checks.before.file checks.now.left outcome front.front
+        front.all comes;
+  };
+  few = front.few;
+  all = λ few. front.all (below_next (length bytes) few);
 }
 
 -- ---- a plan

@@ -1,18 +1,16 @@
 -- What the end of a run says of each part of its promise.
-use Rattle.std.proofs.Common.{◌≡◌, ◌≤◌, ℕ, Bool, true, List, [], ◌∷◌, Option, None, Some, IfSome, Ok, Err, length, refl, sym, subst, inl, inr, ap, arith}
+use Rattle.std.proofs.Common.{◌≡◌, ℕ, List, Option, None, Some, IfSome, Ok, Err, length, refl, sym, subst, inl, inr, arith}
 use Rattle.tre_answer.specs.Ends.{ReadsInput, IsAnswerIn, EndsOver}
-use Rattle.tre_answer.specs.Recorded.{recording_for, watched_of, outcome_for}
+use Rattle.tre_answer.specs.Recorded.{AreReadAs, outcome_for}
 use Rattle.tre_answer.specs.Request.{Request}
 use Rattle.tre_feed.specs.declared.fault.Fault.TheVariants.{Trace as FaultTrace, TooLong as FaultTooLong, TooManyZones as FaultTooMany, Read as FaultRead, Write as FaultWrite, Memory as FaultMemory}
 use Rattle.tre_feed.specs.Input.{InputTold}
-use Rattle.tre_feed.specs.Comes.{Outcome, completes, refuses, exceeds, outcome_of, recording_within}
+use Rattle.tre_feed.specs.Comes.{Outcome, completes, refuses, exceeds}
 use Rattle.tre_feed.proofs.Cuts.{take-over}
 use Rattle.tre_feed.proofs.Outcomes.{within}
 use Rattle.tre_io.specs.Faults.{counted, Rises}
 use Rattle.tre_tell.specs.Outputs.{OutputTold}
-use Rattle.tre_tell.specs.Watched.{AreTraces}
-use Rattle.tre_trace.specs.Reading.{Reading}
-use Rattle.tre_trace.specs.Trace.{Timeline, quiet}
+use Rattle.tre_trace.specs.Trace.{Timeline}
 use Rattle.tre_watch.specs.Outcome.{Outcome as ChecksOutcome, IsOutcome}
 use Rattle.tre_watch.proofs.Outcomes.{one_outcome}
 use Rattle.tre_words.specs.declared.job.Job.{Job}
@@ -39,7 +37,7 @@ told_as scale bytes one other file told whole comes =
 pub read_as_told : (checks : InputTold) (scale : ℕ) (one other : ChecksOutcome)
     → ChecksWereRead checks scale one → ChecksAreTold checks scale other → one ≡ other
 read_as_told checks scale one other read told =
-    told_as scale told.bytes one other checks.before.file told.told read.whole told.comes
+    told_as scale told.bytes one other checks.before.file told.told read.comes.whole told.comes
 
 -- its bytes come to one thing
 pub told_once : (checks : InputTold) (scale : ℕ) (one other : ChecksOutcome)
@@ -70,8 +68,8 @@ one_more before now e = rw e (omega arith)
 
 -- traces that were read complete, whether their answer was written or has too many zones
 traces_complete : (request : Request) (bytes : List ℕ) (traces : List Timeline)
-    → AreTraces (watched_of request) bytes traces → outcome_for request bytes ≡ completes
-unfolding outcome_of
+    → AreReadAs request bytes traces → outcome_for request bytes ≡ completes
+unfolding outcome_for
 traces_complete request bytes traces are = rw (
   within (length bytes) request.job.max_bytes are.within,
   take-over request.job.max_bytes bytes are.within,
@@ -79,31 +77,28 @@ traces_complete request bytes traces are = rw (
 ) refl
 
 done_completes : (request : Request) (bytes : List ℕ) (traces : List Timeline)
-    → AreTraces (watched_of request) bytes traces → IsStatusFor (outcome_for request bytes) Done
+    → AreReadAs request bytes traces → IsStatusFor (outcome_for request bytes) Done
 done_completes request bytes traces are =
     rw (traces_complete request bytes traces are) (inl tt)
 
 many_completes : (request : Request) (bytes : List ℕ) (zones : ℕ) (traces : List Timeline)
-    → AreTraces (watched_of request) bytes traces
+    → AreReadAs request bytes traces
     → IsStatusFor (outcome_for request bytes) (TooManyZones zones)
 many_completes request bytes zones traces are =
     rw (traces_complete request bytes traces are) (inl tt)
 
 -- a run that is done, in each mode that reads its input
-done_in : (mode : Mode) (request : Request) (input : InputTold) (text : List ℕ)
-    → IsAnswerIn mode request input text → ReadsInput mode
+done_in : (mode : Mode) (request : Request) (input : InputTold) (front text : List ℕ)
+    → IsAnswerIn mode request input front text → ReadsInput mode
     → IfSome input.before.file (λ bytes. IsStatusFor (outcome_for request bytes) Done)
-done_in Offline request input text right reads =
-    weaker input.before.file _ _ (λ told is. rw is (done_completes request right.bytes
-    right.is_so.right.traces right.is_so.right.are)) right.all.whole
-done_in Online request input text right reads =
-    weaker input.before.file _ _ (λ told is. rw is (done_completes request right.bytes
-    right.is_so.traces right.is_so.are)) right.all.whole
-done_in (WatchMode file) request input text right reads =
-    weaker input.before.file _ _ (λ told is. rw is (done_completes request right.bytes
-    right.is_so.traces right.is_so.are)) right.all.whole
-done_in Show request input text right reads = absurd reads
-done_in (Generate count) request input text right reads = absurd reads
+done_in Offline request input front text right reads = weaker input.before.file _ _
+    (λ bytes so. done_completes request bytes so.right.traces so.right.are) right.1.whole
+done_in Online request input front text right reads = weaker input.before.file _ _
+    (λ bytes so. done_completes request bytes so.traces so.are) right.1.whole
+done_in (WatchMode file) request input front text right reads = weaker input.before.file _ _
+    (λ bytes so. done_completes request bytes so.traces so.are) right.1.whole
+done_in Show request input front text right reads = absurd reads
+done_in (Generate count) request input front text right reads = absurd reads
 
 module _ (request : Request) (input : InputTold) (output : OutputTold) where
   -- what must come of a request whose input is read
@@ -113,18 +108,18 @@ module _ (request : Request) (input : InputTold) (output : OutputTold) where
       → IfSome input.before.file (λ bytes.
       IsStatusFor (outcome_for request bytes) (answered_status answer))
   answered_read (Ok value) done reads read written =
-      done_in request.job.mode request input done.text done.right reads
+      done_in request.job.mode request input done.front done.text done.right reads
   answered_read (Err (FaultTrace fault)) found reads read written =
-      weaker input.before.file _ _ (λ bytes e. rw e (inl refl)) found.1.cause.whole
+      weaker input.before.file _ _ (λ bytes so. rw so.0 (inl refl)) found.1.comes.whole
   answered_read (Err FaultTooLong) found reads read written =
-      weaker input.before.file _ _ (λ bytes e. rw e (inl refl)) found.cause.whole
+      weaker input.before.file _ _ (λ bytes so. rw so.0 (inl refl)) found.comes.whole
   answered_read (Err (FaultTooMany zones)) many reads read written =
-      weaker input.before.file _ _ (λ told is. rw is (many_completes request many.cause.bytes zones
-      many.cause.is_so.right.traces many.cause.is_so.right.are)) many.cause.all.whole
+      weaker input.before.file _ _ (λ bytes so. many_completes request bytes zones
+      so.right.traces so.right.are) many.cause.whole
   answered_read (Err FaultRead) found reads read written =
       absurd (read (one_more _ _ found.unread.cause))
   answered_read (Err FaultWrite) found reads read written =
-      absurd (written (one_more _ _ found.cause))
+      absurd (written (one_more _ _ found.cut.cause))
   answered_read (Err FaultMemory) found reads read written =
       free input.before.file _ (λ bytes. memory_is_free (outcome_for request bytes))
 
@@ -140,7 +135,7 @@ module _ (request : Request) (input : InputTold) (output : OutputTold) where
       absurd (unread (rw many.offline tt))
   answered_unread (Err FaultRead) found unread written = absurd (unread found.reads_input)
   answered_unread (Err FaultWrite) found unread written =
-      absurd (written (one_more _ _ found.cause))
+      absurd (written (one_more _ _ found.cut.cause))
   answered_unread (Err FaultMemory) found unread written = inr refl
 
 module _ (Gives : Job → Type 0) (once : GiveOne Gives) (checks input : InputTold)
@@ -160,7 +155,7 @@ module _ (Gives : Job → Type 0) (once : GiveOne Gives) (checks input : InputTo
       → ChecksFailed other.mode checks
   failed job other file gives gives' watches cause =
       subst (λ (j : Job). ChecksFailed j.mode checks) (once job other gives gives')
-      (subst (λ (mode : Mode). ChecksFailed mode checks) (sym watches) (one_more _ _ cause))
+      (subst (λ (mode : Mode). ChecksFailed mode checks) (sym watches) (tt, one_more _ _ cause))
 
   read_as : (request : Request) (status : Status) → AsksFor Gives (ChecksAreTold checks) request
       → Ended Gives checks input output status → ReadsInput request.job.mode
@@ -181,7 +176,8 @@ module _ (Gives : Job → Type 0) (once : GiveOne Gives) (checks input : InputTo
   read_as request status asks (by_answer answer is some) reads known read written =
       rw is (answered_read request input output answer
       (the_request Gives once (ChecksWereRead checks) (ChecksAreTold checks) same request
-      (λ r. EndsOver r input output answer) asks some) reads read written)
+      some.request (λ r. EndsOver r input output answer) asks some.asks some.is_so) reads read
+      written)
 
   unread_as : (request : Request) (status : Status)
       → AsksFor Gives (ChecksAreTold checks) request → Ended Gives checks input output status
@@ -200,7 +196,7 @@ module _ (Gives : Job → Type 0) (once : GiveOne Gives) (checks input : InputTo
   unread_as request status asks (by_answer answer is some) unread written =
       rw is (answered_unread request input output answer
       (the_request Gives once (ChecksWereRead checks) (ChecksAreTold checks) same request
-      (λ r. EndsOver r input output answer) asks some) unread written)
+      some.request (λ r. EndsOver r input output answer) asks some.asks some.is_so) unread written)
 
   -- what must come of a refusal
   refused_as : (status refusal : Status) → Ended Gives checks input output status

@@ -1,18 +1,18 @@
 -- The file of checks, of which the words of a watch give the name: what was read of it, and which
 -- patterns it says.
-use Rattle.std.specs.Prelude.{◌≡◌, ℕ, ◌+◌, List, [], ◌∷◌, ◌++◌, IfSome, Some, codes}
-use Rattle.tre_feed.specs.Front.{IsFront}
+use Rattle.std.specs.Prelude.{◌≡◌, ℕ, ◌+◌, ◌≤◌, List, [], ◌∷◌, ◌++◌, length, Some, codes}
+use Rattle.std.specs.Io.KnownBytes.{IsAtEnd}
+use Rattle.tre_answer.specs.Streams.{OfBytes}
 use Rattle.tre_feed.specs.Input.{InputTold}
 use Rattle.tre_tell.specs.Sought.{Sought}
 use Rattle.tre_watch.specs.Outcome.{Outcome, SpeltPattern, planned, IsOutcome}
 use Rattle.tre_watch.specs.declared.reader.TheConstants.{FILE_MAX}
 
--- What was read of the file comes to this at the scale. So do all its bytes, where they are told.
+-- The file was read, whole or to one byte past what it may have, and comes to this at the scale.
 pub record ChecksWereRead (checks : InputTold) (scale : ℕ) (outcome : Outcome) : Type 0 where
-  pub bytes : List ℕ
-  pub front : IsFront (FILE_MAX + 1) checks bytes
-  pub comes : IsOutcome scale bytes outcome
-  pub whole : IfSome checks.before.file (λ all. IsOutcome scale all outcome)
+  pub comes : OfBytes checks (λ bytes. IsOutcome scale bytes outcome)
+  pub few : length comes.bytes ≤ FILE_MAX + 1
+  pub all : length comes.bytes ≤ FILE_MAX → IsAtEnd checks.now.left
 
 -- The file is told, and comes to this at the scale.
 pub record ChecksAreTold (checks : InputTold) (scale : ℕ) (outcome : Outcome) : Type 0 where

@@ -114,13 +114,6 @@ pub record AsksFor (Gives : Job → Type 0) (Says : ℕ → Outcome → Type 0) 
   pub patterns : ArePatterns request.job.mode Says request.job request.patterns
   pub definitions : AreDefinitions request.job request.lets request.signals
 
--- They ask for something of which this is true.
-pub record Asks (Gives : Job → Type 0) (Says : ℕ → Outcome → Type 0) (IsSo : Request → Type 0)
-    : Type 0 where
-  pub request : Request
-  pub asks : AsksFor Gives Says request
-  pub is_so : IsSo request
-
 -- They give a job that is refused so.
 pub record IsRefused (Gives : Job → Type 0) (Says : ℕ → Outcome → Type 0) (refusal : Status)
     : Type 0 where

@@ -1,23 +1,23 @@
 -- The promise of a run: how it ends, what each status means, and what was written. `Gives` is the
 -- job that the words give, and `checks` the source of the file of checks that a watch names.
-use Rattle.std.specs.Prelude.{◌≡◌, ◌⊎◌, ℕ, List, IfSome, IsTrue, String, false, map, string_bytes}
-use Rattle.std.specs.Io.KnownBytes.{Appends}
+use Rattle.std.specs.Prelude.{◌≡◌, ◌⊎◌, ℕ, ◌≤◌, List, [], length, IfSome, IsTrue, String, false, map, string_bytes}
+use Rattle.std.specs.Io.KnownBytes.{Consumes}
 use Rattle.tre_answer.specs.Ends.{ReadsInput, StandsAtMemory, EndsDone, EndsAtInput, EndsTooMany, EndsReadFault, EndsWriteFault}
 use Rattle.tre_answer.specs.Recorded.{outcome_for}
 use Rattle.tre_answer.specs.Request.{Request}
+use Rattle.tre_answer.specs.Streams.{IsWritten, IsCut}
 use Rattle.tre_feed.specs.Front.{IsUnreadable}
-use Rattle.tre_feed.specs.Input.{InputTold, AllReadsGood, TakesAtMost}
+use Rattle.tre_feed.specs.Input.{InputTold, AllReadsGood}
 use Rattle.tre_feed.specs.Comes.{Outcome, completes, refuses, exceeds}
 use Rattle.tre_feed.specs.Outcome.{IsInputKind}
-use Rattle.tre_io.specs.Faults.{counted, Rises}
-use Rattle.tre_io.specs.Written.{AppendsPart}
-use Rattle.tre_tell.specs.Outputs.{OutputTold, AllWritesGood, NothingWritten}
+use Rattle.tre_io.specs.Faults.{Rises}
+use Rattle.tre_tell.specs.Outputs.{OutputTold, NothingWritten}
 use Rattle.tre_words.specs.Job.{GivesJob}
 use Rattle.tre_words.specs.declared.job.Job.{Job}
 use Rattle.tre_words.specs.declared.job.Mode.{Mode}
 use Rattle.tre_words.specs.declared.job.Mode.TheVariants.{Watch}
 use Rattle.tre_tool.specs.Checks.{ChecksWereRead, ChecksAreTold}
-use Rattle.tre_tool.specs.Request.{AsksFor, Asks, IsRefused, GiveNone}
+use Rattle.tre_tool.specs.Request.{AsksFor, IsRefused, GiveNone}
 use Rattle.tre_tool.specs.declared.status.Status.{Status}
 use Rattle.tre_tool.specs.declared.status.Status.TheVariants.{Done, Usage, Expression, Minus, Definitions, Watch as WatchStatus, Trace, InputTooLong, TooManyZones, ReadFault, WriteFault, Memory}
 
@@ -26,9 +26,9 @@ Gives words = GivesJob (map string_bytes words)
 
 -- What was opened has such a name, and at most so many of its bytes were taken.
 abbrev pub IsFrontOf : (List ℕ → Type 0) → ℕ → InputTold → Type 0
-IsFrontOf IsName most input =
-    IsTrue input.now.opened → IfSome input.before.name IsName × TakesAtMost most input.before.file
-    input.now.left
+IsFrontOf IsName most input = IsTrue input.now.opened → IfSome input.before.name IsName
+    × (taken : List ℕ) × (length taken ≤ most)
+    × Consumes input.before.file input.now.left taken
 
 abbrev pub ReadsChecks : Mode → Type 0
 ReadsChecks (Watch file) = Unit {0}
@@ -36,8 +36,7 @@ ReadsChecks mode = ⊥
 
 -- One failure to read the file of checks was counted, where one is read.
 abbrev pub ChecksFailed : Mode → InputTold → Type 0
-ChecksFailed (Watch file) checks = Rises checks.before.faults checks.now.faults
-ChecksFailed mode checks = ⊥
+ChecksFailed mode checks = ReadsChecks mode × Rises checks.before.faults checks.now.faults
 
 -- The statuses of words that give no job, and of those whose job is refused.
 abbrev pub ComesFirst : Status → Type 0
@@ -64,9 +63,12 @@ pub record EndsUnread (Gives : Job → Type 0) (checks input : InputTold) (outpu
   pub unread : IsUnreadable file checks
   pub nothing : NothingDone input output
 
--- What the words ask for, as the file of checks that was read says, is so.
-abbrev pub AsksAs : (Job → Type 0) → InputTold → (Request → Type 0) → Type 0
-AsksAs Gives checks IsSo = Asks Gives (ChecksWereRead checks) IsSo
+-- This is so of what the words ask for, as the file of checks that was read says.
+pub record AsksAs (Gives : Job → Type 0) (checks : InputTold) (IsSo : Request → Type 0)
+    : Type 0 where
+  pub request : Request
+  pub asks : AsksFor Gives (ChecksWereRead checks) request
+  pub is_so : IsSo request
 
 -- `Memory` may come at any time: before the input is open, or with what then stands in the output.
 pub record EndsMemory (Gives : Job → Type 0) (checks input : InputTold) (output : OutputTold)
@@ -78,10 +80,7 @@ pub record EndsMemory (Gives : Job → Type 0) (checks input : InputTold) (outpu
 
 -- A line was told whole, or one failure to tell it was counted, and a first part of it was told.
 abbrev pub IsLineTold : OutputTold → List ℕ → Type 0
-IsLineTold output line =
-    (AllWritesGood output × Appends output.before.written output.now.written line)
-    ⊎ ((output.now.faults ≡ counted output.before.faults)
-    × AppendsPart output.before.written output.now.written line)
+IsLineTold output line = IsWritten output line ⊎ IsCut output [] line
 
 -- The end of a run, status by status. What is refused is told before the input is looked at.
 abbrev pub EndsAs : (Job → Type 0) → InputTold → InputTold → OutputTold → Status → Type 0

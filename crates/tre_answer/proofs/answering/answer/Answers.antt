@@ -2,8 +2,9 @@ use Rattle.std.proofs.Common.{refl}
 use Rattle.std.proofs.lemmas.List.{get_or_read}
 use Rattle.std.proofs.lemmas.Result.{err_from_is_err_and}
 use Rattle.tre_answer.specs.Request.{request_for}
-use Rattle.tre_answer.proofs.Stops.{EndsOver-written, show_once, made_once, shown_unread, made_unread}
-use Rattle.tre_answer.proofs.Unread.{EndsOver-early, shown_for, made_for}
+use Rattle.tre_answer.proofs.Known.{EndsOver-as, EndsOver-early, EndsOver-written}
+use Rattle.tre_answer.proofs.Stops.{show_once, made_once, shown_unread, made_unread}
+use Rattle.tre_answer.proofs.Unread.{shown_for, made_for}
 use Rattle.tre_answer.proofs.answering.answer.Goals as goal
 
 pub returns-in_err-text-in-Show-clause-ends : goal.returns-in_err-text-in-Show-clause-ends
@@ -54,3 +55,8 @@ returns-in_ok-text-in-Generate-clause-ends g c =
     c.write_text-in-Generate.result c.write_text-in-Generate.ensures.all
     c.write_text-in-Generate.ensures.good c.write_text-in-Generate.ensures.part
     c.write_text-in-Generate.ensures.cause c.write_text-in-Generate.ensures.fault
+
+pub returns-in_default-clause-ends : goal.returns-in_default-clause-ends
+returns-in_default-clause-ends g c = EndsOver-as
+    (request_for c.args.job.now c.args.definitions c.args.asked.now) _ _ c.answer_input.result
+    c.answer_input.ensures.ends

@@ -1,8 +1,8 @@
 use Rattle.std.proofs.Common.{map, string_bytes, refl, ap}
 use Rattle.std.proofs.lemmas.Result.{err_from_is_err_and}
 use Rattle.tre_answer.specs.Request.{request_for}
-use Rattle.tre_answer.proofs.OnlineRuns.{EndsOver-told_by}
-use Rattle.tre_answer.proofs.Stops.{EndsOver-written, offline_once}
+use Rattle.tre_answer.proofs.OnlineRuns.{EndsAnswering-told_by}
+use Rattle.tre_answer.proofs.Stops.{EndsAnswering-written, offline_once}
 use Rattle.tre_answer.proofs.answering.answer_by.Goals as goal
 
 pub returns-in_err-text-in-Offline : goal.returns-in_err-text-in-Offline
@@ -17,7 +17,7 @@ returns-in_err-text-in-Offline g c =
 
 pub returns-in_ok-text-in-Offline-clause-ends : goal.returns-in_ok-text-in-Offline-clause-ends
 returns-in_ok-text-in-Offline-clause-ends g c = λ definitions same.
-    EndsOver-written (request_for c.args.job.now definitions c.args.asked.now) _ _ _ _
+    EndsAnswering-written (request_for c.args.job.now definitions c.args.asked.now) _ _ _ _
     c.as_str.ensures.value (offline_once c.args.job.now.mode c.in-Offline.is)
     (c.in_ok-text-in-Offline.ensures.found definitions same) c.write_text.result
     c.write_text.ensures.all c.write_text.ensures.good c.write_text.ensures.part
@@ -25,7 +25,7 @@ returns-in_ok-text-in-Offline-clause-ends g c = λ definitions same.
 
 pub returns-in_default-clause-ends : goal.returns-in_default-clause-ends
 returns-in_default-clause-ends g c = λ definitions same.
-    EndsOver-told_by c.args.job.now definitions c.args.asked.now _ _ _
+    EndsAnswering-told_by c.args.job.now definitions c.args.asked.now _ _ _
     (ap (map string_bytes) c.deref-in_default.ensures.value) c.deref.ensures.value c.text.ensures _ _
     same c.requires.input.limit c.requires.reads c.in_default.not-Offline _ _
     c.tell_matches.result c.tell_matches.ensures.ends

@@ -3,7 +3,7 @@ use Rattle.std.proofs.lemmas.List.{get_or_read}
 use Rattle.std.proofs.lemmas.Result.{err_from_is_err_and}
 use Rattle.tre_feed.specs.Standing.{Asks}
 use Rattle.tre_answer.proofs.Recorded.{alone_names, dump_says, rows_says, text_says}
-use Rattle.tre_answer.proofs.Unread.{EndsOver-early}
+use Rattle.tre_answer.proofs.Unread.{EndsAnswering-early}
 use Rattle.tre_answer.proofs.answering.answer_input.Goals as goal
 
 -- ---- text
@@ -12,7 +12,7 @@ pub returns-in_err-input-in-Text-clause-ends : goal.returns-in_err-input-in-Text
 returns-in_err-input-in-Text-clause-ends g c =
     let p = err_from_is_err_and c.from_residual.result
     c.from_residual.ensures.1 in
-    rw (p.1, p.2) (EndsOver-early c.args.job.now c.args.definitions c.args.asked.now
+    rw (p.1, p.2) (EndsAnswering-early c.args.job.now c.args.definitions c.args.asked.now
     _ _ c.requires.closed refl (record { unwritten = refl; writes = refl }))
 
 pub answer_by-requires-clause-input : goal.answer_by-requires-clause-input
@@ -33,7 +33,7 @@ pub returns-in_err-input-in-Vcd-clause-ends : goal.returns-in_err-input-in-Vcd-c
 returns-in_err-input-in-Vcd-clause-ends g c =
     let p = err_from_is_err_and c.from_residual-in_err-input-in-Vcd.result
     c.from_residual-in_err-input-in-Vcd.ensures.1 in
-    rw (p.1, p.2) (EndsOver-early c.args.job.now c.args.definitions c.args.asked.now
+    rw (p.1, p.2) (EndsAnswering-early c.args.job.now c.args.definitions c.args.asked.now
     _ _ c.requires.closed refl (record { unwritten = refl; writes = refl }))
 
 pub answer_by-requires-in-Vcd-clause-input : goal.answer_by-requires-in-Vcd-clause-input
@@ -54,7 +54,7 @@ pub returns-in_err-input-in-Csv-clause-ends : goal.returns-in_err-input-in-Csv-c
 returns-in_err-input-in-Csv-clause-ends g c =
     let p = err_from_is_err_and c.from_residual-in_err-input-in-Csv.result
     c.from_residual-in_err-input-in-Csv.ensures.1 in
-    rw (p.1, p.2) (EndsOver-early c.args.job.now c.args.definitions c.args.asked.now
+    rw (p.1, p.2) (EndsAnswering-early c.args.job.now c.args.definitions c.args.asked.now
     _ _ c.requires.closed refl (record { unwritten = refl; writes = refl }))
 
 pub answer_by-requires-in-Csv-clause-input : goal.answer_by-requires-in-Csv-clause-input

@@ -1,6 +1,6 @@
 use Rattle.std.proofs.Common.{map, string_bytes}
 use Rattle.tre_words.proofs.Jobs.{job_unique}
-use Rattle.tre_tool.proofs.Parts.{IsLineTold-of, of_watch}
+use Rattle.tre_tool.proofs.Parts.{IsLineTold-of, of_watch, taken_of}
 use Rattle.tre_tool.proofs.Promise.{IsComplete-ends}
 use Rattle.tre_tool.proofs.whole_run.run_all.Goals as goal
 
@@ -17,8 +17,11 @@ pub returns-clause-input : goal.returns-clause-input
 returns-clause-input g c = c.run_words.ensures.reads
 
 pub returns-clause-file : goal.returns-clause-file
-returns-clause-file g c = λ opened. (
-  of_watch (g.P.Source.told c.args.checks.now).name (map string_bytes c.args.words.now)
-      (λ job file gives watches. c.run_words.ensures.checks_by_name job file gives watches opened),
-  c.run_words.ensures.checks_at_most opened,
-)
+returns-clause-file g c = λ opened.
+    let taken = taken_of _ _ _ (c.run_words.ensures.checks_at_most opened) in (
+      of_watch (g.P.Source.told c.args.checks.now).name (map string_bytes c.args.words.now)
+          (λ job file gives watches. c.run_words.ensures.checks_by_name job file gives watches opened),
+      taken.0,
+      taken.1,
+      taken.2,
+    )

@@ -1,9 +1,9 @@
-use Rattle.std.proofs.Common.{◌≡◌, ◌+◌, IfSome, Err, ap, refl, map, string_bytes}
+use Rattle.std.proofs.Common.{◌≡◌, ◌+◌, ◌≤◌, ℕ, List, length, IfSome, Err, ap, refl, map, string_bytes}
 use Rattle.std.proofs.lemmas.Result.{err_from_is_err_and}
 use Rattle.tre_words.proofs.Jobs.{job_unique}
-use Rattle.tre_feed.specs.Input.{TakesAtMost}
+use Rattle.std.specs.Io.KnownBytes.{Consumes}
 use Rattle.tre_tool.proofs.Once.{nothing_asked}
-use Rattle.tre_tool.proofs.Parts.{EndsAs-words, EndsAs-stopped, EndsAs-answered, EndsAs-done, AsksFor-of, never_first, of_job, of_file, kept_as, kept_by}
+use Rattle.tre_tool.proofs.Parts.{EndsAs-words, EndsAs-stopped, EndsAs-answered, EndsAs-done, AsksFor-of, never_first, of_job, of_file, kept_as, kept_by, taken_of}
 use Rattle.tre_tool.proofs.Promise.{read_as_told}
 use Rattle.tre_tool.proofs.whole_run.run_words.Goals as goal
 
@@ -90,11 +90,17 @@ returns-in_err-answer-clause-checks_untouched g c = λ never.
 
 pub returns-in_err-answer-clause-reads : goal.returns-in_err-answer-clause-reads
 returns-in_err-answer-clause-reads g c = λ job gives opened.
+    let taken = taken_of _ _ _ (c.in_err-answer.ensures.bounded opened) in
     of_job (map string_bytes c.args.words.now) c.in_ok-job.job job
     (λ job. IfSome (g.S.Source.told c.args.input.now).name (λ told. told ≡ job.input)
-    × TakesAtMost (job.max_bytes + 1) (g.S.Source.told c.args.input.now).file
-    (g.S.Source.told c.answer.new.source).left) c.in_ok-job.ensures.ok gives
-    (c.in_err-answer.ensures.by_name opened, c.in_err-answer.ensures.bounded opened)
+    × (taken : List ℕ) × (length taken ≤ job.max_bytes + 1)
+    × Consumes (g.S.Source.told c.args.input.now).file
+    (g.S.Source.told c.answer.new.source).left taken) c.in_ok-job.ensures.ok gives (
+      c.in_err-answer.ensures.by_name opened,
+      taken.0,
+      taken.1,
+      taken.2,
+    )
 
 pub returns-in_err-answer-clause-checks_by_name : goal.returns-in_err-answer-clause-checks_by_name
 returns-in_err-answer-clause-checks_by_name g c = λ job file gives watches opened.
@@ -136,11 +142,17 @@ returns-clause-checks_untouched g c = λ never.
 
 pub returns-clause-reads : goal.returns-clause-reads
 returns-clause-reads g c = λ job gives opened.
+    let taken = taken_of _ _ _ (c.in_ok-answer.ensures.bounded opened) in
     of_job (map string_bytes c.args.words.now) c.in_ok-job.job job
     (λ job. IfSome (g.S.Source.told c.args.input.now).name (λ told. told ≡ job.input)
-    × TakesAtMost (job.max_bytes + 1) (g.S.Source.told c.args.input.now).file
-    (g.S.Source.told c.answer.new.source).left) c.in_ok-job.ensures.ok gives
-    (c.in_ok-answer.ensures.by_name opened, c.in_ok-answer.ensures.bounded opened)
+    × (taken : List ℕ) × (length taken ≤ job.max_bytes + 1)
+    × Consumes (g.S.Source.told c.args.input.now).file
+    (g.S.Source.told c.answer.new.source).left taken) c.in_ok-job.ensures.ok gives (
+      c.in_ok-answer.ensures.by_name opened,
+      taken.0,
+      taken.1,
+      taken.2,
+    )
 
 pub returns-clause-checks_by_name : goal.returns-clause-checks_by_name
 returns-clause-checks_by_name g c = λ job file gives watches opened.
