@@ -4,11 +4,11 @@ use Rattle.std.proofs.Math.Nat.{mul-le-mul_right}
 use Rattle.std.proofs.lemmas.Int.{ints}
 use Rattle.tre_pairs.specs.Pairs.{Pairs, Either, Lasting}
 use Rattle.tre_pairs.specs.declared.TheConstants.{TIME_MAX}
-use Rattle.tre_zone.specs.Bound.{sum_of}
 use Rattle.tre_zone.specs.Zone.{ZoneHolds, IsCanonical, IsZoneOf}
 use Rattle.tre_zone.specs.ZoneList.{SetHolds, HoldExactly}
 use Rattle.tre_zone.specs.declared.zone_bounds.ZoneBounds.{ZoneBounds}
-use Rattle.tre_zone.proofs.Bounds.{split, Meets-at_most, Meets-at_least, Meets-less, Meets-more}
+use Rattle.tre_zone.proofs.CanonicalBounds.{bounds-canonical}
+use Rattle.tre_zone.proofs.Bounds.{Meets-at_most, Meets-at_least, Meets-less, Meets-more}
 use Rattle.tre_edges.specs.Ends.{EndBefore}
 use Rattle.tre_edges.specs.RunParts.{IsPart, LastsIn}
 use Rattle.tre_edges.specs.declared.run_edges.RunEdges.{RunEdges}
@@ -29,115 +29,22 @@ part_of rise fall begin end = record {
 
 module _ (begin end : ℕ) (rising : begin < end) (limit : end ≤ TIME_MAX) where
   pub part-canonical : (rise fall : Bool) → IsCanonical (part_of rise fall begin end)
-  unfolding sum_of
   part-canonical true true =
-      let a = split (pos 1 -ℤ pos (2 * begin)) in
-      let b = split (pos (2 * begin + 1)) in
-      let c = split (pos 1 -ℤ pos (2 * end)) in
-      let d = split (pos (2 * end + 1)) in
-      let e = split (pos 1 -ℤ pos (2 * (end - begin))) in
-      let f = split (pos (2 * (end - begin) + 1)) in
-      record {
-        room = record {
-          begin_loop = omega (arith, ints);
-          end_loop = omega (arith, ints);
-          dur_loop = omega (arith, ints);
-        };
-        closed = record {
-          begin_low = omega (arith, ints);
-          begin_high = omega (arith, ints);
-          end_low = omega (arith, ints);
-          end_high = omega (arith, ints);
-          dur_low = omega (arith, ints);
-          dur_high = omega (arith, ints);
-        };
-        framed = record {
-          starts = omega (arith, ints);
-          ends = omega (arith, ints);
-          lasts = omega (arith, ints);
-        };
-      }
+      bounds-canonical begin end (end - begin) (pos (2 * begin + 1)) (pos 1 -ℤ pos (2 * end))
+      (pos 1 -ℤ pos (2 * (end - begin))) limit (omega arith) (omega (arith, ints)) (omega (arith, ints))
+      (omega (arith, ints)) (omega (arith, ints)) (omega (arith, ints)) (omega (arith, ints))
   part-canonical true false =
-      let a = split (pos 1 -ℤ pos (2 * begin)) in
-      let b = split (pos (2 * begin + 1)) in
-      let c = split (neg_ℤ (pos (2 * begin))) in
-      let d = split (pos (2 * end + 1)) in
-      let e = split (pos 0) in
-      let f = split (pos (2 * (end - begin) + 1)) in
-      record {
-        room = record {
-          begin_loop = omega (arith, ints);
-          end_loop = omega (arith, ints);
-          dur_loop = omega (arith, ints);
-        };
-        closed = record {
-          begin_low = omega (arith, ints);
-          begin_high = omega (arith, ints);
-          end_low = omega (arith, ints);
-          end_high = omega (arith, ints);
-          dur_low = omega (arith, ints);
-          dur_high = omega (arith, ints);
-        };
-        framed = record {
-          starts = omega (arith, ints);
-          ends = omega (arith, ints);
-          lasts = omega (arith, ints);
-        };
-      }
+      bounds-canonical begin end (end - begin) (pos (2 * begin + 1)) (neg_ℤ (pos (2 * begin)))
+      (pos 0) limit (omega arith) (omega (arith, ints)) (omega (arith, ints))
+      (omega (arith, ints)) (omega (arith, ints)) (omega (arith, ints)) (omega (arith, ints))
   part-canonical false true =
-      let a = split (pos 1 -ℤ pos (2 * begin)) in
-      let b = split (pos (2 * end)) in
-      let c = split (pos 1 -ℤ pos (2 * end)) in
-      let d = split (pos (2 * end + 1)) in
-      let e = split (pos 0) in
-      let f = split (pos (2 * (end - begin) + 1)) in
-      record {
-        room = record {
-          begin_loop = omega (arith, ints);
-          end_loop = omega (arith, ints);
-          dur_loop = omega (arith, ints);
-        };
-        closed = record {
-          begin_low = omega (arith, ints);
-          begin_high = omega (arith, ints);
-          end_low = omega (arith, ints);
-          end_high = omega (arith, ints);
-          dur_low = omega (arith, ints);
-          dur_high = omega (arith, ints);
-        };
-        framed = record {
-          starts = omega (arith, ints);
-          ends = omega (arith, ints);
-          lasts = omega (arith, ints);
-        };
-      }
+      bounds-canonical begin end (end - begin) (pos (2 * end)) (pos 1 -ℤ pos (2 * end))
+      (pos 0) limit (omega arith) (omega (arith, ints)) (omega (arith, ints))
+      (omega (arith, ints)) (omega (arith, ints)) (omega (arith, ints)) (omega (arith, ints))
   part-canonical false false =
-      let a = split (pos 1 -ℤ pos (2 * begin)) in
-      let b = split (pos (2 * end)) in
-      let c = split (neg_ℤ (pos (2 * begin))) in
-      let d = split (pos (2 * end + 1)) in
-      let e = split (pos 0) in
-      let f = split (pos (2 * (end - begin) + 1)) in
-      record {
-        room = record {
-          begin_loop = omega (arith, ints);
-          end_loop = omega (arith, ints);
-          dur_loop = omega (arith, ints);
-        };
-        closed = record {
-          begin_low = omega (arith, ints);
-          begin_high = omega (arith, ints);
-          end_low = omega (arith, ints);
-          end_high = omega (arith, ints);
-          dur_low = omega (arith, ints);
-          dur_high = omega (arith, ints);
-        };
-        framed = record {
-          starts = omega (arith, ints);
-          ends = omega (arith, ints);
-          lasts = omega (arith, ints);
-        };
-      }
+      bounds-canonical begin end (end - begin) (pos (2 * end)) (neg_ℤ (pos (2 * begin)))
+      (pos 0) limit (omega arith) (omega (arith, ints)) (omega (arith, ints))
+      (omega (arith, ints)) (omega (arith, ints)) (omega (arith, ints)) (omega (arith, ints))
 
 whole : (end begin : ℕ) → begin < end → (end - begin) + begin ≡ end
 whole end begin rising = omega arith

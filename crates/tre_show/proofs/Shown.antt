@@ -10,57 +10,8 @@ use Rattle.tre_zone.specs.declared.zone_bounds.ZoneBounds.{ZoneBounds}
 use Rattle.tre_zone.proofs.Bounds.{split, split-sum, Meets-at_most, Meets-less}
 use Rattle.tre_zone.proofs.Ends.{weak_low, strict_low}
 use Rattle.tre_zone.proofs.Paths.{Meets-looser}
-use Rattle.tre_zone.proofs.Ranges.{below_zero, above_zero, lowered, canonical-ranges}
+use Rattle.tre_zone.proofs.Ranges.{above, below, raised, lowered, canonical-ranges}
 use Rattle.tre_zone.proofs.Tightness.{canonical-tight, canonical-some}
-
--- ---- a bound as an end of a range, of a difference d
-
-low_end : (low : ℤ) (weakness : ℕ) → weakness_of low ≡ weakness → low ≤ℤ pos 1
-    → (p q n d : ℕ) → q ≡ p + d
-    → Meets low p q n ↔ MatchBool (weakness == 1) (nat_abs (value_of low) * n ≤ d)
-    (nat_abs (value_of low) * n < d)
-low_end low zero e down p q n d is =
-    let s = split low in
-    let value = below_zero (value_of low) (omega (arith, ints)) in
-    let both = strict_low low (nat_abs (value_of low)) (omega (arith, ints)) p q n (omega arith) in
-    ((λ m. let h = both.0 m in omega arith), (λ h. both.1 (omega arith)))
-low_end low (suc zero) e down p q n d is =
-    let s = split low in
-    let value = below_zero (value_of low) (omega (arith, ints)) in
-    let both = weak_low low (nat_abs (value_of low)) (omega (arith, ints)) p q n (omega arith) in
-    ((λ m. let h = both.0 m in omega arith), (λ h. both.1 (omega arith)))
-low_end low (suc (suc w)) e down p q n d is = let s = split low in absurd (omega arith)
-
-high_end : (high : ℤ) (weakness : ℕ) → weakness_of high ≡ weakness → pos 1 ≤ℤ high
-    → (p q n d : ℕ) → p ≡ q + d
-    → Meets high p q n ↔ MatchBool (weakness == 1) (d ≤ nat_abs (value_of high) * n)
-    (d < nat_abs (value_of high) * n)
-high_end high zero e up p q n d is =
-    let s = split high in
-    let value = above_zero (value_of high) (omega (arith, ints)) in
-    let both = Meets-less high (nat_abs (value_of high)) (omega (arith, ints)) p q n in
-    ((λ m. let h = both.0 m in omega arith), (λ h. both.1 (omega arith)))
-high_end high (suc zero) e up p q n d is =
-    let s = split high in
-    let value = above_zero (value_of high) (omega (arith, ints)) in
-    let both = Meets-at_most high (nat_abs (value_of high)) (omega (arith, ints)) p q n in
-    ((λ m. let h = both.0 m in omega arith), (λ h. both.1 (omega arith)))
-high_end high (suc (suc w)) e up p q n d is = let s = split high in absurd (omega arith)
-
-above : (low high : ℤ) → low ≤ℤ pos 1 → (p q n d : ℕ) → q ≡ p + d
-    → Meets low p q n ↔ IsAboveLow (range_of low high) d n
-above low high down p q n d is = low_end low (weakness_of low) refl down p q n d is
-
-below : (low high : ℤ) → pos 1 ≤ℤ high → (p q n d : ℕ) → p ≡ q + d
-    → Meets high p q n ↔ IsBelowHigh (range_of low high) d n
-below low high up p q n d is = high_end high (weakness_of high) refl up p q n d is
-
--- ---- the keys of canonical bounds
-
--- Where the low bound is at most 0, the high one is at least 0.
-raised : (low high : ℤ) → pos 1 ≤ℤ sum_of low high → low ≤ℤ pos 1 → pos 1 ≤ℤ high
-raised low high loop down =
-    let a = split low in let b = split high in let d = split-sum low high in omega (arith, ints)
 
 -- ---- an end of a range as a bound
 

@@ -2,37 +2,17 @@
 use Rattle.std.proofs.Common.{ℕ, ◌+◌, ◌*◌, ◌<◌, ◌≤◌, ◌↔◌, refl, arith, pos, ◌-ℤ◌}
 use Rattle.std.proofs.lemmas.Int.{ints}
 use Rattle.tre_pairs.specs.declared.TheConstants.{TIME_MAX}
-use Rattle.tre_zone.specs.Bound.{sum_of}
 use Rattle.tre_zone.specs.Zone.{ZoneHolds, IsCanonical, IsInstantBetween, instants_of}
-use Rattle.tre_zone.proofs.Bounds.{split, Meets-at_most, Meets-at_least}
+use Rattle.tre_zone.proofs.CanonicalBounds.{bounds-canonical}
+use Rattle.tre_zone.proofs.Bounds.{Meets-at_most, Meets-at_least}
 
 pub instants-canonical : (from to : ℕ) → from ≤ to → to ≤ TIME_MAX
     → IsCanonical (instants_of from to)
-unfolding instants_of sum_of
+unfolding instants_of
 instants-canonical from to rising limit =
-    let low = split (pos 1 -ℤ pos (2 * from)) in
-    let high = split (pos (2 * to + 1)) in
-    let zero = split (pos 1) in
-    record {
-      room = record {
-        begin_loop = omega (arith, ints);
-        end_loop = omega (arith, ints);
-        dur_loop = omega (arith, ints);
-      };
-      closed = record {
-        begin_low = omega (arith, ints);
-        begin_high = omega (arith, ints);
-        end_low = omega (arith, ints);
-        end_high = omega (arith, ints);
-        dur_low = omega (arith, ints);
-        dur_high = omega (arith, ints);
-      };
-      framed = record {
-        starts = omega (arith, ints);
-        ends = omega (arith, ints);
-        lasts = omega (arith, ints);
-      };
-    }
+    bounds-canonical from to 0 (pos (2 * to + 1)) (pos 1 -ℤ pos (2 * from))
+    (pos 1) limit (omega arith) (omega (arith, ints)) (omega (arith, ints))
+    (omega (arith, ints)) (omega (arith, ints)) (omega (arith, ints)) (omega (arith, ints))
 
 pub instants-holds : (from to : ℕ) → (a b n : ℕ) → 0 < n
     → ZoneHolds (instants_of from to) a b n ↔ IsInstantBetween from to a b n

@@ -1,5 +1,6 @@
 pub mod Bounds
 pub mod Durations
+pub mod CanonicalBounds
 pub mod Spans
 pub mod Onwards
 pub mod ZoneKeys

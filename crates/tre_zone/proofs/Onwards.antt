@@ -2,38 +2,16 @@
 use Rattle.std.proofs.Common.{◌≡◌, ℕ, ◌+◌, ◌-◌, ◌*◌, ◌<◌, ◌≤◌, ◌↔◌, refl, ap, arith, pos, ◌-ℤ◌}
 use Rattle.std.proofs.lemmas.Int.{ints}
 use Rattle.tre_pairs.specs.declared.TheConstants.{TIME_MAX}
-use Rattle.tre_zone.specs.Bound.{sum_of}
 use Rattle.tre_zone.specs.Zone.{ZoneHolds, IsCanonical, IsOnward, onward_of}
-use Rattle.tre_zone.proofs.Bounds.{split, Meets-at_most, Meets-at_least}
+use Rattle.tre_zone.proofs.CanonicalBounds.{bounds-canonical}
+use Rattle.tre_zone.proofs.Bounds.{Meets-at_most, Meets-at_least}
 
 pub onward-canonical : (from to : ℕ) → from ≤ to → to ≤ TIME_MAX → IsCanonical (onward_of from to)
-unfolding onward_of sum_of
+unfolding onward_of
 onward-canonical from to rising limit =
-    let low = split (pos 1 -ℤ pos (2 * from)) in
-    let at = split (pos (2 * from + 1)) in
-    let high = split (pos (2 * to + 1)) in
-    let zero = split (pos 1) in
-    let long = split (pos (2 * (to - from) + 1)) in
-    record {
-      room = record {
-        begin_loop = omega (arith, ints);
-        end_loop = omega (arith, ints);
-        dur_loop = omega (arith, ints);
-      };
-      closed = record {
-        begin_low = omega (arith, ints);
-        begin_high = omega (arith, ints);
-        end_low = omega (arith, ints);
-        end_high = omega (arith, ints);
-        dur_low = omega (arith, ints);
-        dur_high = omega (arith, ints);
-      };
-      framed = record {
-        starts = omega (arith, ints);
-        ends = omega (arith, ints);
-        lasts = omega (arith, ints);
-      };
-    }
+    bounds-canonical from to (to - from) (pos (2 * from + 1)) (pos 1 -ℤ pos (2 * from))
+    (pos 1) limit (omega arith) (omega (arith, ints)) (omega (arith, ints))
+    (omega (arith, ints)) (omega (arith, ints)) (omega (arith, ints)) (omega (arith, ints))
 
 whole : (to from : ℕ) → from ≤ to → (to - from) + from ≡ to
 whole to from rising = omega arith

@@ -54,18 +54,18 @@ high_end high (suc zero) e up p q n d is =
     ((λ m. let h = both.0 m in omega arith), (λ h. both.1 (omega arith)))
 high_end high (suc (suc w)) e up p q n d is = let s = split high in absurd (omega arith)
 
-above : (low high : ℤ) → low ≤ℤ pos 1 → (p q n d : ℕ) → q ≡ p + d
+pub above : (low high : ℤ) → low ≤ℤ pos 1 → (p q n d : ℕ) → q ≡ p + d
     → Meets low p q n ↔ IsAboveLow (range_of low high) d n
 above low high down p q n d is = low_end low (weakness_of low) refl down p q n d is
 
-below : (low high : ℤ) → pos 1 ≤ℤ high → (p q n d : ℕ) → p ≡ q + d
+pub below : (low high : ℤ) → pos 1 ≤ℤ high → (p q n d : ℕ) → p ≡ q + d
     → Meets high p q n ↔ IsBelowHigh (range_of low high) d n
 below low high up p q n d is = high_end high (weakness_of high) refl up p q n d is
 
 -- ---- the keys of canonical bounds
 
 -- Where the low bound is at most 0, the high one is at least 0.
-raised : (low high : ℤ) → pos 1 ≤ℤ sum_of low high → low ≤ℤ pos 1 → pos 1 ≤ℤ high
+pub raised : (low high : ℤ) → pos 1 ≤ℤ sum_of low high → low ≤ℤ pos 1 → pos 1 ≤ℤ high
 raised low high loop down =
     let a = split low in let b = split high in let d = split-sum low high in omega (arith, ints)
 

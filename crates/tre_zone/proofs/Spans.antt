@@ -1,48 +1,18 @@
 -- The bounds of a span.
-use Rattle.std.proofs.Common.{◌≡◌, ℕ, ◌+◌, ◌-◌, ◌*◌, ◌<◌, ◌≤◌, ◌↔◌, refl, ap, arith, ℤ, pos, ◌+ℤ◌, ◌-ℤ◌, ◌*ℤ◌, neg_ℤ}
+use Rattle.std.proofs.Common.{◌≡◌, ℕ, ◌+◌, ◌-◌, ◌*◌, ◌<◌, ◌≤◌, ◌↔◌, refl, ap, arith, pos, ◌-ℤ◌, neg_ℤ}
 use Rattle.std.proofs.lemmas.Int.{ints}
 use Rattle.tre_pairs.specs.declared.TheConstants.{TIME_MAX}
-use Rattle.tre_zone.specs.Bound.{weakness_of, sum_of}
 use Rattle.tre_zone.specs.Zone.{ZoneHolds, IsCanonical, IsInSpan, span_of}
-use Rattle.tre_zone.proofs.Bounds.{split, Meets-at_most, Meets-at_least, Meets-less, Meets-more}
-
--- The weakness of a bound that is twice a number, and one more or none.
-weak : (key c : ℤ) → key ≡ (pos 2 *ℤ c) +ℤ pos 1 → weakness_of key ≡ 1
-weak key c e = let one = split key in omega (arith, ints)
-
-strict : (key c : ℤ) → key ≡ pos 2 *ℤ c → weakness_of key ≡ 0
-strict key c e = let one = split key in omega (arith, ints)
+use Rattle.tre_zone.proofs.CanonicalBounds.{bounds-canonical}
+use Rattle.tre_zone.proofs.Bounds.{Meets-at_most, Meets-at_least, Meets-less, Meets-more}
 
 pub span-canonical : (begin end : ℕ) → begin < end → end ≤ TIME_MAX
     → IsCanonical (span_of begin end)
-unfolding span_of sum_of
+unfolding span_of
 span-canonical begin end rising limit =
-    let begin_low = weak (pos 1 -ℤ pos (2 * begin)) (neg_ℤ (pos begin)) (omega (arith, ints)) in
-    let begin_high = strict (pos (2 * end)) (pos end) (omega (arith, ints)) in
-    let end_low = strict (neg_ℤ (pos (2 * begin))) (neg_ℤ (pos begin)) (omega (arith, ints)) in
-    let end_high = weak (pos (2 * end + 1)) (pos end) (omega (arith, ints)) in
-    let dur_low = strict (pos 0) (pos 0) (omega (arith, ints)) in
-    let dur_high = weak (pos (2 * (end - begin) + 1)) (pos (end - begin)) (omega (arith, ints)) in
-    record {
-      room = record {
-        begin_loop = omega (arith, ints);
-        end_loop = omega (arith, ints);
-        dur_loop = omega (arith, ints);
-      };
-      closed = record {
-        begin_low = omega (arith, ints);
-        begin_high = omega (arith, ints);
-        end_low = omega (arith, ints);
-        end_high = omega (arith, ints);
-        dur_low = omega (arith, ints);
-        dur_high = omega (arith, ints);
-      };
-      framed = record {
-        starts = omega (arith, ints);
-        ends = omega (arith, ints);
-        lasts = omega (arith, ints);
-      };
-    }
+    bounds-canonical begin end (end - begin) (pos (2 * end)) (neg_ℤ (pos (2 * begin)))
+    (pos 0) limit (omega arith) (omega (arith, ints)) (omega (arith, ints))
+    (omega (arith, ints)) (omega (arith, ints)) (omega (arith, ints)) (omega (arith, ints))
 
 whole : (end begin : ℕ) → begin < end → (end - begin) + begin ≡ end
 whole end begin rising = omega arith
