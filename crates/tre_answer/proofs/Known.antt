@@ -5,7 +5,7 @@ use Rattle.tre_feed.specs.Comes.{Outcome, refuses, exceeds, outcome_of, recordin
 use Rattle.tre_feed.specs.Input.{InputTold, AllReadsGood, OfAllBytes, WereRead}
 use Rattle.tre_feed.specs.declared.fault.Fault.{Fault}
 use Rattle.tre_feed.specs.declared.fault.Fault.TheVariants.{Trace, TooLong, TooManyZones, Read, Write, Memory}
-use Rattle.tre_io.specs.Faults.{counted}
+use Rattle.tre_io.specs.Faults.{count_after}
 use Rattle.tre_io.specs.Written.{AppendsPart}
 use Rattle.tre_tell.specs.Blocks.{AreAccounts, blocks_text, ending_text}
 use Rattle.tre_tell.specs.Outputs.{OutputTold, AllWritesGood, NothingWritten, IsCutBehind}
@@ -180,7 +180,7 @@ IsPrompt-as request input recording count prompt told more is long =
 
 module _ (request : Request) (input : InputTold) (output : OutputTold) where
   IsCut-as : (front other text second : List ℕ) → other ≡ front → second ≡ text
-      → output.now.faults ≡ counted output.before.faults
+      → output.now.faults ≡ count_after output.before.faults
       → IsCutBehind other second output.before.written output.now.written
       → IsCut output front text
   IsCut-as front other text second same same' cause cut = rw (sym same, sym same') (record {
@@ -300,7 +300,7 @@ module _ (request : Request) (input : InputTold) (output : OutputTold) where
 
   -- a part of a text that is written at once
   IsCutIn-part : (mode : Mode) (text : List ℕ) → IsAnswerIn mode request input [] text
-      → output.now.faults ≡ counted output.before.faults
+      → output.now.faults ≡ count_after output.before.faults
       → AppendsPart output.before.written output.now.written text
       → IsCutIn mode request input output
   IsCutIn-part mode text right cause part = record {
@@ -318,7 +318,7 @@ module _ (request : Request) (input : InputTold) (output : OutputTold) where
 
   -- a part of a block
   IsCutIn-block : (mode : Mode) → IsTrue (as_it_comes mode)
-      → output.now.faults ≡ counted output.before.faults
+      → output.now.faults ≡ count_after output.before.faults
       → BlockIsCut (watched_of request) input output → IsCutIn mode request input output
   IsCutIn-block mode comes cause block =
       let all = block.recording.stretches in
@@ -355,7 +355,7 @@ module _ (request : Request) (input : InputTold) (output : OutputTold) where
       }
 
   -- a part of what the end completes
-  end_cut : output.now.faults ≡ counted output.before.faults → AllReadsGood input
+  end_cut : output.now.faults ≡ count_after output.before.faults → AllReadsGood input
       → EndIsCut (watched_of request) input output → IsEndCut request input output
   end_cut cause reads end =
       let accounts = end.is_so.right.accounts in
@@ -375,7 +375,7 @@ module _ (request : Request) (input : InputTold) (output : OutputTold) where
       → ((front text : List ℕ) → IsAtEnd input.now.left
       → OfBytes input (λ bytes. IsOnlineAnswer request bytes front text)
       → IsAnswerIn mode request input front text)
-      → output.now.faults ≡ counted output.before.faults → AllReadsGood input
+      → output.now.faults ≡ count_after output.before.faults → AllReadsGood input
       → BlockIsCut (watched_of request) input output ⊎ EndIsCut (watched_of request) input output
       → IsCutIn mode request input output
   told_cut mode comes is_answer cause reads =
@@ -389,7 +389,7 @@ module _ (request : Request) (input : InputTold) (output : OutputTold) where
       })
 
   cut_in : (mode : Mode) → request.job.mode ≡ mode
-      → output.now.faults ≡ counted output.before.faults → AllReadsGood input
+      → output.now.faults ≡ count_after output.before.faults → AllReadsGood input
       → MatchBool (as_it_comes mode)
       (BlockIsCut (watched_of request) input output ⊎ EndIsCut (watched_of request) input output)
       (PartIsWritten request input output) → IsCutIn mode request input output
@@ -472,7 +472,7 @@ pub EndsOver-written : (request : Request) (input : InputTold) (output : OutputT
     → OnOk result (Appends output.before.written output.now.written given)
     → OnOk result (AllWritesGood output)
     → OnErr result (AppendsPart output.before.written output.now.written given)
-    → OnErr result (output.now.faults ≡ counted output.before.faults)
+    → OnErr result (output.now.faults ≡ count_after output.before.faults)
     → IfErr result (λ fault. fault ≡ Write) → EndsOver request input output result
 EndsOver-written request input output text given same once found result all good part cause fault =
     EndsOver-as request input output result (EndsAnswering-written request input output text given

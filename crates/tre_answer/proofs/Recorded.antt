@@ -3,7 +3,7 @@ use Rattle.std.proofs.Common.{◌≡◌, ◌∙◌, ◌<◌, ℕ, suc, Bool, fal
 use Rattle.std.proofs.lemmas.List.{length-map}
 use Rattle.tre_define.specs.Signals.{SignalDefined}
 use Rattle.tre_num.specs.Defined.{Defined}
-use Rattle.tre_num.specs.Rows.{Terms as RowTerms, rows_recording}
+use Rattle.tre_num.specs.Rows.{ColumnTerms as RowTerms, rows_recording}
 use Rattle.tre_parts.specs.Format.{recording_from}
 use Rattle.tre_syntax.specs.Pattern.{names_of}
 use Rattle.tre_syntax.specs.declared.pattern.Pattern.{Pattern}

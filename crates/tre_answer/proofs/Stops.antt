@@ -4,7 +4,7 @@ use Rattle.std.specs.Io.KnownBytes.{Appends}
 use Rattle.tre_feed.specs.Input.{InputTold}
 use Rattle.tre_feed.specs.declared.fault.Fault.{Fault}
 use Rattle.tre_feed.specs.declared.fault.Fault.TheVariants.{Write}
-use Rattle.tre_io.specs.Faults.{counted}
+use Rattle.tre_io.specs.Faults.{count_after}
 use Rattle.tre_io.specs.Written.{AppendsPart}
 use Rattle.tre_tell.specs.Outputs.{OutputTold, AllWritesGood}
 use Rattle.tre_tell.specs.Standing.{BlockIsCut, EndIsCut}
@@ -29,7 +29,7 @@ made_once mode count makes = ap as_it_comes makes
 -- an answer that is written at once, and of which a write failed
 EndsAnswering-cut : (request : Request) (input : InputTold) (output : OutputTold) (text : List ℕ)
     → as_it_comes request.job.mode ≡ false → IsFoundFor request input text
-    → output.now.faults ≡ counted output.before.faults
+    → output.now.faults ≡ count_after output.before.faults
     → AppendsPart output.before.written output.now.written text
     → EndsAnswering {T = Unit {0}} request input output (Err Write)
 EndsAnswering-cut request input output text once found cause part = record {
@@ -61,7 +61,7 @@ pub EndsAnswering-written : (request : Request) (input : InputTold) (output : Ou
     → OnOk result (Appends output.before.written output.now.written given)
     → OnOk result (AllWritesGood output)
     → OnErr result (AppendsPart output.before.written output.now.written given)
-    → OnErr result (output.now.faults ≡ counted output.before.faults)
+    → OnErr result (output.now.faults ≡ count_after output.before.faults)
     → IfErr result (λ fault. fault ≡ Write) → EndsAnswering request input output result
 EndsAnswering-written request input output text given same once found (Ok value) all good part cause
     fault = EndsAnswering-done request input output text value found good

@@ -4,12 +4,12 @@ use Rattle.std.specs.Prelude.{◌≡◌, ◌⊎◌, ℕ, false, List, All, IsTru
 use Rattle.std.specs.Io.KnownBytes.{Appends}
 use Rattle.tre_feed.specs.Front.{IsUnreadable}
 use Rattle.tre_feed.specs.Input.{InputTold, AllReadsGood, OfAllBytes}
-use Rattle.tre_feed.specs.Comes.{ComesTo, MayGoOn, Outcome, refuses, exceeds, recording_within}
+use Rattle.tre_feed.specs.Comes.{InputComesTo, MayGoOn, Outcome, refuses, exceeds, recording_within}
 use Rattle.tre_feed.specs.Outcome.{IsInputKind}
 use Rattle.tre_feed.specs.declared.fault.Fault.{Fault}
 use Rattle.tre_feed.specs.declared.fault.Fault.TheVariants.{Trace, TooLong, TooManyZones, Read, Write, Memory}
 use Rattle.tre_generate.specs.Summary.{IsSummary}
-use Rattle.tre_io.specs.Faults.{counted}
+use Rattle.tre_io.specs.Faults.{count_after}
 use Rattle.tre_io.specs.Written.{AppendsPart}
 use Rattle.tre_show.specs.PatternText.{expression_text}
 use Rattle.tre_tell.specs.Outputs.{OutputTold, AllWritesGood, NothingWritten}
@@ -57,7 +57,8 @@ pub record IsAtFault (outcome : Outcome) (request : Request) (input : InputTold)
     (output : OutputTold) : Type 0 where
   pub reads_input : ReadsInput request.job.mode
   pub opened : IsTrue input.now.opened
-  pub cause : ComesTo (recording_for request) request.job.max_bytes input.before.file input.now.left
+  pub cause : InputComesTo (recording_for request) request.job.max_bytes input.before.file
+      input.now.left
       outcome
   pub reads : AllReadsGood input
   pub stands : StandsBefore request.job.mode output (BlocksStand (watched_of request)
@@ -84,7 +85,7 @@ pub record HasReadFault (request : Request) (input : InputTold) (output : Output
 -- A write failed: within the whole text, the block of a stretch, or the end behind all blocks.
 pub record HasWriteFault (request : Request) (input : InputTold) (output : OutputTold) : Type 0
   where
-    pub cause : output.now.faults ≡ counted output.before.faults
+    pub cause : output.now.faults ≡ count_after output.before.faults
     pub reads : AllReadsGood input
     pub stands : MatchBool (as_it_comes request.job.mode)
         (BlockIsCut (watched_of request) input output ⊎ EndIsCut (watched_of request) input output)

@@ -2,7 +2,7 @@
 use Rattle.std.specs.Prelude.{◌≡◌, ℕ, ◌<◌, ◌≤◌, List, length, take, IfSome, IsTrue}
 use Rattle.std.specs.Io.KnownBytes.{Appends, Consumes}
 use Rattle.tre_feed.specs.Input.{InputTold, AllReadsGood}
-use Rattle.tre_io.specs.Faults.{counted}
+use Rattle.tre_io.specs.Faults.{count_after}
 use Rattle.tre_tell.specs.Outputs.{OutputTold, AllWritesGood}
 
 -- An input was opened, and no read failed. This is so of what was read, and of all that it tells.
@@ -20,7 +20,7 @@ pub record IsWritten (output : OutputTold) (text : List ℕ) : Type 0 where
 
 -- A write failed, and a first part of the text was written, with all of its front in it.
 pub record IsCut (output : OutputTold) (front text : List ℕ) : Type 0 where
-  pub cause : output.now.faults ≡ counted output.before.faults
+  pub cause : output.now.faults ≡ count_after output.before.faults
   pub count : ℕ
   pub behind : length front ≤ count
   pub short : count < length text

@@ -8,9 +8,9 @@ use Rattle.std.proofs.lemmas.Bool.{cases_lt, false≢true}
 use Rattle.std.proofs.lemmas.List.{drop_all, get_or-take, length-take}
 use Rattle.std.proofs.lemmas.List.Folds.{list_all_at}
 use Rattle.std.proofs.lemmas.List.Sums.{passes_at_first, position_or_len_is}
-use Rattle.tre_define.specs.Named.{is_colon, number_in, range_between, range_of, small_in}
+use Rattle.tre_define.specs.Named.{is_colon, number_in, range_between, range_within, small_in}
 
-range_of-none : (left : Option ℤ) → range_of left None ≡ None
+range_of-none : (left : Option ℤ) → range_within left None ≡ None
 range_of-none None = refl
 range_of-none (Some left) = refl
 
@@ -24,7 +24,7 @@ no-colon text none =
     (λ past. absurd (omega (arith, past))) in
     let behind : after_first is_colon text ≡ [] =
     drop_all (position_or_len is_colon text + 1) text (omega (arith, last)) in
-    ap (λ right. range_of (number_in (before_first is_colon text)) (number_in right)) behind
+    ap (λ right. range_within (number_in (before_first is_colon text)) (number_in right)) behind
     ∙ range_of-none (number_in (before_first is_colon text))
 
 -- ---- brackets
@@ -68,7 +68,7 @@ bracket-first text stop within bracket none =
           let colon = position_or_len is_colon text in
           let long : stop < length (take colon text) =
           omega (arith, before, within, length-take colon text) in
-          ap (λ left. range_of left (number_in (after_first is_colon text)))
+          ap (λ left. range_within left (number_in (after_first is_colon text)))
           (number-bracket (before_first is_colon text) stop long
           (get_or-take colon text stop 0 before ∙ bracket))
       by (inr past) =

@@ -11,7 +11,7 @@ use Rattle.std.proofs.lemmas.List.Quantifiers.{all_pairs_push}
 use Rattle.std.proofs.lemmas.List.Splits.{slice_split_first, slice_split_none}
 use Rattle.std.proofs.lemmas.List.Sums.{fails_before_first, position_or_len_is}
 use Rattle.std.proofs.lemmas.Slice.Eq.{bytes_eq-Decides}
-use Rattle.tre_define.specs.Texts.{Define, HasFault, IsRefused, is_semicolon, is_space, named, parts_of}
+use Rattle.tre_define.specs.Texts.{Define, PartHasFault, PartsAreRefused, is_semicolon, is_space, named, parts_of}
 use Rattle.tre_define.specs.Pieces.{past_spaces}
 use Rattle.tre_define.specs.declared.let_fault.LetFault.{LetFault}
 
@@ -92,7 +92,7 @@ module _ {D : Type 0} {Spells : List ℕ → D → Type 0} {name_of : D → List
 
   pub refused : (all rest : List (List ℕ)) (definitions : List D) (part : List ℕ)
       (fault : LetFault) → HasDefined Spells name_of all definitions (part ∷ rest)
-      → HasFault Spells name_of definitions (length definitions + 1) part fault → IsRefused Spells name_of all fault
+      → PartHasFault Spells name_of definitions (length definitions + 1) part fault → PartsAreRefused Spells name_of all fault
   refused all rest definitions part fault has bad = record {
     front = has.front;
     part = part;
@@ -100,7 +100,7 @@ module _ {D : Type 0} {Spells : List ℕ → D → Type 0} {name_of : D → List
     split = has.split;
     definitions = definitions;
     good = has.good;
-    bad = subst (λ n. HasFault Spells name_of definitions (n + 1) part fault)
+    bad = subst (λ n. PartHasFault Spells name_of definitions (n + 1) part fault)
         (sym (SpellAll-length Spells has.front definitions has.good.spelt)) bad;
   }
 

@@ -7,7 +7,7 @@ use Rattle.std.proofs.Math.ListN.{get_or-append}
 use Rattle.std.proofs.Math.Seq.{get_or-append_seam}
 use Rattle.std.proofs.lemmas.List.{length-append}
 use Rattle.std.proofs.lemmas.Slice.Eq.{bytes_eq-Decides}
-use Rattle.tre_define.specs.Texts.{Define, HasFault, IsRefused, named}
+use Rattle.tre_define.specs.Texts.{Define, PartHasFault, PartsAreRefused, named}
 use Rattle.tre_define.specs.declared.let_fault.LetFault.{LetFault}
 use Rattle.tre_define.specs.declared.let_fault.LetFault.TheVariants.{BadLet, Twice, Memory}
 
@@ -90,7 +90,7 @@ module _ {D : Type 0} (Spells : List ℕ → D → Type 0) (name_of : D → List
   no_fault : (definitions rest : List D) (defined : D) (number : ℕ) (part : List ℕ)
       (fault : LetFault)
       → AllPairs (λ one other. name_of one ≢ name_of other) (definitions ++ defined ∷ rest)
-      → Spells part defined → HasFault Spells name_of definitions number part fault → ⊥
+      → Spells part defined → PartHasFault Spells name_of definitions number part fault → ⊥
   no_fault definitions rest defined number part (BadLet at) apart spells bad = bad.1 defined spells
   no_fault definitions rest defined number part (Twice at) apart spells bad =
       let again = bad.1 in
@@ -124,22 +124,22 @@ module _ {D : Type 0} (Spells : List ℕ → D → Type 0) (name_of : D → List
 
   no_both : (front back : List (List ℕ)) (part : List ℕ) (all definitions : List D)
       (number : ℕ) (fault : LetFault) → Define Spells name_of (front ++ part ∷ back) all
-      → Define Spells name_of front definitions → HasFault Spells name_of definitions number part fault → ⊥
+      → Define Spells name_of front definitions → PartHasFault Spells name_of definitions number part fault → ⊥
   no_both front back part all definitions number fault whole good bad =
       let cut = parted front back part all whole.spelt in
       let same = same-definitions front definitions cut.definitions good.spelt cut.before in
       no_fault cut.definitions cut.rest cut.defined number part fault
       (subst (λ ds. AllPairs (λ one other. name_of one ≢ name_of other) ds) cut.is whole.apart) cut.here
-      (subst (λ ds. HasFault Spells name_of ds number part fault) same bad)
+      (subst (λ ds. PartHasFault Spells name_of ds number part fault) same bad)
 
   pub refused-or : (parts : List (List ℕ)) (definitions : List D) (fault : LetFault)
-      → Define Spells name_of parts definitions → IsRefused Spells name_of parts fault → ⊥
+      → Define Spells name_of parts definitions → PartsAreRefused Spells name_of parts fault → ⊥
   refused-or parts definitions fault all is =
       no_both is.front is.back is.part definitions is.definitions (length is.front + 1) fault
       (subst (λ xs. Define Spells name_of xs definitions) is.split all) is.good is.bad
 
   same-fault : (definitions : List D) (number : ℕ) (part : List ℕ) (one other : LetFault)
-      → HasFault Spells name_of definitions number part one → HasFault Spells name_of definitions number part other → one ≡ other
+      → PartHasFault Spells name_of definitions number part one → PartHasFault Spells name_of definitions number part other → one ≡ other
   same-fault definitions number part (BadLet a) (BadLet b) is also =
       ap (λ at. BadLet at) (is.0 ∙ sym also.0)
   same-fault definitions number part (BadLet a) (Twice b) is also =
@@ -152,8 +152,8 @@ module _ {D : Type 0} (Spells : List ℕ → D → Type 0) (name_of : D → List
   same-fault definitions number part (Twice a) Memory is also = absurd also
   same-fault definitions number part Memory other is also = absurd is
 
-  pub one-fault : (parts : List (List ℕ)) (one other : LetFault) → IsRefused Spells name_of parts one
-      → IsRefused Spells name_of parts other → one ≡ other
+  pub one-fault : (parts : List (List ℕ)) (one other : LetFault) → PartsAreRefused Spells name_of parts one
+      → PartsAreRefused Spells name_of parts other → one ≡ other
   one-fault parts one other is also =
       fronts is.front also.front is.back also.back is.part also.part (sym is.split ∙ also.split)
       (λ mid e. absurd (no_both is.front mid is.part also.definitions is.definitions
@@ -162,11 +162,11 @@ module _ {D : Type 0} (Spells : List ℕ → D → Type 0) (name_of : D → List
       (λ e here.
       let same = same-definitions also.front is.definitions also.definitions
       (subst (λ xs. AllZip Spells xs is.definitions) e is.good.spelt) also.good.spelt in
-      let at_front = subst (λ xs. HasFault Spells name_of is.definitions (length xs + 1) is.part one) e is.bad in
-      let at_part = subst (λ x. HasFault Spells name_of is.definitions (length also.front + 1) x one) here at_front
+      let at_front = subst (λ xs. PartHasFault Spells name_of is.definitions (length xs + 1) is.part one) e is.bad in
+      let at_part = subst (λ x. PartHasFault Spells name_of is.definitions (length also.front + 1) x one) here at_front
       in
       same-fault also.definitions (length also.front + 1) also.part one other
-      (subst (λ ds. HasFault Spells name_of ds (length also.front + 1) also.part one) same at_part) also.bad)
+      (subst (λ ds. PartHasFault Spells name_of ds (length also.front + 1) also.part one) same at_part) also.bad)
       (λ mid e. absurd (no_both also.front mid also.part is.definitions also.definitions
       (length also.front + 1) other (subst (λ xs. Define Spells name_of xs is.definitions) e is.good) also.good
       also.bad))

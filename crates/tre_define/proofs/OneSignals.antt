@@ -3,7 +3,7 @@ use Rattle.std.proofs.Common.{◌≡◌, ℕ, List, ◌∷◌, sym, ap, subst, �
 use Rattle.std.specs.List.{AllZip}
 use Rattle.tre_define.specs.declared.let_fault.LetFault.{LetFault}
 use Rattle.tre_define.specs.Pieces.{past_spaces}
-use Rattle.tre_define.specs.Signals.{AreRefused, DefineSignals, IsRead, SignalDefined, Spells, name_of}
+use Rattle.tre_define.specs.Signals.{AreRefused, DefineSignals, IsReadBehind, SignalDefined, Spells, name_of_signal}
 use Rattle.tre_define.proofs.OneReading as texts
 use Rattle.tre_define.proofs.ReadsOf.{same-reads}
 use Rattle.tre_define.proofs.SignalParts.{AreParts, cut-at, parts-are}
@@ -27,7 +27,7 @@ same-parts text one other is also =
     let behind : is.behind ≡ also.behind = sym cut.back ∙ cut'.back in
     same-fields one other (sym is.name ∙ also.name) (sym cut.front ∙ cut'.front)
     (same-reads also.behind one.reads other.reads
-    (subst (λ xs. IsRead one.reads xs) behind is.read) also.read)
+    (subst (λ xs. IsReadBehind one.reads xs) behind is.read) also.read)
 
 same-definition : (part : List ℕ) (one other : SignalDefined) → Spells part one
     → Spells part other → one ≡ other
@@ -36,12 +36,12 @@ same-definition part one other is also =
 
 pub same-definitions : (parts : List (List ℕ)) (one other : List SignalDefined)
     → AllZip Spells parts one → AllZip Spells parts other → one ≡ other
-same-definitions = texts.same-definitions Spells name_of same-definition
+same-definitions = texts.same-definitions Spells name_of_signal same-definition
 
 pub refused-or : (parts : List (List ℕ)) (definitions : List SignalDefined) (fault : LetFault)
     → DefineSignals parts definitions → AreRefused parts fault → ⊥
-refused-or = texts.refused-or Spells name_of same-definition
+refused-or = texts.refused-or Spells name_of_signal same-definition
 
 pub one-fault : (parts : List (List ℕ)) (one other : LetFault) → AreRefused parts one
     → AreRefused parts other → one ≡ other
-one-fault = texts.one-fault Spells name_of same-definition
+one-fault = texts.one-fault Spells name_of_signal same-definition

@@ -14,9 +14,9 @@ use Rattle.tre_state.specs.Name.{continues_name}
 use Rattle.tre_define.specs.declared.comparison.Comparison.{Comparison}
 use Rattle.tre_define.specs.declared.reads.Reads.{Reads}
 use Rattle.tre_define.specs.declared.reads.Reads.TheVariants.{Bit, Changes, Compared}
-use Rattle.tre_define.specs.Behind.{is_changes, last_number}
+use Rattle.tre_define.specs.Behind.{is_changes_word, last_number}
 use Rattle.tre_define.specs.Pieces.{behind_piece, past_spaces, piece, sign_in}
-use Rattle.tre_define.specs.Signals.{IsRead, based, is_no_space, number_in}
+use Rattle.tre_define.specs.Signals.{IsReadBehind, based, is_no_space, number_in}
 use Rattle.tre_define.specs.Texts.{IsSpaced, is_space, sign_text}
 use Rattle.tre_define.proofs.Cutting.{Stops, alone-is, empty, first, second, sign-is, sign-splits, sign-stops, some-same, spaces, spaces-past, spaced-alone, split-spaces, stops-spaces}
 
@@ -193,7 +193,7 @@ changes-unsigned behind is =
 pub nothing-read : (behind : List ℕ) → (IsSpaced [] behind → ⊥)
     → ((comparison : Comparison) (digits : List ℕ) (number : ℕ) → number_in digits ≡ Some number
     → IsSpaced (sign_text comparison ∷ digits ∷ []) behind → ⊥)
-    → (IsSpaced (codes "changes" ∷ []) behind → ⊥) → (reads : Reads) → IsRead reads behind → ⊥
+    → (IsSpaced (codes "changes" ∷ []) behind → ⊥) → (reads : Reads) → IsReadBehind reads behind → ⊥
 nothing-read behind bit compared changes Bit is = bit is
 nothing-read behind bit compared changes (Compared comparison number) is =
     compared comparison is.0 number is.1 is.2
@@ -230,7 +230,7 @@ last-number text digits number value spaced =
     ∙ ap number_in alone.run_is
     ∙ value
 
-pub changes-spaced : (text : List ℕ) → is_changes text ≡ true
+pub changes-spaced : (text : List ℕ) → is_changes_word text ≡ true
     → IsSpaced (codes "changes" ∷ []) text
 changes-spaced text is =
     let word = piece continues_name text in
@@ -242,7 +242,7 @@ changes-spaced text is =
     subst (λ run. IsSpaced (run ∷ []) text) same (spaced-alone continues_name text end)
 
 pub spaced-changes : (text : List ℕ) → IsSpaced (codes "changes" ∷ []) text
-    → is_changes text ≡ true
+    → is_changes_word text ≡ true
 spaced-changes text spaced =
     let alone = alone-is continues_name text (codes "changes") refl refl (omega arith) spaced in
     ap (λ word. bytes_eq word (codes "changes")
@@ -253,7 +253,7 @@ spaced-changes text spaced =
 
 pub no-number : (behind : List ℕ) (comparison : Comparison) (rest : List ℕ)
     → sign_in (past_spaces behind) ≡ Some (record { comparison = comparison; rest = rest })
-    → last_number rest ≡ None → (reads : Reads) → IsRead reads behind → ⊥
+    → last_number rest ≡ None → (reads : Reads) → IsReadBehind reads behind → ⊥
 no-number behind comparison rest sign none =
     nothing-read behind
     (λ is. none-some _ (ap sign_in (sym (bit-unsigned behind is)) ∙ sign))
@@ -266,8 +266,8 @@ no-number behind comparison rest sign none =
     (λ is. none-some _ (sym (changes-unsigned behind is) ∙ sign))
 
 pub no-changes : (behind : List ℕ) → (past_spaces behind ≡ [] → ⊥)
-    → sign_in (past_spaces behind) ≡ None → is_changes behind ≡ false
-    → (reads : Reads) → IsRead reads behind → ⊥
+    → sign_in (past_spaces behind) ≡ None → is_changes_word behind ≡ false
+    → (reads : Reads) → IsReadBehind reads behind → ⊥
 no-changes behind some sign none =
     nothing-read behind
     (λ is. some (bit-unsigned behind is))
@@ -278,7 +278,7 @@ no-changes behind some sign none =
 
 pub compared-read : (behind : List ℕ) (comparison : Comparison) (rest : List ℕ) (number : ℕ)
     → sign_in (past_spaces behind) ≡ Some (record { comparison = comparison; rest = rest })
-    → last_number rest ≡ Some number → IsRead (Compared comparison number) behind
+    → last_number rest ≡ Some number → IsReadBehind (Compared comparison number) behind
 compared-read behind comparison rest number sign is =
     let last = number-last rest number is in
     (last.digits, last.value, compared-spaced behind last.digits comparison rest sign last.spaced)
@@ -293,7 +293,7 @@ no-bit : (behind bytes : List ℕ) (byte : ℕ) → past_spaces behind ≡ byte 
 no-bit behind bytes byte some is =
     let none : [] ≡ byte ∷ bytes = sym (bit-unsigned behind is) ∙ some in cc
 
-pub same-reads : (behind : List ℕ) (one other : Reads) → IsRead one behind → IsRead other behind
+pub same-reads : (behind : List ℕ) (one other : Reads) → IsReadBehind one behind → IsReadBehind other behind
     → one ≡ other
 same-reads behind Bit Bit is also = refl
 same-reads behind Bit (Compared comparison number) is also =

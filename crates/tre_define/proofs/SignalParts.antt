@@ -7,7 +7,7 @@ use Rattle.std.proofs.lemmas.List.{drop_at, take_at}
 use Rattle.std.proofs.lemmas.Str.{IsCharBoundary-after_ascii, IsCharBoundary-before_ascii, IsCharBoundary-end, IsUtf8-drop, IsUtf8-take}
 use Rattle.tre_state.specs.Name.{continues_name, IsName, IsWord}
 use Rattle.tre_define.specs.Pieces.{behind_piece, past_spaces, piece}
-use Rattle.tre_define.specs.Signals.{IsRead, IsSignal, SignalDefined, Spells, signal_len}
+use Rattle.tre_define.specs.Signals.{IsReadBehind, IsSignal, SignalDefined, Spells, signal_len}
 use Rattle.tre_define.specs.Texts.{is_space}
 use Rattle.tre_define.proofs.Cutting.{piece-cuts, piece-is, spaces, spaces-past, split-spaces, word-ascii, word-passes}
 use Rattle.tre_define.proofs.SignalLength.{len-within, signal-starts, stops-ascii}
@@ -20,7 +20,7 @@ pub record AreParts (text : List ℕ) (defined : SignalDefined) : Type 0 where
   pub equals : behind_piece continues_name text ≡ 61 ∷ after
   pub rest : past_spaces after ≡ defined.signal ++ behind
   pub signal : IsSignal defined.signal behind
-  pub read : IsRead defined.reads behind
+  pub read : IsReadBehind defined.reads behind
 
 regroup : (a b c d tail : List ℕ) → (a ++ (b ++ (c ++ (61 ∷ d)))) ++ tail
     ≡ a ++ (b ++ (c ++ (61 ∷ (d ++ tail))))

@@ -1,7 +1,7 @@
 -- Every text of definitions is some, or has a first fault.
 use Rattle.std.proofs.Common.{◌≡◌, ℕ, ◌+◌, ◌⊎◌, Option, Some, None, List, [], ◌∷◌, ◌++◌, length, refl, sym, ◌∙◌, inl, inr}
 use Rattle.std.proofs.lemmas.Option.{none-some}
-use Rattle.tre_define.specs.Texts.{Define, IsRefused, named, parts_of}
+use Rattle.tre_define.specs.Texts.{Define, PartsAreRefused, named, parts_of}
 use Rattle.tre_define.specs.declared.let_fault.LetFault.{LetFault}
 use Rattle.tre_define.specs.declared.let_fault.LetFault.TheVariants.{BadLet, Twice}
 use Rattle.tre_define.proofs.Defining.{HasDefined, all-defined, begins, one-more, refused}
@@ -16,7 +16,7 @@ module _ {D : Type 0} (Spells : List ℕ → D → Type 0) (name_of : D → List
   -- The parts are definitions, or have a first fault.
   abbrev IsRead : List (List ℕ) → Type 0
   IsRead all = ((definitions : List D) × Define Spells name_of all definitions)
-      ⊎ ((fault : LetFault) × IsRefused Spells name_of all fault)
+      ⊎ ((fault : LetFault) × PartsAreRefused Spells name_of all fault)
 
   module _ (all rest : List (List ℕ)) (definitions : List D) (part : List ℕ)
       (has : HasDefined Spells name_of all definitions (part ∷ rest))
@@ -49,5 +49,5 @@ module _ {D : Type 0} (Spells : List ℕ → D → Type 0) (name_of : D → List
 
   pub some_reading : (text : List ℕ)
       → ((definitions : List D) × Define Spells name_of (parts_of text) definitions)
-      ⊎ ((fault : LetFault) × IsRefused Spells name_of (parts_of text) fault)
+      ⊎ ((fault : LetFault) × PartsAreRefused Spells name_of (parts_of text) fault)
   some_reading text = parts_read (parts_of text) (parts_of text) [] (begins (parts_of text))

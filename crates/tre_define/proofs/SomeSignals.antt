@@ -7,9 +7,9 @@ use Rattle.tre_state.specs.Name.{continues_name, IsName}
 use Rattle.tre_define.specs.declared.let_fault.LetFault.{LetFault}
 use Rattle.tre_define.specs.declared.reads.Reads.{Reads}
 use Rattle.tre_define.specs.declared.reads.Reads.TheVariants.{Bit, Changes, Compared}
-use Rattle.tre_define.specs.Behind.{is_changes, last_number}
+use Rattle.tre_define.specs.Behind.{is_changes_word, last_number}
 use Rattle.tre_define.specs.Pieces.{Signed, behind_equals, behind_piece, past_spaces, piece, sign_in}
-use Rattle.tre_define.specs.Signals.{AreRefused, DefineSignals, IsRead, IsSignal, SignalDefined, Spells, name_of, signal_len}
+use Rattle.tre_define.specs.Signals.{AreRefused, DefineSignals, IsReadBehind, IsSignal, SignalDefined, Spells, name_of_signal, signal_len}
 use Rattle.tre_define.specs.Texts.{parts_of}
 use Rattle.tre_define.proofs.Cutting.{equals-is, some-same}
 use Rattle.tre_define.proofs.Deciding.{Decided, name_or}
@@ -24,7 +24,7 @@ use Rattle.tre_define.proofs.SomeReading.{IsOrNot}
 -- Something is read, or nothing.
 abbrev IsReadOr : List ℕ → Type 0
 IsReadOr behind =
-    ((reads : Reads) × IsRead reads behind) ⊎ ((reads : Reads) → IsRead reads behind → ⊥)
+    ((reads : Reads) × IsReadBehind reads behind) ⊎ ((reads : Reads) → IsReadBehind reads behind → ⊥)
 
 module _ (behind : List ℕ) where
   with_number : (signed : Signed) → sign_in (past_spaces behind) ≡ Some signed
@@ -38,13 +38,13 @@ module _ (behind : List ℕ) where
       )
 
   with_word : (past_spaces behind ≡ [] → ⊥) → sign_in (past_spaces behind) ≡ None
-      → (changes : Bool) → is_changes behind ≡ changes → IsReadOr behind
+      → (changes : Bool) → is_changes_word behind ≡ changes → IsReadOr behind
   with_word some sign true e = inl (Changes, changes-spaced behind e)
   with_word some sign false e = inr (no-changes behind some sign e)
 
   with_sign : (past_spaces behind ≡ [] → ⊥) → (signed : Option Signed)
       → sign_in (past_spaces behind) ≡ signed → IsReadOr behind
-  with_sign some None e = with_word some e (is_changes behind) refl
+  with_sign some None e = with_word some e (is_changes_word behind) refl
   with_sign some (Some signed) e = with_number signed e (last_number signed.rest) refl
 
   with_rest : (text : List ℕ) → past_spaces behind ≡ text → IsReadOr behind
@@ -83,18 +83,18 @@ no-signal text after defined is found none =
 
 pub no-reads : (text after : List ℕ) (defined : SignalDefined) → Spells text defined
     → behind_equals (behind_piece continues_name text) ≡ Some after
-    → IsRead defined.reads (drop (signal_len (past_spaces after)) (past_spaces after))
+    → IsReadBehind defined.reads (drop (signal_len (past_spaces after)) (past_spaces after))
 no-reads text after defined is found =
     let parts = parts-are text defined is in
     let rest = same-rest text after defined parts found in
     let cut = cut-at (past_spaces after) defined.signal parts.behind rest parts.signal in
-    subst (λ xs. IsRead defined.reads xs) (sym cut.back) parts.read
+    subst (λ xs. IsReadBehind defined.reads xs) (sym cut.back) parts.read
 
 -- The parts that were cut are a definition.
 pub cut-spells : (text after : List ℕ) (reads : Reads)
     → behind_equals (behind_piece continues_name text) ≡ Some after
     → 0 < signal_len (past_spaces after)
-    → IsRead reads (drop (signal_len (past_spaces after)) (past_spaces after))
+    → IsReadBehind reads (drop (signal_len (past_spaces after)) (past_spaces after))
     → IsName (piece continues_name text)
     → Spells text (record {
       name = piece continues_name text;
@@ -120,7 +120,7 @@ cut-spells text after reads found some read name =
 module _ (part after : List ℕ)
     (found : behind_equals (behind_piece continues_name part) ≡ Some after) where
   at_name : (reads : Reads) → 0 < signal_len (past_spaces after)
-      → IsRead reads (drop (signal_len (past_spaces after)) (past_spaces after))
+      → IsReadBehind reads (drop (signal_len (past_spaces after)) (past_spaces after))
       → Decided (IsName (piece continues_name part)) → IsOrNot Spells part
   at_name reads some read (inl name) = inl (_, cut-spells part after reads found some read name)
   at_name reads some read (inr never) = inr (λ defined is.
@@ -154,4 +154,4 @@ is_or_not part = at_equals part (behind_equals (behind_piece continues_name part
 pub some_reading : (text : List ℕ)
     → ((definitions : List SignalDefined) × DefineSignals (parts_of text) definitions)
     ⊎ ((fault : LetFault) × AreRefused (parts_of text) fault)
-some_reading = texts.some_reading Spells name_of is_or_not
+some_reading = texts.some_reading Spells name_of_signal is_or_not

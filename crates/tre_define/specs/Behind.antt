@@ -6,8 +6,8 @@ use Rattle.tre_define.specs.Pieces.{behind_piece, piece}
 use Rattle.tre_define.specs.Signals.{is_no_space, number_in}
 
 -- whether the text is the word for changes, with spaces round it
-abbrev pub is_changes : List ℕ → Bool
-is_changes text =
+abbrev pub is_changes_word : List ℕ → Bool
+is_changes_word text =
     bytes_eq (piece continues_name text) (codes "changes")
     && length (behind_piece continues_name text) == 0
 

@@ -31,12 +31,12 @@ between_brackets (byte ∷ bytes) =
 abbrev pub is_colon : ℕ → Bool
 is_colon byte = byte == 58
 
-abbrev pub range_of : Option ℤ → Option ℤ → Option Range
-range_of (Some left) (Some right) = Some (record { left = left; right = right })
-range_of _ _ = None
+abbrev pub range_within : Option ℤ → Option ℤ → Option Range
+range_within (Some left) (Some right) = Some (record { left = left; right = right })
+range_within _ _ = None
 
 abbrev pub range_between : List ℕ → Option Range
-range_between numbers = range_of (number_in (before_first is_colon numbers))
+range_between numbers = range_within (number_in (before_first is_colon numbers))
     (number_in (after_first is_colon numbers))
 
 -- the range that `[i:j]` is
@@ -64,13 +64,13 @@ ranged_in (byte ∷ bytes) = option_or
     (option_map (longer byte) (ranged_in bytes))
 
 -- the numbers of so many bits, of which no more than 2^31 can be selected
-abbrev pub counted : ℕ → Range
-counted size = record { left = pos (min size (2 ^ 31) - 1); right = pos 0 }
+abbrev pub counted_bits : ℕ → Range
+counted_bits size = record { left = pos (min size (2 ^ 31) - 1); right = pos 0 }
 
 -- the same; where there is no range, the bits are numbered from size - 1 down to 0
 abbrev pub ranged : List ℕ → ℕ → Ranged
 ranged name size = option_map_or (λ found. found) (ranged_in name)
-    (record { base = name; range = counted size })
+    (record { base = name; range = counted_bits size })
 
 -- the numbers don't rise
 abbrev pub falls : ℤ → ℤ → ℤ → ℤ → Bool

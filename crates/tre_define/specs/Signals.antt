@@ -5,7 +5,7 @@ use Rattle.std.specs.List.{list_all, prefix_len}
 use Rattle.std.specs.Str.Parse.{digits_value}
 use Rattle.tre_state.specs.Name.{IsName}
 use Rattle.tre_define.specs.Named.{part_named}
-use Rattle.tre_define.specs.Texts.{Define, IsRefused, IsSpaced, is_space, named, sign_text}
+use Rattle.tre_define.specs.Texts.{Define, PartsAreRefused, IsSpaced, is_space, named, sign_text}
 use Rattle.tre_define.specs.Values.{one_bit}
 use Rattle.tre_define.specs.declared.let_fault.LetFault.{LetFault}
 use Rattle.tre_define.specs.declared.part.Part.{Part}
@@ -19,12 +19,12 @@ pub record SignalDefined : Type 0 where
   pub signal : List ℕ
   pub reads : Reads
 
-abbrev pub name_of : SignalDefined → List ℕ
-name_of defined = defined.name
+abbrev pub name_of_signal : SignalDefined → List ℕ
+name_of_signal defined = defined.name
 
 -- the first definition of a name
 abbrev pub signal_definition_of : List SignalDefined → List ℕ → Option SignalDefined
-signal_definition_of definitions name = named name_of definitions name
+signal_definition_of definitions name = named name_of_signal definitions name
 
 -- ---- what a definition reads
 
@@ -93,12 +93,12 @@ number_in (byte ∷ next ∷ digits) =
     else (if byte == 48 && next == 98 then based 2 digits else based 10 (byte ∷ next ∷ digits))
 
 -- This is read, by what stands behind the signal's text.
-abbrev pub IsRead : Reads → List ℕ → Type 0
-IsRead Bit behind = IsSpaced [] behind
-IsRead (Compared comparison number) behind =
+abbrev pub IsReadBehind : Reads → List ℕ → Type 0
+IsReadBehind Bit behind = IsSpaced [] behind
+IsReadBehind (Compared comparison number) behind =
     (digits : List ℕ) × (number_in digits ≡ Some number)
     × IsSpaced (sign_text comparison ∷ digits ∷ []) behind
-IsRead Changes behind = IsSpaced (codes "changes" ∷ []) behind
+IsReadBehind Changes behind = IsSpaced (codes "changes" ∷ []) behind
 
 -- The text is this definition: a name and `=`, a signal's text, and what is read of it.
 pub record Spells (text : List ℕ) (defined : SignalDefined) : Type 0 where
@@ -108,14 +108,14 @@ pub record Spells (text : List ℕ) (defined : SignalDefined) : Type 0 where
   pub spaced : IsSpaced (defined.name ∷ codes "=" ∷ []) front
   pub name : IsName defined.name
   pub signal : IsSignal defined.signal behind
-  pub read : IsRead defined.reads behind
+  pub read : IsReadBehind defined.reads behind
 
 -- ---- the definitions of a text
 
 -- The parts are these definitions.
 abbrev pub DefineSignals : List (List ℕ) → List SignalDefined → Type 0
-DefineSignals parts definitions = Define Spells name_of parts definitions
+DefineSignals parts definitions = Define Spells name_of_signal parts definitions
 
 -- The parts are none, for this fault.
 abbrev pub AreRefused : List (List ℕ) → LetFault → Type 0
-AreRefused parts fault = IsRefused Spells name_of parts fault
+AreRefused parts fault = PartsAreRefused Spells name_of_signal parts fault

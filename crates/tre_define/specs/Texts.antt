@@ -54,17 +54,17 @@ pub record Define {D : Type 0} (Spells : List ℕ → D → Type 0) (name_of : D
   pub apart : AllPairs (λ one other. name_of one ≢ name_of other) definitions
 
 -- Behind these definitions the part has this fault, which is told with a number.
-abbrev pub HasFault : {D : Type 0} → (List ℕ → D → Type 0) → (D → List ℕ) → List D → ℕ → List ℕ
+abbrev pub PartHasFault : {D : Type 0} → (List ℕ → D → Type 0) → (D → List ℕ) → List D → ℕ → List ℕ
     → LetFault → Type 0
-HasFault Spells name_of definitions number part (BadLet at) =
+PartHasFault Spells name_of definitions number part (BadLet at) =
     (at ≡ number) × ((defined : _) → ¬ Spells part defined)
-HasFault Spells name_of definitions number part (Twice at) =
+PartHasFault Spells name_of definitions number part (Twice at) =
     (at ≡ number) × ((defined : _) × Spells part defined
     × (named name_of definitions (name_of defined) ≢ None))
-HasFault Spells name_of definitions number part Memory = ⊥
+PartHasFault Spells name_of definitions number part Memory = ⊥
 
 -- The first part with a fault, behind parts that are definitions.
-pub record IsRefused {D : Type 0} (Spells : List ℕ → D → Type 0) (name_of : D → List ℕ)
+pub record PartsAreRefused {D : Type 0} (Spells : List ℕ → D → Type 0) (name_of : D → List ℕ)
     (parts : List (List ℕ)) (fault : LetFault) : Type 0 where
   pub front : List (List ℕ)
   pub part : List ℕ
@@ -72,4 +72,4 @@ pub record IsRefused {D : Type 0} (Spells : List ℕ → D → Type 0) (name_of 
   pub split : parts ≡ front ++ (part ∷ back)
   pub definitions : List D
   pub good : Define Spells name_of front definitions
-  pub bad : HasFault Spells name_of definitions (length front + 1) part fault
+  pub bad : PartHasFault Spells name_of definitions (length front + 1) part fault

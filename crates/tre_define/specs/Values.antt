@@ -27,8 +27,8 @@ is_known part letters =
     nat_le (part.low + part.width) (length letters) || is_bit (slice_index letters 0)
 
 -- the number of a part; none where a bit of it is unknown
-abbrev pub number_of : Part → List ℕ → Option ℕ
-number_of part letters =
+abbrev pub number_of_part : Part → List ℕ → Option ℕ
+number_of_part part letters =
     if is_known part letters && list_all is_bit (letters_of part letters)
     then Some (digits_value 2 (letters_of part letters)) else None
 
@@ -36,7 +36,7 @@ number_of part letters =
 abbrev pub passes : Test → List ℕ → Bool
 passes test letters =
     option_map_or (λ number. compares test.comparison (pos number) (pos test.number))
-    (number_of test.part letters) false
+    (number_of_part test.part letters) false
 
 -- The bits of the part, which is one, are 1.
 abbrev pub one_bit : Part → Test

@@ -2,7 +2,7 @@
 ghost use Rattle.std.specs.Prelude.{◌≡◌, ◌<◌, ◌≤◌, length, IfNone, IfSome, None};
 ghost use Rattle.std.specs.List.{position_or_len};
 ghost use Rattle.std.specs.Option.{option_map};
-ghost use Rattle.tre_define.specs.Named.{part_named, part_in, falls, counted, ranged, select_in, range_in, range_between, between_brackets, number_in, small_in, is_colon};
+ghost use Rattle.tre_define.specs.Named.{part_named, part_in, falls, counted_bits, ranged, select_in, range_in, range_between, between_brackets, number_in, small_in, is_colon};
 
 use crate::part::Part;
 use tre_decimal::read_numeral;
@@ -53,7 +53,7 @@ fn split_range(name: &[u8], size: u64) -> (&[u8], Range)
 // The numbers of so many bits.
 fn counted(size: u64) -> Range
     requires { 1 ≤ size }
-    ensures { result ≡ counted size }
+    ensures { result ≡ counted_bits size }
 {
     Range {
         left: (size.min(1 << 31) - 1) as i32,

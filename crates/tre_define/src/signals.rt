@@ -3,9 +3,9 @@ ghost use Rattle.std.specs.Prelude.{◌≡◌, ◌≢◌, ◌+◌, ◌≤◌, �
 ghost use Rattle.std.specs.List.{prefix_len};
 ghost use Rattle.std.specs.Option.{option_map};
 ghost use Rattle.std.specs.Str.{IsUtf8};
-ghost use Rattle.tre_define.specs.Behind.{is_changes, last_number};
-ghost use Rattle.tre_define.specs.Signals.{AreRefused, DefineSignals, IsRead, SignalDefined, Spells, ends_signal, is_no_space, name_of, signal_definition_of, signal_len};
-ghost use Rattle.tre_define.specs.Texts.{HasFault, parts_of};
+ghost use Rattle.tre_define.specs.Behind.{is_changes_word, last_number};
+ghost use Rattle.tre_define.specs.Signals.{AreRefused, DefineSignals, IsReadBehind, SignalDefined, Spells, ends_signal, is_no_space, name_of_signal, signal_definition_of, signal_len};
+ghost use Rattle.tre_define.specs.Texts.{PartHasFault, parts_of};
 ghost use Rattle.tre_define.specs.declared.let_fault.LetFault.{LetFault};
 
 use crate::definition::SignalDefinition;
@@ -52,7 +52,7 @@ fn add(alloc: Global, definitions: &mut Vec<SignalDefinition>, part: &[u8]) -> R
         × Spells part.now defined
         × (signal_definition_of definitions.old.items defined.name ≡ None)) }
     ensures fault { IfErr result (λ fault. fault ≢ LetFault.Memory →
-        HasFault Spells name_of definitions.old.items (length definitions.old.items + 1)
+        PartHasFault Spells name_of_signal definitions.old.items (length definitions.old.items + 1)
         part.now fault) }
 {
     let at = definitions.len() as u64 + 1;
@@ -156,8 +156,8 @@ fn piece_len(bytes: &[u8]) -> usize
 
 // What is read, by what stands behind a signal's text.
 fn reads_in(behind: &[u8]) -> Option<Reads>
-    ensures some { IfSome result (λ reads. IsRead reads behind.now) }
-    ensures none { IfNone result ((reads : Reads) → ¬ IsRead reads behind.now) }
+    ensures some { IfSome result (λ reads. IsReadBehind reads behind.now) }
+    ensures none { IfNone result ((reads : Reads) → ¬ IsReadBehind reads behind.now) }
 {
     let text = skip_spaces(behind);
     if text.is_empty() {
@@ -176,7 +176,7 @@ fn reads_in(behind: &[u8]) -> Option<Reads>
 
 // Whether the text is the word for changes, with spaces round it.
 fn is_changes(text: &[u8]) -> bool
-    ensures { result ≡ is_changes text.now }
+    ensures { result ≡ is_changes_word text.now }
 {
     let (word, rest) = next_word(text);
     word == b"changes".as_slice() && rest.is_empty()

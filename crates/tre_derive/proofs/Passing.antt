@@ -25,7 +25,7 @@ use Rattle.tre_advance.specs.Advance.{GoesOver, MarkedBehind, before_piece, Adva
 use Rattle.tre_advance.proofs.Lists.{exact_again, zone_alone}
 use Rattle.tre_advance.proofs.Opening.{all_later}
 use Rattle.tre_residual.specs.Residual.{ResidualTree, joined, marked, Means, Builds}
-use Rattle.tre_derive.specs.Derivative.{EndingFrom, IsFresh, StepsTo, GoesOverTo, Begins}
+use Rattle.tre_derive.specs.Derivative.{EndingFrom, IsFresh, StepsTo, GoesOverTo, BeginsBehindPairs}
 use Rattle.tre_derive.proofs.Held.{held_ending}
 use Rattle.tre_derive.proofs.Standing.{stands_of, stands_for, stands_built}
 
@@ -175,7 +175,7 @@ module _ (piece : Piece) where
       )
 
       pub begins_of : IsUnbegun mark tree → GoesOverTo mark tree enter piece told rest
-          → Begins tree enter piece told rest
+          → BeginsBehindPairs tree enter piece told rest
       begins_of is goes = record {
         tells = record {
           exact = λ a b n some le.
@@ -220,7 +220,7 @@ module _ (piece : Piece) where
               (record { starts = from; same = refl; ends = early });
         }) h
 
-    pub fresh_of : Begins tree moments piece told rest → IsFresh tree piece rest
+    pub fresh_of : BeginsBehindPairs tree moments piece told rest → IsFresh tree piece rest
     fresh_of begins = record {
       across = stands_for piece
           (λ v. Crossing time (Composed (Held moments) (MatchesRest tree (From v))))

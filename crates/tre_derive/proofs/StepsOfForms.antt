@@ -29,7 +29,7 @@ use Rattle.tre_residual.specs.Residual.{ResidualTree, nothing, here, preceded, f
 use Rattle.tre_residual.proofs.Crossings.{ends_around, ends_within}
 use Rattle.tre_residual.proofs.Growth.{Means-grow, Means-early}
 use Rattle.tre_residual.proofs.Meanings.{IsOrdered-Means}
-use Rattle.tre_derive.specs.Derivative.{EndingFrom, StepsTo, Begins, ComesBehind}
+use Rattle.tre_derive.specs.Derivative.{EndingFrom, StepsTo, BeginsBehindPairs, ComesBehind}
 use Rattle.tre_derive.proofs.Held.{Agree-self, Agree-held, held_exactly, held_either, held_both, held_lasting, held_composed}
 use Rattle.tre_derive.proofs.Standing.{stands_for, stands_built, stands_nothing, stands_preceded, stands_followed, stands_either, stands_both, stands_lasting}
 
@@ -302,7 +302,7 @@ module _ (piece : Piece) where
 
     pub step_followed : (tree : PatternTree) (told : List ZoneBounds) (begun rest : ResidualTree)
         → NumbersBelow NAMES_MAX tree → EndBetween piece.begin time told'
-        → Begins tree told' piece told begun → ComesBehind rest' tree begun rest
+        → BeginsBehindPairs tree told' piece told begun → ComesBehind rest' tree begun rest
         → StepsTo (followed inner tree) piece told rest
     step_followed tree told begun rest numbers between begins comes =
         let within = MatchesRest tree (rest_of_piece piece) in

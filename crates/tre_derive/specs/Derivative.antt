@@ -52,7 +52,7 @@ pub record GoesOverTo (mark : MarkTree) (tree : PatternTree) (enter : List ZoneB
       (λ next. Crossing (end_of_piece piece) (GoesOver mark tree enter piece next)) rest
 
 -- The same of the pairs of the set, each followed by a match of the expression.
-pub record Begins (tree : PatternTree) (enter : List ZoneBounds) (piece : Piece)
+pub record BeginsBehindPairs (tree : PatternTree) (enter : List ZoneBounds) (piece : Piece)
     (told : List ZoneBounds) (rest : ResidualTree) : Type 0 where
   pub tells : HoldExactly told (Composed (Held enter) (MatchesRest tree (rest_of_piece piece)))
   pub leaves : StandsBehind piece

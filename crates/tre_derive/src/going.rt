@@ -7,7 +7,7 @@ ghost use Rattle.tre_mark.specs.MarkTree.{mark_of};
 ghost use Rattle.tre_mark.specs.Marked.{CanTakeIn, EndBetween, IsWellAt};
 ghost use Rattle.tre_advance.specs.Advance.{before_piece};
 ghost use Rattle.tre_residual.specs.Residual.{marked, residual_tree, Builds};
-ghost use Rattle.tre_derive.specs.Derivative.{GoesOverTo, Begins, StepsTo};
+ghost use Rattle.tre_derive.specs.Derivative.{GoesOverTo, BeginsBehindPairs, StepsTo};
 
 use crate::stepped::Stepped;
 use std::alloc::{AllocError, Global};
@@ -30,7 +30,8 @@ pub fn begin_behind(
     requires numbers { NumbersBelow NAMES_MAX (tree_of expr.now) }
     requires ends { EndBetween piece.now.begin (end_of_piece piece.now) zones.now }
     ensures { IfOk result (λ begun.
-        Begins (tree_of expr.now) zones.now piece.now begun.told (residual_tree begun.rest)) }
+        BeginsBehindPairs (tree_of expr.now) zones.now piece.now begun.told (residual_tree
+        begun.rest)) }
 {
     let mark = Mark::empty(alloc, expr)?;
     go_over(alloc, mark, expr, zones, piece)

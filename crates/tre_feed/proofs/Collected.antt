@@ -8,7 +8,7 @@ use Rattle.tre_trace.specs.Trace.{Timeline, IsTrace}
 use Rattle.tre_feed.specs.Each.{recording_by}
 use Rattle.tre_feed.specs.Input.{InputTold, WereRead, AllReadsGood, AreAllBytes, TakesAtMost, HasReadCause}
 use Rattle.tre_feed.specs.Traces.{IsWhole, StopsReading, trace_for}
-use Rattle.tre_feed.specs.Turn.{IsFed, HasRead, GoesOn, IsEnded, StopsTurn, TakesOn}
+use Rattle.tre_feed.specs.Turn.{TurnIsFed, HasRead, TurnGoesOn, TurnIsEnded, StopsTurn, TakesOn}
 use Rattle.tre_feed.specs.declared.fault.Fault.{Fault}
 use Rattle.tre_feed.specs.declared.fault.Fault.TheVariants.{Trace, TooLong, TooManyZones, Read, Write, Memory}
 use Rattle.tre_feed.specs.declared.each.Fed.{Fed}
@@ -36,7 +36,7 @@ pub record IsCollected (were_fed : List ℕ → Type 0) (waits : List Stretch �
     (recording : Bool → List ℕ → Recording) (limit : ℕ) (file left found : Option (List ℕ))
     (count : ℕ) : Type 0 where
   pub bytes : List ℕ
-  pub fed : IsFed were_fed limit file left found count bytes
+  pub fed : TurnIsFed were_fed limit file left found count bytes
   pub told : waits (recording false (take limit bytes)).stretches
 
 -- what waits before a byte is read
@@ -57,7 +57,7 @@ told_more {then_waits = then_waits} {before = before} takes told =
 pub IsCollected-more : {were_fed : List ℕ → Type 0} (recording : Bool → List ℕ → Recording)
     (limit : ℕ) (file left found : Option (List ℕ)) (count : ℕ) (bytes : List ℕ)
     {waits then_waits : List Stretch → Type 0}
-    → GoesOn were_fed recording limit file left found count bytes waits then_waits
+    → TurnGoesOn were_fed recording limit file left found count bytes waits then_waits
     → waits (recording false (take limit bytes)).stretches
     → IsCollected were_fed then_waits recording limit file left found count
 IsCollected-more recording limit file left found count bytes more told = record {
@@ -166,7 +166,7 @@ pub IsWhole-ended : (asked : List Vocabulary) (recording : Bool → List ℕ →
     (limit : ℕ) (input : InputTold) (bytes : List ℕ) (traces : List Timeline)
     {waits then_waits : List Stretch → Type 0} {has_ended : (List ℕ → Bool) → Type 0}
     → input.now.opened ≡ true → AllReadsGood input
-    → IsEnded recording limit input.before.file input.now.left bytes waits then_waits has_ended
+    → TurnIsEnded recording limit input.before.file input.now.left bytes waits then_waits has_ended
     → traces ≡ map (trace_for (recording true bytes)) asked
     → ((names : Vocabulary) → IsTrace (segments_for names (recording true bytes).stretches))
     → IsWhole asked recording limit input traces

@@ -9,7 +9,7 @@ use Rattle.tre_feed.specs.Dump.{NeedsAll}
 use Rattle.tre_vcd.specs.Sorted.{JoinsNames}
 use Rattle.tre_feed.specs.Dump.{dump_terms}
 use Rattle.tre_vcd.proofs.Listing.{listed-alike}
-use Rattle.tre_vcd.specs.VcdReading.{Statement, vcd_recording, are_declared, signal_of, event_of}
+use Rattle.tre_vcd.specs.VcdReading.{Statement, vcd_recording, are_declared, signal_of, event_asked}
 
 crossed : (a b c d : Bool) → ((a && b) && (c && d)) ≡ ((a && c) && (b && d))
 crossed true true c d = refl
@@ -24,11 +24,11 @@ joined : (definitions : List SignalDefined) (past : List Statement) (old added n
     ≡ (are_declared definitions past old && are_declared definitions past added)
 joined definitions past old added new names events =
     ap₂ (λ (a b : Bool). a && b) (names.each (λ name. is_some (signal_of definitions past name)))
-    (events.each (λ name. is_some (event_of definitions past name)))
+    (events.each (λ name. is_some (event_asked definitions past name)))
     ∙ crossed (list_all (λ name. is_some (signal_of definitions past name)) old.names)
     (list_all (λ name. is_some (signal_of definitions past name)) added.names)
-    (list_all (λ name. is_some (event_of definitions past name)) old.events)
-    (list_all (λ name. is_some (event_of definitions past name)) added.events)
+    (list_all (λ name. is_some (event_asked definitions past name)) old.events)
+    (list_all (λ name. is_some (event_asked definitions past name)) added.events)
 
 and-true : (b : Bool) → (b && true) ≡ b
 and-true true = refl

@@ -6,7 +6,7 @@ use Rattle.tre_io.specs.Told.{SourceTold}
 use Rattle.tre_trace.specs.Reading.{Recording, Stretch}
 use Rattle.tre_feed.specs.Input.{HasReadCause, IsPiece, KeepsSource}
 use Rattle.tre_feed.specs.Stops.{IsOfReaders, IsPieceFed, StopsPiece, TakesIn}
-use Rattle.tre_feed.specs.Turn.{IsFed, HasRead, GoesOn, IsEnded, Keeps as KeepsAll, StopsTurn, TakesOn, TakesRead}
+use Rattle.tre_feed.specs.Turn.{TurnIsFed, HasRead, TurnGoesOn, TurnIsEnded, KeepsWaiting as KeepsAll, StopsTurn, TakesOn, TakesRead}
 use Rattle.tre_feed.specs.declared.TheConstants.{PIECE}
 use Rattle.tre_feed.specs.declared.fault.Fault.{Fault}
 use Rattle.tre_feed.specs.declared.fault.Fault.TheVariants.{Trace, TooLong, TooManyZones, Read, Write, Memory}
@@ -77,7 +77,7 @@ found_behind (Some all) (Some xs) (Some rest) bytes front kept =
     front ∙ ap (λ ys. bytes ++ ys) kept
 
 module _ {were_fed : List ℕ → Type 0} {limit : ℕ} {file left found : Option (List ℕ)} {count : ℕ}
-    {bytes : List ℕ} (so_far : IsFed were_fed limit file left found count bytes) where
+    {bytes : List ℕ} (so_far : TurnIsFed were_fed limit file left found count bytes) where
   module _ (inside : count ≤ limit) where
     -- within the limit all bytes were fed
     pub IsFed-here : take limit bytes ≡ bytes
@@ -233,7 +233,7 @@ module _ {were_fed : List ℕ → Type 0} {limit : ℕ} {file left found : Optio
             → were_fed' (bytes ++ take (limit - count) piece)
             → TakesOn old new (recording false bytes)
             (recording false (bytes ++ take (limit - count) piece))
-            → GoesOn were_fed' recording limit file left' found' (count + added) bytes old new
+            → TurnGoesOn were_fed' recording limit file left' found' (count + added) bytes old new
         GoesOn-fed {were_fed'} piece added front size short fed adds = record {
           piece = piece;
           fed = record {
@@ -266,7 +266,7 @@ nothing_of limit count buffer e = rw e (take-over {X = ℕ} limit [] (omega arit
 
 pub IsAtEndOf-read : {were_fed were_fed' : List ℕ → Type 0} (limit : ℕ)
     (file left found left' found' : Option (List ℕ)) (taken count : ℕ) (bytes buffer : List ℕ)
-    → IsFed were_fed limit file left found taken bytes → taken ≤ limit
+    → TurnIsFed were_fed limit file left found taken bytes → taken ≤ limit
     → Consumes left left' (take count buffer) → Keeps found' left → IsAtEnd left' → count ≡ 0
     → were_fed' (bytes ++ take (limit - taken) (take count buffer))
     → IsAtEndOf were_fed' limit file left' found' bytes
@@ -346,7 +346,7 @@ module _ {were_fed : List ℕ → Type 0} (recording : Bool → List ℕ → Rec
   pub IsEnded-end : (has_ended : (List ℕ → Bool) → Type 0)
       → TakesOn mid new (recording false bytes) (recording true bytes)
       → (recording true bytes).fault ≡ None → has_ended (recording true bytes).last
-      → IsEnded recording limit file left bytes old new has_ended
+      → TurnIsEnded recording limit file left bytes old new has_ended
   IsEnded-end has_ended adds whole ended = record {
     front = at_end.front;
     all_read = at_end.all_read;
@@ -490,7 +490,7 @@ pub FindsEnd-read : {were_fed were_fed' : List ℕ → Type 0}
     → {limit : ℕ} {file left found : Option (List ℕ)} (left' found' : Option (List ℕ))
     {taken : ℕ} {bytes : List ℕ} (buffer : List ℕ) (count : ℕ)
     {old mid new : List Stretch → Type 0} (result : Result (Unit {0}) Fault)
-    → IsFed were_fed limit file left found taken bytes → taken ≤ limit → count ≡ 0
+    → TurnIsFed were_fed limit file left found taken bytes → taken ≤ limit → count ≡ 0
     → IsPiece left left' buffer count → Keeps found' left
     → IsPieceFed were_fed' recording bytes (take (limit - taken) (take count buffer)) old mid
     → (were_fed' bytes → TakesIn mid new (said false bytes) (said true bytes) result)

@@ -12,8 +12,8 @@ use Rattle.tre_trace.specs.Segments.{segment_with}
 use Rattle.tre_trace.specs.Trace.{AreLong, IsTrace, Timeline, end_of, timeline_of}
 use Rattle.tre_trace.specs.declared.segment.Segment.{Segment}
 use Rattle.tre_feed.specs.Each.{LastsAre, RowsAre, groups_in}
-use Rattle.tre_feed.specs.Seen.{AreKept, last_seen, lasts_in, no_segment, row_seen, rows_in, segment_seen, trace_seen}
-use Rattle.tre_feed.specs.Standing.{AreFor, no_stretch}
+use Rattle.tre_feed.specs.Seen.{RowsAreKept, last_seen, lasts_in, no_segment, row_seen, rows_in, segment_seen, trace_seen}
+use Rattle.tre_feed.specs.Standing.{AreFor, stretch_behind}
 use Rattle.tre_feed.specs.Traces.{trace_for}
 use Rattle.tre_feed.specs.declared.each.Fed.{Fed}
 
@@ -121,14 +121,14 @@ module _ {R : Type 0} (names : R → Vocabulary) (each : List (Fed R)) where
       → IsViewOf (groups_in names each) asked view → RowsAre names each stretches
       → place < length stretches
       → segment_seen (rows_in each) place view
-      ≡ segment_for asked (get_or stretches place no_stretch)
+      ≡ segment_for asked (get_or stretches place stretch_behind)
   segment_is asked view stretches place own rows below =
       ap (λ (row : List Segment). shown_segment view (get_or row place no_segment))
       (row_at names each (group_of view) stretches rows (group_within asked view own)
       ∙ ap (λ (group : Vocabulary). segments_for group stretches) (names_at asked view own))
       ∙ (ap (shown_segment view)
-      (at_mapped (segment_for own.all) stretches place no_stretch no_segment below)
-      ∙ segment_shown asked own.all view own.shows (get_or stretches place no_stretch))
+      (at_mapped (segment_for own.all) stretches place stretch_behind no_segment below)
+      ∙ segment_shown asked own.all view own.shows (get_or stretches place stretch_behind))
 
   last_is : (asked : Vocabulary) (view : View) (last : List ℕ → Bool)
       → IsViewOf (groups_in names each) asked view → LastsAre names each last
@@ -153,7 +153,7 @@ module _ {R : Type 0} (names : R → Vocabulary) (each : List (Fed R)) where
       (place : ℕ) → AreFor asked (groups_in names each) views → RowsAre names each stretches
       → place < length stretches
       → map (segment_seen (rows_in each) place) views
-      ≡ map (λ one. segment_for one (get_or stretches place no_stretch)) asked
+      ≡ map (λ one. segment_for one (get_or stretches place stretch_behind)) asked
   column_is [] [] stretches place are rows below = refl
   column_is [] (view ∷ views) stretches place are rows below = absurd are
   column_is (one ∷ asked) [] stretches place are rows below = absurd are
@@ -190,7 +190,7 @@ module _ {R : Type 0} (names : R → Vocabulary) (each : List (Fed R)) where
 module _ {R : Type 0} {old new : List (Fed R)} where
   -- what the first of them is of is as it was
   pub kept_first : (at : ℕ) (views : List View) (d : View) → at < length views
-      → AreKept (drop at views) old new
+      → RowsAreKept (drop at views) old new
       → row_seen (rows_in new) (get_or views at d) ≡ row_seen (rows_in old) (get_or views at d)
   kept_first zero [] d below kept = absurd (omega (arith, below))
   kept_first zero (view ∷ views) d below kept = kept.rows 0 d (omega arith)
@@ -203,8 +203,8 @@ all_rest P x xs all = λ k d below. all (suc k) d (omega (arith, below))
 
 -- those behind it are of what they were
 pub kept_then : {R : Type 0} {old mid new : List (Fed R)} (at : ℕ) (views : List View)
-    → at < length views → AreKept (drop at views) old mid
-    → AreKept (drop (at + 1) views) mid new → AreKept (drop (at + 1) views) old new
+    → at < length views → RowsAreKept (drop at views) old mid
+    → RowsAreKept (drop (at + 1) views) mid new → RowsAreKept (drop (at + 1) views) old new
 kept_then {old = old} {mid = mid} {new = new} at views below first second = record {
   rows = λ k d inside. second.rows k d inside ∙ earlier k d inside;
   lasts = second.lasts ∙ first.lasts;

@@ -27,7 +27,7 @@ outcome_of recording limit bytes =
     outcome_from (nat_le (length bytes) limit) (recording_within recording limit bytes).fault
 
 -- What was read comes to this, and so do all bytes, with the same stretches within the limit.
-pub record ComesTo (recording : Bool → List ℕ → Recording) (limit : ℕ)
+pub record InputComesTo (recording : Bool → List ℕ → Recording) (limit : ℕ)
     (file left : Option (List ℕ)) (outcome : Outcome) : Type 0 where
   pub bytes : List ℕ
   pub front : Consumes file left bytes

@@ -1,13 +1,13 @@
 -- How an input is read whole, or as far as it may be.
 use Rattle.std.specs.Prelude.{◌≡◌, ◌≢◌, ℕ, ◌<◌, ◌≤◌, Bool, List, ◌++◌, length, Option, Some, IsTrue, OnOk, Result}
 use Rattle.std.specs.Io.KnownBytes.{Consumes, IsAtEnd}
-use Rattle.tre_io.specs.Faults.{counted}
+use Rattle.tre_io.specs.Faults.{count_after}
 use Rattle.tre_feed.specs.Input.{InputTold, AllReadsGood}
 use Rattle.tre_feed.specs.declared.fault.Fault.{Fault}
 use Rattle.tre_feed.specs.declared.fault.Fault.TheVariants.{Read, Memory}
 
 -- These bytes were read from the first on: all of the input, or as many as it may have.
-pub record IsFront (most : ℕ) (input : InputTold) (bytes : List ℕ) : Type 0 where
+pub record IsFrontRead (most : ℕ) (input : InputTold) (bytes : List ℕ) : Type 0 where
   pub opened : IsTrue input.now.opened
   pub reads : AllReadsGood input
   pub front : Consumes input.before.file input.now.left bytes
@@ -16,7 +16,7 @@ pub record IsFront (most : ℕ) (input : InputTold) (bytes : List ℕ) : Type 0 
 
 -- The input of this name couldn't be opened or read.
 pub record IsUnreadable (name : List ℕ) (input : InputTold) : Type 0 where
-  pub cause : input.now.faults ≡ counted input.before.faults
+  pub cause : input.now.faults ≡ count_after input.before.faults
   pub unsound : IsTrue input.before.sound → input.before.name ≢ Some name
 
 -- Why it wasn't read.

@@ -1,7 +1,7 @@
 -- What was read of an input.
 use Rattle.std.specs.Prelude.{◌≡◌, ℕ, ◌+◌, ◌<◌, ◌≤◌, false, List, [], ◌++◌, length, take, Option, IfSome, IsTrue, IsErrOf, Result, Ok, Err}
 use Rattle.std.specs.Io.KnownBytes.{Consumes, IsAtEnd}
-use Rattle.tre_io.specs.Faults.{counted}
+use Rattle.tre_io.specs.Faults.{count_after}
 use Rattle.tre_io.specs.Told.{SourceTold}
 use Rattle.tre_feed.specs.declared.TheConstants.{PIECE}
 use Rattle.tre_feed.specs.declared.fault.Fault.{Fault}
@@ -54,7 +54,7 @@ pub record TakesAtMost (most : ℕ) (file left : Option (List ℕ)) : Type 0 whe
 -- A failed read is one that was counted, and nothing else raises the count.
 abbrev pub HasReadCause : {T : Type 0} → ℕ → ℕ → Result T Fault → Type 0
 HasReadCause before now (Ok value) = now ≡ before
-HasReadCause before now (Err Read) = now ≡ counted before
+HasReadCause before now (Err Read) = now ≡ count_after before
 HasReadCause before now (Err _) = now ≡ before
 
 -- A source that may have been read is as open and as sound as it was. A failed read was counted,

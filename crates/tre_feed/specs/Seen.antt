@@ -8,20 +8,20 @@ use Rattle.tre_trace.specs.declared.segment.Segment.{Segment}
 use Rattle.tre_feed.specs.declared.each.Fed.{Fed}
 
 -- the row of one
-abbrev pub row_of : {R : Type 0} → Fed R → List Segment
-row_of fed = fed.row.items
+abbrev pub fed_row : {R : Type 0} → Fed R → List Segment
+fed_row fed = fed.row.items
 
 -- the events at the end that one has told
-abbrev pub last_of : {R : Type 0} → Fed R → ℕ
-last_of fed = fed.last
+abbrev pub last_events_of : {R : Type 0} → Fed R → ℕ
+last_events_of fed = fed.last
 
 -- the rows of all
 abbrev pub rows_in : {R : Type 0} → List (Fed R) → List (List Segment)
-rows_in each = map row_of each
+rows_in each = map fed_row each
 
 -- the events at the end that each has told
 abbrev pub lasts_in : {R : Type 0} → List (Fed R) → List ℕ
-lasts_in each = map last_of each
+lasts_in each = map last_events_of each
 
 -- the segment behind the last
 abbrev pub no_segment : Segment
@@ -46,7 +46,7 @@ trace_seen rows lasts view =
     timeline_of (map (shown_segment view) (row_seen rows view)) (last_seen lasts view)
 
 -- The rows that these views are of are as they were, and so are the events at the end of all.
-pub record AreKept {R : Type 0} (views : List View) (old new : List (Fed R)) : Type 0 where
+pub record RowsAreKept {R : Type 0} (views : List View) (old new : List (Fed R)) : Type 0 where
   pub rows : All (λ view. row_seen (rows_in new) view ≡ row_seen (rows_in old) view) views
   pub lasts : lasts_in new ≡ lasts_in old
   pub count : length new ≡ length old

@@ -77,5 +77,5 @@ pub record HasPlace {R : Type 0} (names : R → Vocabulary) (input : Input R) (p
   pub below : place < length stretches
 
 -- the stretch behind the last
-abbrev pub no_stretch : Stretch
-no_stretch = record { len = 0; is_true = λ name. false; happens = λ name. false }
+abbrev pub stretch_behind : Stretch
+stretch_behind = record { len = 0; is_true = λ name. false; happens = λ name. false }

@@ -5,7 +5,7 @@ use Rattle.std.specs.Io.KnownBytes.{Consumes, Keeps as KeepsBytes}
 use Rattle.tre_trace.specs.Reading.{Recording, Stretch}
 use Rattle.tre_trace.specs.declared.fault.TraceFault.{TraceFault}
 use Rattle.tre_feed.specs.Outcome.{IsInputKind}
-use Rattle.tre_feed.specs.Turn.{Keeps, TakesOn}
+use Rattle.tre_feed.specs.Turn.{KeepsWaiting, TakesOn}
 use Rattle.tre_feed.specs.declared.fault.Fault.{Fault}
 use Rattle.tre_feed.specs.declared.fault.Fault.TheVariants.{Trace, Read, Memory}
 
@@ -18,7 +18,7 @@ TakesIn waits then_waits before now (Ok done) =
     TakesOn waits then_waits before now × (now.fault ≡ None)
 TakesIn waits then_waits before now (Err (Trace fault)) =
     IsInputKind fault.kind × TakesOn waits then_waits before now × (now.fault ≡ Some fault)
-TakesIn waits then_waits before now (Err Memory) = Keeps waits then_waits
+TakesIn waits then_waits before now (Err Memory) = KeepsWaiting waits then_waits
 TakesIn waits then_waits before now (Err fault) = ⊥
 
 -- A call told no fault, one of the input, or want of memory.
@@ -36,7 +36,7 @@ IsToldOf now (Err fault) = ⊥
 
 -- A piece was read behind these bytes that has this first fault, and the stretches are all those
 -- that it completes.
-pub record HasFault (recording : Bool → List ℕ → Recording) (allowed room : ℕ) (bytes : List ℕ)
+pub record TurnHasFault (recording : Bool → List ℕ → Recording) (allowed room : ℕ) (bytes : List ℕ)
     (before now : Option (List ℕ)) (waits then_waits : List Stretch → Type 0)
     (fault : TraceFault) : Type 0 where
   pub kind : IsInputKind fault.kind
@@ -53,19 +53,19 @@ pub record IsLost (room : ℕ) (before now : Option (List ℕ))
   pub piece : List ℕ
   pub front : Consumes before now piece
   pub short : length piece ≤ room
-  pub kept : Keeps waits then_waits
+  pub kept : KeepsWaiting waits then_waits
 
 -- A read failed: it took no byte.
 pub record ReadsNothing (before now : Option (List ℕ))
     (waits then_waits : List Stretch → Type 0) : Type 0 where
   pub left : KeepsBytes before now
-  pub kept : Keeps waits then_waits
+  pub kept : KeepsWaiting waits then_waits
 
 -- Why a piece behind these bytes wasn't fed.
 abbrev pub StopsPiece : (Bool → List ℕ → Recording) → ℕ → ℕ → List ℕ → Option (List ℕ) →
     Option (List ℕ) → (List Stretch → Type 0) → (List Stretch → Type 0) → Fault → Type 0
 StopsPiece recording allowed room bytes before now waits then_waits (Trace fault) =
-    HasFault recording allowed room bytes before now waits then_waits fault
+    TurnHasFault recording allowed room bytes before now waits then_waits fault
 StopsPiece recording allowed room bytes before now waits then_waits Read =
     ReadsNothing before now waits then_waits
 StopsPiece recording allowed room bytes before now waits then_waits Memory =

@@ -4,7 +4,7 @@
 use Rattle.std.specs.Prelude.{◌≡◌, ℕ, ◌+◌, ◌≤◌, Bool, true, false, List, ◌++◌, length, take, Option, None, IfSome, Result, Ok, Err}
 use Rattle.std.specs.Io.KnownBytes.{Consumes, IsAtEnd}
 use Rattle.tre_trace.specs.Reading.{Recording, Stretch}
-use Rattle.tre_feed.specs.Comes.{ComesTo, Outcome, exceeds, recording_within, refuses}
+use Rattle.tre_feed.specs.Comes.{InputComesTo, Outcome, exceeds, recording_within, refuses}
 use Rattle.tre_feed.specs.Outcome.{IsInputKind}
 use Rattle.tre_feed.specs.declared.TheConstants.{PIECE}
 use Rattle.tre_feed.specs.declared.fault.Fault.{Fault}
@@ -20,7 +20,7 @@ pub record IsLastRead (file found : Option (List ℕ)) (bytes : List ℕ) : Type
 
 -- So many bytes of an input were read, these; they were fed as far as the limit, and no fault was
 -- found in them.
-pub record IsFed (were_fed : List ℕ → Type 0) (limit : ℕ) (file left found : Option (List ℕ))
+pub record TurnIsFed (were_fed : List ℕ → Type 0) (limit : ℕ) (file left found : Option (List ℕ))
     (count : ℕ) (bytes : List ℕ) : Type 0 where
   pub front : Consumes file left bytes
   pub last : IsLastRead file found bytes
@@ -36,7 +36,7 @@ pub record TakesOn (waits then_waits : List Stretch → Type 0) (before now : Re
     pub then : (waiting : List Stretch) → waits waiting → then_waits (waiting ++ added)
 
 -- The stretches that waited wait.
-pub record Keeps (waits then_waits : List Stretch → Type 0) : Type 0 where
+pub record KeepsWaiting (waits then_waits : List Stretch → Type 0) : Type 0 where
   pub same : (waiting : List Stretch) → waits waiting → then_waits waiting
 
 -- The stretches that a turn has put behind the others: those that what it read completes. Where
@@ -44,7 +44,7 @@ pub record Keeps (waits then_waits : List Stretch → Type 0) : Type 0 where
 abbrev pub TakesRead : (Bool → List ℕ → Recording) → ℕ → List ℕ → List ℕ → Bool →
     (List Stretch → Type 0) → (List Stretch → Type 0) → Result Bool Fault → Type 0
 TakesRead recording limit bytes piece closed waits then_waits (Err Memory) =
-    Keeps waits then_waits
+    KeepsWaiting waits then_waits
 TakesRead recording limit bytes piece closed waits then_waits result = TakesOn waits then_waits
     (recording false (take limit bytes)) (recording closed (take limit (bytes ++ piece)))
 
@@ -64,17 +64,17 @@ pub record HasRead (recording : Bool → List ℕ → Recording) (limit : ℕ)
   pub adds : TakesRead recording limit bytes piece closed waits then_waits result
 
 -- A turn that fed a piece behind these bytes: the stretches are those that it completes.
-pub record GoesOn (were_fed : List ℕ → Type 0) (recording : Bool → List ℕ → Recording)
+pub record TurnGoesOn (were_fed : List ℕ → Type 0) (recording : Bool → List ℕ → Recording)
     (limit : ℕ) (file left found : Option (List ℕ)) (count : ℕ) (bytes : List ℕ)
     (waits then_waits : List Stretch → Type 0) : Type 0 where
   pub piece : List ℕ
-  pub fed : IsFed were_fed limit file left found count (bytes ++ piece)
+  pub fed : TurnIsFed were_fed limit file left found count (bytes ++ piece)
   pub all : TakesOn waits then_waits
       (recording false (take limit bytes)) (recording false (take limit (bytes ++ piece)))
 
 -- A turn that found the end behind these bytes: they are a whole trace with these last events, and
 -- the stretches are those that the end completes.
-pub record IsEnded (recording : Bool → List ℕ → Recording) (limit : ℕ)
+pub record TurnIsEnded (recording : Bool → List ℕ → Recording) (limit : ℕ)
     (file left : Option (List ℕ)) (bytes : List ℕ) (waits then_waits : List Stretch → Type 0)
     (has_ended : (List ℕ → Bool) → Type 0) : Type 0 where
   pub front : Consumes file left bytes
@@ -89,7 +89,7 @@ pub record IsEnded (recording : Bool → List ℕ → Recording) (limit : ℕ)
 pub record TellsAll (recording : Bool → List ℕ → Recording) (limit : ℕ)
     (file left : Option (List ℕ)) (bytes : List ℕ) (waits then_waits : List Stretch → Type 0)
     (outcome : Outcome) : Type 0 where
-  pub cause : ComesTo recording limit file left outcome
+  pub cause : InputComesTo recording limit file left outcome
   pub all : TakesOn waits then_waits
       (recording false (take limit bytes)) (recording_within recording limit cause.bytes)
 
@@ -97,7 +97,7 @@ pub record TellsAll (recording : Bool → List ℕ → Recording) (limit : ℕ)
 pub record HasFailed (limit : ℕ) (file left : Option (List ℕ)) (bytes : List ℕ)
     (waits then_waits : List Stretch → Type 0) : Type 0 where
   pub front : Consumes file left bytes
-  pub kept : Keeps waits then_waits
+  pub kept : KeepsWaiting waits then_waits
   pub within : length bytes ≤ limit
 
 -- What a turn found that stopped behind these bytes.
@@ -110,7 +110,7 @@ StopsTurn recording limit file left bytes waits then_waits TooLong =
     TellsAll recording limit file left bytes waits then_waits exceeds
 StopsTurn recording limit file left bytes waits then_waits Read =
     HasFailed limit file left bytes waits then_waits
-StopsTurn recording limit file left bytes waits then_waits Memory = Keeps waits then_waits
+StopsTurn recording limit file left bytes waits then_waits Memory = KeepsWaiting waits then_waits
 StopsTurn recording limit file left bytes waits then_waits fault = ⊥
 
 -- A turn says whether the input may go on. Where it may not, these events happen at its end.
@@ -118,9 +118,9 @@ abbrev pub SaysMore : (List ℕ → Type 0) → (Bool → List ℕ → Recording
     Option (List ℕ) → Option (List ℕ) → ℕ → List ℕ → (List Stretch → Type 0) →
     (List Stretch → Type 0) → ((List ℕ → Bool) → Type 0) → Bool → Type 0
 SaysMore were_fed recording limit file left found count bytes waits then_waits has_ended true =
-    GoesOn were_fed recording limit file left found count bytes waits then_waits
+    TurnGoesOn were_fed recording limit file left found count bytes waits then_waits
 SaysMore were_fed recording limit file left found count bytes waits then_waits has_ended false =
-    IsEnded recording limit file left bytes waits then_waits has_ended
+    TurnIsEnded recording limit file left bytes waits then_waits has_ended
 
 -- How a turn ended that read on behind these bytes.
 abbrev pub EndsTurn : (List ℕ → Type 0) → (Bool → List ℕ → Recording) → ℕ → Option (List ℕ) →

@@ -1,7 +1,7 @@
 // The front of an input, read whole.
 ghost use Rattle.std.specs.Prelude.{◌≡◌, ◌≢◌, ◌<◌, ◌≤◌, false, length, IsTrue, IfOk, IfErr, IfSome};
 ghost use Rattle.std.specs.Io.KnownBytes.{IsAtEnd};
-ghost use Rattle.tre_feed.specs.Front.{IsFront, IsReadOn, StopsFront};
+ghost use Rattle.tre_feed.specs.Front.{IsFrontRead, IsReadOn, StopsFront};
 ghost use Rattle.tre_feed.specs.Input.{KeepsSource, TakesAtMost, input_told};
 
 use crate::PIECE;
@@ -19,7 +19,7 @@ pub fn read_front<S: Source>(
     input: &mut S,
 ) -> Result<Vec<u8>, Fault>
     requires closed { (S.told input.old).opened ≡ false }
-    ensures read { IfOk result (λ bytes. IsFront most
+    ensures read { IfOk result (λ bytes. IsFrontRead most
         (input_told (S.told input.old) (S.told input.new)) bytes.items) }
     ensures stops { IfErr result (StopsFront name.now
         (input_told (S.told input.old) (S.told input.new))) }

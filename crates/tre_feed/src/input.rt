@@ -52,9 +52,9 @@ impl<R: TraceReader + Drop> Input<R> {
     ghost use Rattle.std.specs.Prelude.{◌+◌, ℕ, Bool, List, Option, Some, map, get_or, IsTrue, IsErrOf, IfErr, IfSome, OnOk, OnErr, false};
     ghost use Rattle.tre_trace.specs.Reading.{Stretch, Recording, Vocabulary, events_for, segment_for};
     ghost use Rattle.tre_feed.specs.Input.{HasReadCause, TakesAtMost, input_told};
-    ghost use Rattle.tre_feed.specs.Standing.{AreFor, Asks, CanReadOn, HasEnded, HasPlace, HasTaken, IsAsked, IsNew, Wait, WereFed, limit_of, no_stretch, recording_of, taken_of};
+    ghost use Rattle.tre_feed.specs.Standing.{AreFor, Asks, CanReadOn, HasEnded, HasPlace, HasTaken, IsAsked, IsNew, Wait, WereFed, limit_of, stretch_behind, recording_of, taken_of};
     ghost use Rattle.tre_feed.specs.Traces.{IsAllRead, IsWhole, IsWholeInput, StopsReading, trace_for};
-    ghost use Rattle.tre_feed.specs.Turn.{EndsTurn, HasRead, IsFed};
+    ghost use Rattle.tre_feed.specs.Turn.{EndsTurn, HasRead, TurnIsFed};
 
     /// An input of which at most `limit` bytes count, and nothing was read. Each who asks has a
     /// view of the group that one of the readers reads, counted from 0.
@@ -94,7 +94,7 @@ impl<R: TraceReader + Drop> Input<R> {
         requires closed { (S.told source.old).opened ≡ false }
         ensures opened { OnOk result (IsTrue (S.told source.new).opened) }
         ensures fed { IsNew R.terms R.represents R.names self.now → OnOk result
-            (IsFed (WereFed R.terms R.represents self.now) (limit_of self.now)
+            (TurnIsFed (WereFed R.terms R.represents self.now) (limit_of self.now)
             (S.told source.old).file (S.told source.new).left (S.told source.new).found
             (taken_of self.now) []) }
         ensures by_name { IsTrue (S.told source.new).opened →
@@ -118,13 +118,13 @@ impl<R: TraceReader + Drop> Input<R> {
         requires opened { IsTrue (S.told source.old).opened }
         requires reads_on { CanReadOn R.terms R.represents self.old }
         ensures read { (file : Option (List ℕ)) (bytes : List ℕ) →
-            IsFed (WereFed R.terms R.represents self.old) (limit_of self.old) file
+            TurnIsFed (WereFed R.terms R.represents self.old) (limit_of self.old) file
             (S.told source.old).left (S.told source.old).found (taken_of self.old) bytes →
             HasRead (recording_of R.recording R.terms self.old) (limit_of self.old) file
             (S.told source.new).left (S.told source.new).found bytes (Wait R.names self.old)
             (Wait R.names self.new) result }
         ensures ends { (file : Option (List ℕ)) (bytes : List ℕ) →
-            IsFed (WereFed R.terms R.represents self.old) (limit_of self.old) file
+            TurnIsFed (WereFed R.terms R.represents self.old) (limit_of self.old) file
             (S.told source.old).left (S.told source.old).found (taken_of self.old) bytes →
             EndsTurn (WereFed R.terms R.represents self.new)
             (recording_of R.recording R.terms self.old) (limit_of self.old) file
@@ -161,7 +161,7 @@ impl<R: TraceReader + Drop> Input<R> {
         ensures { (asked : List Vocabulary) (stretches : List Stretch) →
             Asks R.names self.now asked → Wait R.names self.now stretches →
             OnOk result (segments.new.items
-            ≡ map (λ names. segment_for names (get_or stretches place no_stretch)) asked) }
+            ≡ map (λ names. segment_for names (get_or stretches place stretch_behind)) asked) }
     {
         put_column(&self.each, place, &self.views, segments)
     }

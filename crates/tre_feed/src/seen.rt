@@ -3,7 +3,7 @@ ghost use Rattle.std.specs.Prelude.{◌≡◌, ◌≢◌, ◌<◌, All, false, l
 ghost use Rattle.tre_feed.specs.Shares.{group_of};
 ghost use Rattle.tre_feed.specs.Shown.{shown_segment};
 ghost use Rattle.tre_trace.specs.Trace.{IsTrace};
-ghost use Rattle.tre_feed.specs.Seen.{AreKept, last_seen, lasts_in, no_segment, row_seen, rows_in, segment_seen, trace_seen};
+ghost use Rattle.tre_feed.specs.Seen.{RowsAreKept, last_seen, lasts_in, no_segment, row_seen, rows_in, segment_seen, trace_seen};
 
 use crate::each::Fed;
 use crate::view::View;
@@ -106,7 +106,7 @@ fn wide_row<R: Drop>(
 ) -> Result<Vec<Segment>, AllocError>
     requires { group < length each.old }
     ensures row { IfOk result (λ row. row.items ≡ slice_index_or (rows_in each.old) group []) }
-    ensures kept { OnOk result (AreKept later.now each.old each.new) }
+    ensures kept { OnOk result (RowsAreKept later.now each.old each.new) }
 {
     if is_needed(group, later) {
         return copy_row(alloc, each, group);
@@ -125,7 +125,7 @@ fn trace_of<R: Drop>(
     requires trace { IsTrace (map (shown_segment view.now) (row_seen (rows_in each.old) view.now)) }
     ensures trace { IfOk result (λ trace. trace
         ≡ trace_seen (rows_in each.old) (lasts_in each.old) view.now) }
-    ensures kept { OnOk result (AreKept later.now each.old each.new) }
+    ensures kept { OnOk result (RowsAreKept later.now each.old each.new) }
 {
     let last = view.events(last_at(each, view.group()));
     let mut row = wide_row(alloc, each, view.group(), later)?;

@@ -6,7 +6,7 @@ ghost use Rattle.tre_trace.specs.declared.reader.TheConstants.{FED_MAX};
 ghost use Rattle.tre_feed.specs.Each.{AllEnded, AllWait, AllWereFed, WereGiven, all_asked, recording_by};
 ghost use Rattle.tre_feed.specs.Input.{HasPieceRoom, HasTakenMore, IsPiece, KeepsSource};
 ghost use Rattle.tre_feed.specs.Stops.{EndsPiece};
-ghost use Rattle.tre_feed.specs.Turn.{EndsTurn, HasRead, IsFed};
+ghost use Rattle.tre_feed.specs.Turn.{EndsTurn, HasRead, TurnIsFed};
 
 use crate::each::{Fed, feed_all, finish_all};
 use crate::fault::Fault;
@@ -56,13 +56,13 @@ pub fn feed_next<S: Source, R: TraceReader + Drop>(
     requires readers { WereGiven R.fed_of taken.old each.old }
     requires buffer { HasPieceRoom buffer.old }
     ensures read { (file : Option (List ℕ)) (bytes : List ℕ) →
-        IsFed (AllWereFed R.terms R.represents each.old) limit file (S.told source.old).left
+        TurnIsFed (AllWereFed R.terms R.represents each.old) limit file (S.told source.old).left
         (S.told source.old).found taken.old bytes →
         HasRead (recording_by R.recording R.terms each.old) limit file (S.told source.new).left
         (S.told source.new).found bytes (AllWait R.names each.old) (AllWait R.names each.new)
         result }
     ensures ends { (file : Option (List ℕ)) (bytes : List ℕ) →
-        IsFed (AllWereFed R.terms R.represents each.old) limit file (S.told source.old).left
+        TurnIsFed (AllWereFed R.terms R.represents each.old) limit file (S.told source.old).left
         (S.told source.old).found taken.old bytes →
         EndsTurn (AllWereFed R.terms R.represents each.new)
         (recording_by R.recording R.terms each.old) limit file (S.told source.new).left

@@ -9,8 +9,8 @@ use Rattle.tre_trace.specs.declared.segment.Segment.{Segment}
 use Rattle.tre_trace.proofs.Segments.{end_of-append, end_of-le, place-in_time}
 use Rattle.tre_zone.specs.ZoneList.{SetHolds}
 use Rattle.tre_zone.specs.declared.zone_bounds.ZoneBounds.{ZoneBounds}
-use Rattle.tre_generate.specs.Probes.{probe_begin, probe_end, IsInside, IsProbed}
-use Rattle.tre_generate.specs.Tallies.{AreAlike, IsTallied, IsTally}
+use Rattle.tre_generate.specs.Probes.{probe_begin, probe_end, ProbeIsInside, IsProbed}
+use Rattle.tre_generate.specs.Tallies.{AgreeOnPair, IsTallied, IsTally}
 use Rattle.tre_generate.specs.declared.tally.Probe.{Probe}
 use Rattle.tre_generate.specs.declared.tally.Tally.{Tally}
 use Rattle.tre_generate.proofs.Counts.{counted_along, count_next}
@@ -52,7 +52,7 @@ probe_rises segments place =
 module _ (segments : List Segment) (place begin end last : ℕ)
     (begin_is : begin ≡ probe_begin segments place) (end_is : end ≡ probe_end segments place)
     (last_is : last ≡ 2 * end_of 0 segments) where
-  inside_is : (end ≤ last) ↔ IsInside segments place
+  inside_is : (end ≤ last) ↔ ProbeIsInside segments place
   inside_is = (
     (λ h. record {
       end = subst (λ (x : ℕ). x ≤ 2 * end_of 0 segments) end_is
@@ -89,13 +89,13 @@ tally_next whole told segments place begin end last probe before after begin_is 
     let probed = probed_is segments place probe.begin probe.end last probe_begin_is probe_end_is
     last_is in
     record {
-      probes = count_next (IsInside segments) place before.probes after.probes tally.probes
+      probes = count_next (ProbeIsInside segments) place before.probes after.probes tally.probes
           (counted_along inside before.probes after.probes tallied.probes);
       held = count_next (IsProbed (SetHolds whole) segments) place before.held after.held tally.held
           (counted_along (probed (SetHolds whole)) before.held after.held tallied.held);
-      alike = count_next (IsProbed (AreAlike (SetHolds whole) (SetHolds told)) segments) place
+      alike = count_next (IsProbed (AgreeOnPair (SetHolds whole) (SetHolds told)) segments) place
           before.alike after.alike tally.alike
-          (counted_along (probed (AreAlike (SetHolds whole) (SetHolds told))) before.alike
+          (counted_along (probed (AgreeOnPair (SetHolds whole) (SetHolds told))) before.alike
           after.alike tallied.alike);
     }
 
@@ -112,7 +112,7 @@ probed_along R S same segments place =
 
 -- A relation that has every pair has the probes that count.
 pub probed_all : (R : Pairs) → ((a b n : ℕ) → 0 < n → a ≤ b → R a b n)
-    → (segments : List Segment) (place : ℕ) → IsProbed R segments place ↔ IsInside segments place
+    → (segments : List Segment) (place : ℕ) → IsProbed R segments place ↔ ProbeIsInside segments place
 probed_all R all segments place = (
   (λ h. h.inside),
   (λ h. record {

@@ -8,10 +8,10 @@ use Rattle.tre_trace.specs.declared.segment.Segment.{Segment}
 use Rattle.tre_zone.specs.ZoneList.{SetHolds}
 use Rattle.tre_zone.specs.declared.zone_bounds.ZoneBounds.{ZoneBounds}
 use Rattle.tre_generate.specs.Made.{made_trace}
-use Rattle.tre_generate.specs.Probes.{IsInside, IsProbed}
+use Rattle.tre_generate.specs.Probes.{ProbeIsInside, IsProbed}
 use Rattle.tre_generate.specs.Summary.{summary_text, IsSummary}
-use Rattle.tre_generate.specs.Tallies.{AreAlike, IsTally}
-use Rattle.tre_generate.specs.Told.{AreTold}
+use Rattle.tre_generate.specs.Tallies.{AgreeOnPair, IsTally}
+use Rattle.tre_generate.specs.Told.{MatchesAreTold}
 use Rattle.tre_generate.specs.declared.tally.Tally.{Tally}
 use Rattle.tre_generate.proofs.Counts.{count_along, count_once}
 use Rattle.tre_generate.proofs.MadeTraces.{made_trace-length}
@@ -27,9 +27,9 @@ made_some count some none =
 module _ (tree : PatternTree) (count : ℕ) (some : 1 ≤ count) (whole told : List ZoneBounds)
     (tally : Tally)
     (matched : IsMatchSet whole tree (quiet (made_trace count)))
-    (are_told : AreTold tree (made_trace count) told)
+    (are_told : MatchesAreTold tree (made_trace count) told)
     (counted : IsTally whole told (made_trace count) count tally) where
-  all_alike : (a b n : ℕ) → 0 < n → a ≤ b → AreAlike (SetHolds whole) (SetHolds told) a b n
+  all_alike : (a b n : ℕ) → 0 < n → a ≤ b → AgreeOnPair (SetHolds whole) (SetHolds told) a b n
   all_alike a b n pos le =
       let one = matched.exact.exact a b n pos le in
       let other = (are_told.exact (made_some count some)).exact a b n pos le in
@@ -37,9 +37,9 @@ module _ (tree : PatternTree) (count : ℕ) (some : 1 ≤ count) (whole told : L
 
   alike_is : tally.alike ≡ tally.probes
   alike_is =
-      let R = AreAlike (SetHolds whole) (SetHolds told) in
-      count_once (IsInside (made_trace count)) count tally.alike tally.probes
-      (count_along (IsProbed R (made_trace count)) (IsInside (made_trace count))
+      let R = AgreeOnPair (SetHolds whole) (SetHolds told) in
+      count_once (ProbeIsInside (made_trace count)) count tally.alike tally.probes
+      (count_along (IsProbed R (made_trace count)) (ProbeIsInside (made_trace count))
       (probed_all R all_alike (made_trace count)) count tally.alike counted.alike) counted.probes
 
   pub summary_is : (text : List ℕ)

@@ -8,9 +8,9 @@ use Rattle.tre_zone.specs.ZoneList.{SetHolds, HoldExactly}
 use Rattle.tre_zone.specs.declared.zone_bounds.ZoneBounds.{ZoneBounds}
 use Rattle.tre_zone.proofs.ZoneListLemmas.{SetHolds-empty, SetHolds-append}
 use Rattle.tre_online.specs.Session.{TellsNew}
-use Rattle.tre_generate.specs.Told.{AreTold}
+use Rattle.tre_generate.specs.Told.{MatchesAreTold}
 
-pub AreTold-none : (tree : PatternTree) → AreTold tree [] []
+pub AreTold-none : (tree : PatternTree) → MatchesAreTold tree [] []
 AreTold-none tree = record {
   none = λ empty. record { never = λ a b n some le h. SetHolds-empty a b n h };
   exact = λ some. absurd (some refl);
@@ -23,7 +23,7 @@ pushed_some (first ∷ segments) segment none = cc
 
 module _ (tree : PatternTree) (zones : List ZoneBounds) (segment : Segment)
     (earlier told : List ZoneBounds) where
-  first : (segments : List Segment) → segments ≡ [] → AreTold tree segments zones
+  first : (segments : List Segment) → segments ≡ [] → MatchesAreTold tree segments zones
       → TellsNew tree segments segment earlier told
       → HoldExactly (zones ++ told) (Matches tree (quiet (segments ++ segment ∷ [])))
   first segments empty so_far tells = record {
@@ -38,7 +38,7 @@ module _ (tree : PatternTree) (zones : List ZoneBounds) (segment : Segment)
         ↔ Matches tree (quiet (list ++ segment ∷ [])) a b n) (sym empty) all;
   }
 
-  later : (segments : List Segment) → (segments ≡ [] → ⊥) → AreTold tree segments zones
+  later : (segments : List Segment) → (segments ≡ [] → ⊥) → MatchesAreTold tree segments zones
       → TellsNew tree segments segment earlier told
       → HoldExactly (zones ++ told) (Matches tree (quiet (segments ++ segment ∷ [])))
   later segments begun so_far tells = record {
@@ -51,7 +51,7 @@ module _ (tree : PatternTree) (zones : List ZoneBounds) (segment : Segment)
         );
   }
 
-  exact_now : (segments : List Segment) → AreTold tree segments zones
+  exact_now : (segments : List Segment) → MatchesAreTold tree segments zones
       → TellsNew tree segments segment earlier told
       → HoldExactly (zones ++ told) (Matches tree (quiet (segments ++ segment ∷ [])))
   exact_now [] so_far tells = first [] refl so_far tells
@@ -59,9 +59,9 @@ module _ (tree : PatternTree) (zones : List ZoneBounds) (segment : Segment)
       later (head ∷ segments) (λ none. cc) so_far tells
 
   -- What was told, and what is told of one more segment.
-  pub AreTold-next : (segments : List Segment) → AreTold tree segments zones
+  pub AreTold-next : (segments : List Segment) → MatchesAreTold tree segments zones
       → TellsNew tree segments segment earlier told
-      → AreTold tree (segments ++ segment ∷ []) (zones ++ told)
+      → MatchesAreTold tree (segments ++ segment ∷ []) (zones ++ told)
   AreTold-next segments so_far tells = record {
     none = λ empty. absurd (pushed_some segments segment empty);
     exact = λ some. exact_now segments so_far tells;
@@ -69,8 +69,8 @@ module _ (tree : PatternTree) (zones : List ZoneBounds) (segment : Segment)
 
 -- A set of the same pairs.
 pub AreTold-set : (tree : PatternTree) (segments : List Segment) (zones set : List ZoneBounds)
-    → AreTold tree segments zones → HoldExactly set (SetHolds zones)
-    → AreTold tree segments set
+    → MatchesAreTold tree segments zones → HoldExactly set (SetHolds zones)
+    → MatchesAreTold tree segments set
 AreTold-set tree segments zones set told same = record {
   none = λ empty. record {
     never = λ a b n some le h.

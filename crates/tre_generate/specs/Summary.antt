@@ -7,11 +7,11 @@ use Rattle.tre_syntax.specs.PatternTree.{PatternTree}
 use Rattle.tre_trace.specs.Trace.{end_of, quiet}
 use Rattle.tre_zone.specs.declared.zone_bounds.ZoneBounds.{ZoneBounds}
 use Rattle.tre_generate.specs.Made.{made_trace}
-use Rattle.tre_generate.specs.Probes.{IsInside, IsProbed, IsCountOf}
+use Rattle.tre_generate.specs.Probes.{ProbeIsInside, IsProbed, IsCountOf}
 
 -- A line of a word and a number.
-abbrev pub number_line : List ℕ → ℕ → List ℕ
-number_line word number = word ++ number_text 0 number ++ codes "\n"
+abbrev pub count_line : List ℕ → ℕ → List ℕ
+count_line word number = word ++ number_text 0 number ++ codes "\n"
 
 -- A line of a word and how many of all.
 abbrev pub share_line : List ℕ → ℕ → ℕ → List ℕ
@@ -23,8 +23,8 @@ share_line word part all =
 -- by segment are alike.
 abbrev pub summary_text : ℕ → ℕ → ℕ → ℕ → ℕ → ℕ → List ℕ
 summary_text segments end zones held alike probes =
-    number_line (codes "segments ") segments ++ number_line (codes "end ") end
-    ++ number_line (codes "zones ") zones ++ share_line (codes "held ") held probes
+    count_line (codes "segments ") segments ++ count_line (codes "end ") end
+    ++ count_line (codes "zones ") zones ++ share_line (codes "held ") held probes
     ++ share_line (codes "alike ") alike probes
 
 -- The text is the summary of the first segments of the made trace, as many as `count`: its zones
@@ -34,7 +34,7 @@ pub record IsSummary (tree : PatternTree) (count : ℕ) (text : List ℕ) : Type
   pub zones : List ZoneBounds
   pub matches : IsMatchSet zones tree (quiet (made_trace count))
   pub probes : ℕ
-  pub probed : IsCountOf (IsInside (made_trace count)) count probes
+  pub probed : IsCountOf (ProbeIsInside (made_trace count)) count probes
   pub held : ℕ
   pub matched : IsCountOf (IsProbed (Matches tree (quiet (made_trace count))) (made_trace count))
       count held

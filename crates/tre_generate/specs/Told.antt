@@ -13,7 +13,7 @@ use Rattle.tre_zone.specs.declared.zone_bounds.ZoneBounds.{ZoneBounds}
 
 -- Once a segment has come, the zones that were told hold exactly the matches; before, they hold no
 -- pair.
-pub record AreTold (tree : PatternTree) (segments : List Segment) (zones : List ZoneBounds)
+pub record MatchesAreTold (tree : PatternTree) (segments : List Segment) (zones : List ZoneBounds)
     : Type 0 where
   pub none : segments ≡ [] → HasNoPair (SetHolds zones)
   pub exact : (segments ≡ [] → ⊥) → HoldExactly zones (Matches tree (quiet segments))
@@ -25,7 +25,7 @@ pub record CanRead (session : Session) (segment : Segment) : Type 0 where
   pub fits : Fits segments segment
 
 -- The session has read one more segment, and told of it.
-pub record GoesOn (old new : Session) (segments : List Segment) (segment : Segment)
+pub record TellingGoesOn (old new : Session) (segments : List Segment) (segment : Segment)
     (told : List ZoneBounds) : Type 0 where
   pub stands : StandsFor new (segments ++ segment ∷ [])
   pub tells : TellsNew (pattern_tree (pattern_of old)) segments segment (ended_of old) told

@@ -1,7 +1,7 @@
 // The summary of a made trace.
 ghost use Rattle.std.specs.Prelude.{◌≡◌, ◌++◌, ◌≤◌, string_bytes, IfOk, OnOk};
 ghost use Rattle.tre_syntax.specs.Pattern.{pattern_tree};
-ghost use Rattle.tre_generate.specs.Summary.{number_line, share_line, summary_text, IsSummary};
+ghost use Rattle.tre_generate.specs.Summary.{count_line, share_line, summary_text, IsSummary};
 
 use crate::made::made_trace;
 use crate::tally::{Tally, count_probes};
@@ -51,7 +51,7 @@ fn summary_text(
 
 fn push_number_line(text: &mut String, word: &str, value: u64) -> Result<(), AllocError>
     ensures { OnOk result (string_bytes text.new
-        ≡ string_bytes text.old ++ number_line word.now value) }
+        ≡ string_bytes text.old ++ count_line word.now value) }
 {
     text.push_str(word)?;
     push_units(text, value, 0)?;

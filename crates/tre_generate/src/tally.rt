@@ -1,6 +1,6 @@
 // What two sets of zones hold of the probes.
 ghost use Rattle.std.specs.Prelude.{◌≤◌, length};
-ghost use Rattle.tre_generate.specs.Tallies.{AreFew, IsTallied, IsTally};
+ghost use Rattle.tre_generate.specs.Tallies.{TallyIsFew, IsTallied, IsTally};
 ghost use Rattle.tre_generate.specs.declared.made_run.TheConstants.{SEGMENTS_MAX};
 
 use crate::made_run::SEGMENTS_MAX;
@@ -50,7 +50,7 @@ pub fn count_probes(trace: &Trace, whole: &ZoneSet, told: &ZoneSet) -> Tally
 
 // The tally with the probe, which counts where it ends no later than `last`.
 fn with_probe(tally: Tally, probe: &Probe, last: u64, whole: &ZoneSet, told: &ZoneSet) -> Tally
-    requires { AreFew tally }
+    requires { TallyIsFew tally }
     ensures { IsTallied whole.now told.now probe.now last tally result }
 {
     if probe.end > last {

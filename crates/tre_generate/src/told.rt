@@ -3,7 +3,7 @@ ghost use Rattle.std.specs.Prelude.{◌≡◌, List, IfOk};
 ghost use Rattle.tre_online.specs.Session.{pattern_of, StandsFor};
 ghost use Rattle.tre_syntax.specs.Pattern.{pattern_tree};
 ghost use Rattle.tre_trace.specs.declared.segment.Segment.{Segment};
-ghost use Rattle.tre_generate.specs.Told.{AreTold, CanRead, GoesOn};
+ghost use Rattle.tre_generate.specs.Told.{MatchesAreTold, CanRead, TellingGoesOn};
 
 use std::alloc::{AllocError, Global};
 use tre_online::{Session, want_of_memory};
@@ -14,7 +14,7 @@ use tre_zoneset::ZoneSet;
 /// The zones that a session of the pattern tells of the segments of the trace, one segment after
 /// another. The end isn't told.
 pub fn told_zones(alloc: Global, pattern: Pattern, trace: &Trace) -> Result<ZoneSet, AllocError>
-    ensures { IfOk result (λ zones. AreTold (pattern_tree pattern) trace.now.segments zones) }
+    ensures { IfOk result (λ zones. MatchesAreTold (pattern_tree pattern) trace.now.segments zones) }
 {
     let mut session = Session::new(alloc, pattern)?;
     let mut zones = Vec::new(alloc);
@@ -30,7 +30,7 @@ pub fn told_zones(alloc: Global, pattern: Pattern, trace: &Trace) -> Result<Zone
 fn told_of(session: &mut Session, segment: Segment) -> Result<ZoneSet, AllocError>
     requires { CanRead session.old segment }
     ensures goes_on { (segments : List Segment) → StandsFor session.old segments →
-        IfOk result (GoesOn session.old session.new segments segment) }
+        IfOk result (TellingGoesOn session.old session.new segments segment) }
     ensures tree { pattern_tree (pattern_of session.new) ≡ pattern_tree (pattern_of session.old) }
 {
     match session.segment(segment) {

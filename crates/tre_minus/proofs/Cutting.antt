@@ -15,7 +15,7 @@ use Rattle.tre_zoneset.proofs.Unions.{FoundHolds-exact}
 use Rattle.tre_minus.specs.declared.cut.Part.{Part}
 use Rattle.tre_minus.specs.declared.side.Side.{Side}
 use Rattle.tre_minus.specs.declared.side.Side.TheVariants.{BeginLow, BeginHigh, EndLow, EndHigh, DurationLow, DurationHigh}
-use Rattle.tre_minus.specs.Sides.{bound_at, MeetsAt, MeetsSide, opposite, number_of, tighter_at, missing_of, meeting_of}
+use Rattle.tre_minus.specs.Sides.{bound_at, MeetsKeyAt, MeetsSide, opposite, number_of_side, tighter_at, missing_of, meeting_of}
 use Rattle.tre_minus.specs.Parts.{AreAdded}
 use Rattle.tre_minus.proofs.Denying.{Meets-cases, Meets-never, value-key, value-missing, key-meeting}
 use Rattle.tre_minus.proofs.Comparing.{AreAdded-nothing, AreAdded-more, AreAdded-same}
@@ -71,7 +71,7 @@ six = BeginLow ∷ BeginHigh ∷ EndLow ∷ EndHigh ∷ DurationLow ∷ Duration
 side_of : ℕ → Side
 side_of number = get_or six number BeginLow
 
-side_numbered : (side : Side) → side_of (number_of side) ≡ side
+side_numbered : (side : Side) → side_of (number_of_side side) ≡ side
 unfolding side_of
 side_numbered BeginLow = refl
 side_numbered BeginHigh = refl
@@ -80,17 +80,17 @@ side_numbered EndHigh = refl
 side_numbered DurationLow = refl
 side_numbered DurationHigh = refl
 
-one_side : (side other : Side) → (number_of side == number_of other) ≡ true → side ≡ other
+one_side : (side other : Side) → (number_of_side side == number_of_side other) ≡ true → side ≡ other
 one_side side other e =
-    let same : number_of side ≡ number_of other = grind (arith, nat_tests) in
+    let same : number_of_side side ≡ number_of_side other = grind (arith, nat_tests) in
     sym (side_numbered side) ∙ ap side_of same ∙ side_numbered other
 
-own_number : (side : Side) → (number_of side == number_of side) ≡ true
+own_number : (side : Side) → (number_of_side side == number_of_side side) ≡ true
 own_number side = grind (arith, nat_tests)
 
 bound_tighter : (side other : Side) (key : ℤ) (bounds : ZoneBounds)
     → bound_at other (tighter_at side key bounds)
-    ≡ cond (number_of side == number_of other) (int_min (bound_at other bounds) key)
+    ≡ cond (number_of_side side == number_of_side other) (int_min (bound_at other bounds) key)
     (bound_at other bounds)
 bound_tighter side BeginLow key bounds = refl
 bound_tighter side BeginHigh key bounds = refl
@@ -105,15 +105,15 @@ each_tighter : (P : Side → ℤ → Type 0) (side : Side) (key : ℤ) (bounds :
     → (other : Side) → P other (bound_at other (tighter_at side key bounds))
 each_tighter P side key bounds own each other =
     subst (P other) (sym (bound_tighter side other key bounds))
-    (by (number_of side == number_of other) refl)
+    (by (number_of_side side == number_of_side other) refl)
   where
-    by : (is : Bool) → (number_of side == number_of other) ≡ is
+    by : (is : Bool) → (number_of_side side == number_of_side other) ≡ is
         → P other (cond is (int_min (bound_at other bounds) key) (bound_at other bounds))
     by true e = subst (λ (s : Side). P s (int_min (bound_at s bounds) key)) (one_side side other e) own
     by false e = each other
 
 meets_min : (side : Side) (x y : ℤ) (a b n : ℕ) → 0 < n
-    → MeetsAt side (int_min x y) a b n ↔ (MeetsAt side x a b n × MeetsAt side y a b n)
+    → MeetsKeyAt side (int_min x y) a b n ↔ (MeetsKeyAt side x a b n × MeetsKeyAt side y a b n)
 meets_min BeginLow x y a b n some = Meets-min x y 0 a n some
 meets_min BeginHigh x y a b n some = Meets-min x y a 0 n some
 meets_min EndLow x y a b n some = Meets-min x y 0 b n some
@@ -123,39 +123,39 @@ meets_min DurationHigh x y a b n some = Meets-min x y b a n some
 
 tighter_holds : (side : Side) (key : ℤ) (bounds : ZoneBounds) (a b n : ℕ) → 0 < n
     → ZoneHolds (tighter_at side key bounds) a b n
-    ↔ (ZoneHolds bounds a b n × MeetsAt side key a b n)
+    ↔ (ZoneHolds bounds a b n × MeetsKeyAt side key a b n)
 tighter_holds side key bounds a b n some = (
   (λ h.
       let each = (each_held (tighter_at side key bounds) a b n).0 h in (
-        (each_held bounds a b n).1 (λ other. looser other (number_of side == number_of other) refl
-            (subst (λ k. MeetsAt other k a b n) (bound_tighter side other key bounds) (each other))),
+        (each_held bounds a b n).1 (λ other. looser other (number_of_side side == number_of_side other) refl
+            (subst (λ k. MeetsKeyAt other k a b n) (bound_tighter side other key bounds) (each other))),
         ((meets_min side (bound_at side bounds) key a b n some).0 (own
-            (subst (λ k. MeetsAt side k a b n) (bound_tighter side side key bounds)
+            (subst (λ k. MeetsKeyAt side k a b n) (bound_tighter side side key bounds)
             (each side)))).1,
       )),
   (λ h. (each_held (tighter_at side key bounds) a b n).1 (each_tighter
-      (λ s k. MeetsAt s k a b n) side key bounds
+      (λ s k. MeetsKeyAt s k a b n) side key bounds
       ((meets_min side (bound_at side bounds) key a b n some).1
       ((each_held bounds a b n).0 h.0 side, h.1)) ((each_held bounds a b n).0 h.0))),
 )
   where
-    looser : (other : Side) (is : Bool) → (number_of side == number_of other) ≡ is
-        → MeetsAt other (cond (number_of side == number_of other)
+    looser : (other : Side) (is : Bool) → (number_of_side side == number_of_side other) ≡ is
+        → MeetsKeyAt other (cond (number_of_side side == number_of_side other)
         (int_min (bound_at other bounds) key) (bound_at other bounds)) a b n
-        → MeetsAt other (bound_at other bounds) a b n
+        → MeetsKeyAt other (bound_at other bounds) a b n
     looser other true e m = ((meets_min other (bound_at other bounds) key a b n some).0
-        (subst (λ (t : Bool). MeetsAt other (cond t (int_min (bound_at other bounds) key)
+        (subst (λ (t : Bool). MeetsKeyAt other (cond t (int_min (bound_at other bounds) key)
         (bound_at other bounds)) a b n) e m)).0
-    looser other false e m = subst (λ (t : Bool). MeetsAt other (cond t
+    looser other false e m = subst (λ (t : Bool). MeetsKeyAt other (cond t
         (int_min (bound_at other bounds) key) (bound_at other bounds)) a b n) e m
 
-    own : MeetsAt side (cond (number_of side == number_of side) (int_min (bound_at side bounds) key)
-        (bound_at side bounds)) a b n → MeetsAt side (int_min (bound_at side bounds) key) a b n
-    own m = subst (λ (t : Bool). MeetsAt side (cond t (int_min (bound_at side bounds) key)
+    own : MeetsKeyAt side (cond (number_of_side side == number_of_side side) (int_min (bound_at side bounds) key)
+        (bound_at side bounds)) a b n → MeetsKeyAt side (int_min (bound_at side bounds) key) a b n
+    own m = subst (λ (t : Bool). MeetsKeyAt side (cond t (int_min (bound_at side bounds) key)
         (bound_at side bounds)) a b n) (own_number side) m
 
 denied_at : (side : Side) (key : ℤ) (a b n : ℕ)
-    → MeetsAt (opposite side) (pos 1 -ℤ key) a b n ↔ (MeetsAt side key a b n → ⊥)
+    → MeetsKeyAt (opposite side) (pos 1 -ℤ key) a b n ↔ (MeetsKeyAt side key a b n → ⊥)
 denied_at BeginLow key a b n = denied_by key 0 a n
 denied_at BeginHigh key a b n = denied_by key a 0 n
 denied_at EndLow key a b n = denied_by key 0 b n

@@ -17,17 +17,17 @@ bound_at DurationLow zone = zone.dur_low
 bound_at DurationHigh zone = zone.dur_high
 
 -- The pair of the times a/n and b/n meets a bound with this key on the side.
-abbrev pub MeetsAt : Side → ℤ → Pairs
-MeetsAt BeginLow key a b n = Meets key 0 a n
-MeetsAt BeginHigh key a b n = Meets key a 0 n
-MeetsAt EndLow key a b n = Meets key 0 b n
-MeetsAt EndHigh key a b n = Meets key b 0 n
-MeetsAt DurationLow key a b n = Meets key a b n
-MeetsAt DurationHigh key a b n = Meets key b a n
+abbrev pub MeetsKeyAt : Side → ℤ → Pairs
+MeetsKeyAt BeginLow key a b n = Meets key 0 a n
+MeetsKeyAt BeginHigh key a b n = Meets key a 0 n
+MeetsKeyAt EndLow key a b n = Meets key 0 b n
+MeetsKeyAt EndHigh key a b n = Meets key b 0 n
+MeetsKeyAt DurationLow key a b n = Meets key a b n
+MeetsKeyAt DurationHigh key a b n = Meets key b a n
 
 -- It meets the bound of the zone.
 abbrev pub MeetsSide : Side → ZoneBounds → Pairs
-MeetsSide side zone = MeetsAt side (bound_at side zone)
+MeetsSide side zone = MeetsKeyAt side (bound_at side zone)
 
 abbrev pub opposite : Side → Side
 opposite BeginLow = BeginHigh
@@ -37,13 +37,13 @@ opposite EndHigh = EndLow
 opposite DurationLow = DurationHigh
 opposite DurationHigh = DurationLow
 
-abbrev pub number_of : Side → ℕ
-number_of BeginLow = 0
-number_of BeginHigh = 1
-number_of EndLow = 2
-number_of EndHigh = 3
-number_of DurationLow = 4
-number_of DurationHigh = 5
+abbrev pub number_of_side : Side → ℕ
+number_of_side BeginLow = 0
+number_of_side BeginHigh = 1
+number_of_side EndLow = 2
+number_of_side EndHigh = 3
+number_of_side DurationLow = 4
+number_of_side DurationHigh = 5
 
 -- a zone by its bound on each side
 abbrev pub zone_by : (Side → ℤ) → ZoneBounds
@@ -59,7 +59,7 @@ zone_by bound = record {
 -- the bounds, of which the one on this side is no looser than the key
 abbrev pub tighter_at : Side → ℤ → ZoneBounds → ZoneBounds
 tighter_at side key bounds = zone_by (λ other.
-    cond (number_of side == number_of other) (int_min (bound_at other bounds) key)
+    cond (number_of_side side == number_of_side other) (int_min (bound_at other bounds) key)
     (bound_at other bounds))
 
 -- The bounds, and that of the taken zone on this side is missed: the bound with the key k is missed

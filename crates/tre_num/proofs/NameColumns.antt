@@ -4,7 +4,7 @@ use Rattle.std.specs.Option.{option_and_then, option_map}
 use Rattle.std.proofs.lemmas.List.{drop_more}
 use Rattle.tre_num.specs.declared.column.Column.{Column}
 use Rattle.tre_num.specs.Defined.{Defined}
-use Rattle.tre_num.specs.Rows.{column_for, columns_of}
+use Rattle.tre_num.specs.Rows.{compared_column, columns_of}
 
 -- columns in front of the others, in two steps
 in_front : (items : List Column) (column : Column) (others : Option (List Column))
@@ -15,7 +15,7 @@ in_front items column (Some rest) = ap Some (sym (append_assoc items (column ∷
 
 module _ (definitions : List Defined) (header names : List (List ℕ)) where
   pub one-more : (items : List Column) (i : ℕ) (column : Column) → i < length names
-      → column_for definitions header (get_or names i []) ≡ Some column
+      → compared_column definitions header (get_or names i []) ≡ Some column
       → columns_of definitions header names
       ≡ option_map (λ others. items ++ others) (columns_of definitions header (drop i names))
       → columns_of definitions header names

@@ -6,8 +6,8 @@ use Rattle.tre_define.specs.Pieces.{behind_piece, piece, sign_in}
 use Rattle.tre_define.specs.declared.let_fault.LetFault.{LetFault}
 use Rattle.tre_define.proofs.Cutting.{some-same}
 use Rattle.tre_define.proofs.OneReading as texts
-use Rattle.tre_num.specs.Defined.{Defined, name_of}
-use Rattle.tre_num.specs.Definitions.{Define, IsRefused, Spells}
+use Rattle.tre_num.specs.Defined.{Defined, name_of_let}
+use Rattle.tre_num.specs.Definitions.{Define, LetsAreRefused, Spells}
 use Rattle.tre_num.specs.Whole.{is_whole_byte, whole_of}
 use Rattle.tre_num.proofs.Pieces.{AreParts, parts-are}
 
@@ -59,12 +59,12 @@ same-definition text one other is also =
 
 pub same-definitions : (parts : List (List ℕ)) (one other : List Defined) → AllZip Spells parts one
     → AllZip Spells parts other → one ≡ other
-same-definitions = texts.same-definitions Spells name_of same-definition
+same-definitions = texts.same-definitions Spells name_of_let same-definition
 
 pub refused-or : (parts : List (List ℕ)) (definitions : List Defined) (fault : LetFault)
-    → Define parts definitions → IsRefused parts fault → ⊥
-refused-or = texts.refused-or Spells name_of same-definition
+    → Define parts definitions → LetsAreRefused parts fault → ⊥
+refused-or = texts.refused-or Spells name_of_let same-definition
 
-pub one-fault : (parts : List (List ℕ)) (one other : LetFault) → IsRefused parts one
-    → IsRefused parts other → one ≡ other
-one-fault = texts.one-fault Spells name_of same-definition
+pub one-fault : (parts : List (List ℕ)) (one other : LetFault) → LetsAreRefused parts one
+    → LetsAreRefused parts other → one ≡ other
+one-fault = texts.one-fault Spells name_of_let same-definition

@@ -3,8 +3,8 @@ use Rattle.std.proofs.Common.{◌≡◌, ◌≢◌, ℕ, ◌+◌, Option, Some, 
 use Rattle.std.proofs.lemmas.List.{append-nil, length_push, map-append}
 use Rattle.csv.specs.declared.reader.Reader.{Reader}
 use Rattle.tre_num.specs.declared.column.Column.{Column}
-use Rattle.tre_num.specs.Left.{IsLeft, Takes}
-use Rattle.tre_num.specs.Rows.{Terms, row_says, says_on, rows_from}
+use Rattle.tre_num.specs.Left.{IsLeft, TakesRecord}
+use Rattle.tre_num.specs.Rows.{ColumnTerms, row_says, says_on, rows_from}
 use Rattle.tre_parts.specs.Format.{behind, nothing}
 use Rattle.tre_trace.specs.Reading.{Adds, IsRefused, Recording, Stretch, segment_for, segments_for}
 use Rattle.tre_trace.specs.declared.fault.TraceFault.{TraceFault}
@@ -16,7 +16,7 @@ use Rattle.tre_num.proofs.Telling.{Says}
 
 -- Of all rows, those that a reader has left stand behind the segments that were read. They were put
 -- behind other segments.
-pub record HasRead {R : Type 0} (known : R → Option (List ℕ)) (terms : Terms)
+pub record HasRead {R : Type 0} (known : R → Option (List ℕ)) (terms : ColumnTerms)
     (header : List (List ℕ)) (columns : List Column) (all : List (List (List ℕ))) (rows : Reader R)
     (before segments : List Segment) (end : ℕ) : Type 0 where
   pub read : List Stretch
@@ -26,7 +26,7 @@ pub record HasRead {R : Type 0} (known : R → Option (List ℕ)) (terms : Terms
   pub is : rows_from terms header columns 2 all 0
       ≡ behind read (rows_from terms header columns (length read + 2) rest end)
 
-module _ {R : Type 0} (known : R → Option (List ℕ)) (terms : Terms) (header : List (List ℕ))
+module _ {R : Type 0} (known : R → Option (List ℕ)) (terms : ColumnTerms) (header : List (List ℕ))
     (columns : List Column) (all : List (List (List ℕ))) (before : List Segment) where
   abbrev whole : Recording
   whole = rows_from terms header columns 2 all 0
@@ -46,7 +46,7 @@ module _ {R : Type 0} (known : R → Option (List ℕ)) (terms : Terms) (header 
   pub read-one : (segments : List Segment) (end : ℕ) (old new : Reader R)
       (fields : List (List ℕ)) (segment : Segment)
       → (so_far : HasRead known terms header columns all old before segments end)
-      → Takes known fields new so_far.rest
+      → TakesRecord known fields new so_far.rest
       → Says terms.names (row_says terms header columns end fields) segment
       → HasRead known terms header columns all new before (segments ++ segment ∷ [])
       (end + segment.len)
@@ -85,7 +85,7 @@ module _ {R : Type 0} (known : R → Option (List ℕ)) (terms : Terms) (header 
   pub read-fault : (segments : List Segment) (end : ℕ)
       (old new : Reader R) (fields : List (List ℕ)) (kind : TraceKind) (count : ℕ)
       → (so_far : HasRead known terms header columns all old before segments end)
-      → Takes known fields new so_far.rest
+      → TakesRecord known fields new so_far.rest
       → row_says terms header columns end fields ≡ Err kind → kind ≢ Spent
       → count ≡ length so_far.read
       → IsRefused terms.names before segments nothing whole

@@ -13,7 +13,7 @@ use Rattle.csv.specs.declared.parser.Terminator.TheVariants as term
 use Rattle.csv.specs.declared.reader.Reader.{Reader}
 use Rattle.csv.specs.declared.reader.Trim.TheVariants as trim
 use Rattle.csv.proofs.ReadFacts.{rows-end, rows-more}
-use Rattle.tre_num.specs.Left.{IsLeft, Takes}
+use Rattle.tre_num.specs.Left.{IsLeft, TakesRecord}
 
 -- ---- behind a record
 
@@ -139,13 +139,13 @@ module _ {R : Type 0} (known : R → Option (List ℕ)) (old new : Reader R)
     (left : List (List (List ℕ))) (is : IsLeft known old left) where
   -- A record that was read is the first of those that were left.
   pub takes-next : (fields : List (List ℕ)) → ReadRecord known old new true fields
-      → took_first new ≡ true → Takes known fields new left
+      → took_first new ≡ true → TakesRecord known fields new left
   unfolding Reached records_from
   takes-next fields did taken = by is.most is.room is.is
     where
       by : (most : ℕ) → length is.bytes < most
           → left ≡ records_from default_config most (reader_state old) is.bytes
-          → Takes known fields new left
+          → TakesRecord known fields new left
       by zero room e = absurd (omega arith)
       by (suc n) room e =
           let more = rows-more known old new fields default_config (reader_state old)

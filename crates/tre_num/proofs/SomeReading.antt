@@ -9,8 +9,8 @@ use Rattle.tre_define.specs.Texts.{parts_of}
 use Rattle.tre_define.specs.declared.let_fault.LetFault.{LetFault}
 use Rattle.tre_define.proofs.SomeReading as texts
 use Rattle.tre_define.proofs.SomeReading.{IsOrNot}
-use Rattle.tre_num.specs.Defined.{Defined, name_of}
-use Rattle.tre_num.specs.Definitions.{Define, IsRefused, Spells}
+use Rattle.tre_num.specs.Defined.{Defined, name_of_let}
+use Rattle.tre_num.specs.Definitions.{Define, LetsAreRefused, Spells}
 use Rattle.tre_num.specs.Whole.{is_whole_byte, whole_of}
 use Rattle.tre_num.proofs.Pieces.{parts-are, parts-spell, same-behind, same-tail}
 
@@ -95,5 +95,5 @@ is_or_not part = at_equals part (behind_equals (behind_piece continues_name part
 
 pub some_reading : (text : List ℕ)
     → ((definitions : List Defined) × Define (parts_of text) definitions)
-    ⊎ ((fault : LetFault) × IsRefused (parts_of text) fault)
-some_reading = texts.some_reading Spells name_of is_or_not
+    ⊎ ((fault : LetFault) × LetsAreRefused (parts_of text) fault)
+some_reading = texts.some_reading Spells name_of_let is_or_not

@@ -2,9 +2,9 @@
 use Rattle.std.proofs.Common.{◌≡◌, ◌≢◌, ℕ, ◌+◌, Option, None, Some, List, [], ◌∷◌, ◌++◌, Bool, true, false, Result, Ok, Err, refl, sym, ap, ◌∙◌, inl, inr, ◌⊎◌}
 use Rattle.csv.specs.Reading.{default_config, records, strip_bom}
 use Rattle.csv.specs.declared.reader.Reader.{Reader}
-use Rattle.tre_num.specs.Left.{IsNext}
+use Rattle.tre_num.specs.Left.{IsNextRecord}
 use Rattle.tre_num.specs.declared.column.Column.{Column}
-use Rattle.tre_num.specs.Rows.{Terms, compared, row_says, rows_from, rows_recording, says_on, table_says, under_header}
+use Rattle.tre_num.specs.Rows.{ColumnTerms, compared, row_says, rows_from, rows_recording, says_on, table_says, under_header}
 use Rattle.tre_parts.specs.Format.{faulty, nothing}
 use Rattle.tre_trace.specs.Reading.{Adds, IsRefused, Reading, Recording, Stretch, Vocabulary, events_for, segments_for}
 use Rattle.tre_trace.specs.declared.fault.TraceFault.{TraceFault}
@@ -14,7 +14,7 @@ use Rattle.tre_trace.specs.declared.segment.Segment.{Segment}
 use Rattle.tre_trace.proofs.Readings.{Adds-none, IsRefused-memory, IsRefused-told, is_memory}
 use Rattle.tre_num.proofs.Telling.{no-bits}
 
-module _ (terms : Terms) (all : List (List (List ℕ))) where
+module _ (terms : ColumnTerms) (all : List (List (List ℕ))) where
   -- What the rows say under this header.
   pub record Heads (header : List (List ℕ)) : Type 0 where
     pub rest : List (List (List ℕ))
@@ -22,7 +22,7 @@ module _ (terms : Terms) (all : List (List (List ℕ))) where
 
   -- the first record is the header; without one there is a header of no fields
   pub heads : {R : Type 0} (known : R → Option (List ℕ)) (found : Bool) (header : List (List ℕ))
-      (rows : Reader R) → IsNext known found header rows all → (found ≡ false → header ≡ [])
+      (rows : Reader R) → IsNextRecord known found header rows all → (found ≡ false → header ≡ [])
       → Heads header
   heads known true header rows next none =
       record { rest = next.others; is = ap (table_says terms) next.first }
@@ -67,7 +67,7 @@ says-quiet : (number end : ℕ) (said : Result Stretch TraceKind) (more : ℕ �
 says-quiet number end (Err kind) more later = refl
 says-quiet number end (Ok stretch) more later = later (end + stretch.len)
 
-rows-quiet : (terms : Terms) (header : List (List ℕ)) (columns : List Column) (number : ℕ)
+rows-quiet : (terms : ColumnTerms) (header : List (List ℕ)) (columns : List Column) (number : ℕ)
     (rows : List (List (List ℕ))) (end : ℕ)
     → (rows_from terms header columns number rows end).last ≡ (λ name. false)
 rows-quiet terms header columns number [] end = refl
@@ -76,18 +76,18 @@ rows-quiet terms header columns number (row ∷ rows) end =
     (rows_from terms header columns (number + 1) rows)
     (rows-quiet terms header columns (number + 1) rows)
 
-under-quiet : (terms : Terms) (header : List (List ℕ)) (columns : Option (List Column))
+under-quiet : (terms : ColumnTerms) (header : List (List ℕ)) (columns : Option (List Column))
     (rows : List (List (List ℕ))) → (under_header terms header columns rows).last ≡ (λ name. false)
 under-quiet terms header None rows = refl
 under-quiet terms header (Some columns) rows = rows-quiet terms header columns 2 rows 0
 
-table-quiet : (terms : Terms) (rows : List (List (List ℕ)))
+table-quiet : (terms : ColumnTerms) (rows : List (List (List ℕ)))
     → (table_says terms rows).last ≡ (λ name. false)
 table-quiet terms [] = under-quiet terms [] (compared terms []) []
 table-quiet terms (header ∷ rows) = under-quiet terms header (compared terms header) rows
 
 -- so none of these events does
-pub ends-quiet : (terms : Terms) (asked : Vocabulary) (bytes : List ℕ)
+pub ends-quiet : (terms : ColumnTerms) (asked : Vocabulary) (bytes : List ℕ)
     → events_for asked (rows_recording terms true bytes).last ≡ 0
 ends-quiet terms asked bytes =
     ap (events_for asked) (table-quiet terms (records default_config (strip_bom bytes)))

@@ -7,7 +7,7 @@ use Rattle.tre_pairs.specs.declared.TheConstants.{TIME_MAX}
 use Rattle.tre_decimal.specs.Decimal.{units_of}
 use Rattle.tre_num.specs.Defined.{Defined}
 use Rattle.tre_num.specs.Durations.{units_say}
-use Rattle.tre_num.specs.Rows.{Terms, are_whole, column_for, columns_of, compared, plain_stretch, row_says, stretch_says, told_as, told_by}
+use Rattle.tre_num.specs.Rows.{ColumnTerms, are_whole, compared_column, columns_of, compared, plain_stretch, row_says, stretch_says, told_as, told_by}
 use Rattle.tre_num.specs.Told.{IsUnder, row_gives, segment_of, valuation_of}
 use Rattle.tre_num.specs.declared.column.Column.{Column}
 use Rattle.tre_trace.specs.Reading.{Stretch, Vocabulary, bits_of, segment_for}
@@ -38,7 +38,7 @@ module _ (definitions : List Defined) (header fields : List (List ℕ)) where
       ≡ (if are_whole columns fields then Some (bits_of test names) else None)
 
   one-more : (name : List ℕ) (names : List (List ℕ)) (columns : List Column)
-      (own : Option Column) → column_for definitions header name ≡ own
+      (own : Option Column) → compared_column definitions header name ≡ own
       → (others : Option (List Column)) → columns_of definitions header names ≡ others
       → ((columns : List Column) → columns_of definitions header names ≡ Some columns
       → IsFor names columns)
@@ -66,7 +66,7 @@ module _ (definitions : List Defined) (header fields : List (List ℕ)) where
       let none : [] ≡ columns = cc in
       subst (IsFor []) none refl
   valuation-is (name ∷ names) columns is =
-      one-more name names columns (column_for definitions header name) refl
+      one-more name names columns (compared_column definitions header name) refl
       (columns_of definitions header names) refl (valuation-is names) is
 
 -- ---- the segment
@@ -100,7 +100,7 @@ segment-is asked end (Some len) whole is_true =
         (sym (no-bits asked.events))
 
 -- what all names compare is what those of propositions do
-columns-are : (terms : Terms) (header : List (List ℕ)) (columns : List Column)
+columns-are : (terms : ColumnTerms) (header : List (List ℕ)) (columns : List Column)
     → compared terms header ≡ Some columns
     → columns_of terms.definitions header terms.names.names ≡ Some columns
 columns-are terms header columns = by (length terms.names.events == 0) where
@@ -112,7 +112,7 @@ columns-are terms header columns = by (length terms.names.events == 0) where
   by false is = cc
 
 -- What a row is for the names of the terms is what it says, for these names.
-pub row-is : {terms : Terms} {header : List (List ℕ)} {columns : List Column} {width scale : ℕ}
+pub row-is : {terms : ColumnTerms} {header : List (List ℕ)} {columns : List Column} {width scale : ℕ}
     → IsUnder terms header columns width scale → (end : ℕ) (fields : List (List ℕ))
     → row_gives columns width scale end fields
     ≡ as_segment terms.names (row_says terms header columns end fields)

@@ -9,5 +9,5 @@ pub record Defined : Type 0 where
   pub comparison : Comparison
   pub value : ℤ
 
-abbrev pub name_of : Defined → List ℕ
-name_of defined = defined.name
+abbrev pub name_of_let : Defined → List ℕ
+name_of_let defined = defined.name

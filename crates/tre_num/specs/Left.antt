@@ -20,14 +20,14 @@ pub record IsLeft {R : Type 0} (known : R → Option (List ℕ)) (rows : Reader 
   pub is : left ≡ records_from default_config most (reader_state rows) bytes
 
 -- Of the records that were left, the first was read.
-pub record Takes {R : Type 0} (known : R → Option (List ℕ)) (fields : List (List ℕ))
+pub record TakesRecord {R : Type 0} (known : R → Option (List ℕ)) (fields : List (List ℕ))
     (rows : Reader R) (left : List (List (List ℕ))) : Type 0 where
   pub others : List (List (List ℕ))
   pub first : left ≡ fields ∷ others
   pub rest : IsLeft known rows others
 
 -- A record was read, or none was left.
-abbrev pub IsNext : {R : Type 0} → (R → Option (List ℕ)) → Bool → List (List ℕ) → Reader R
+abbrev pub IsNextRecord : {R : Type 0} → (R → Option (List ℕ)) → Bool → List (List ℕ) → Reader R
     → List (List (List ℕ)) → Type 0
-IsNext known true fields rows left = Takes known fields rows left
-IsNext known false fields rows left = left ≡ []
+IsNextRecord known true fields rows left = TakesRecord known fields rows left
+IsNextRecord known false fields rows left = left ≡ []

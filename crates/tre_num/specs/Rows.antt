@@ -14,14 +14,14 @@ use Rattle.tre_parts.specs.Format.{nothing, faulty, behind}
 use Rattle.tre_num.specs.declared.column.Column.{Column}
 use Rattle.tre_define.specs.Comparison.{compares}
 use Rattle.tre_define.specs.Texts.{named}
-use Rattle.tre_num.specs.Defined.{Defined, name_of}
+use Rattle.tre_num.specs.Defined.{Defined, name_of_let}
 use Rattle.tre_num.specs.Whole.{whole_of}
 
 -- ---- the columns of names
 
 -- the first definition of a name
 abbrev pub definition_of : List Defined → List ℕ → Option Defined
-definition_of definitions name = named name_of definitions name
+definition_of definitions name = named name_of_let definitions name
 
 -- The place of the first column of a name in the header, whose first field names no column.
 abbrev pub place_in : List (List ℕ) → List ℕ → Option ℕ
@@ -37,8 +37,8 @@ column_in header defined =
     }) (place_in header defined.column)
 
 -- what a name compares, where it is defined and the header has its column
-abbrev pub column_for : List Defined → List (List ℕ) → List ℕ → Option Column
-column_for definitions header name =
+abbrev pub compared_column : List Defined → List (List ℕ) → List ℕ → Option Column
+compared_column definitions header name =
     option_and_then (column_in header) (definition_of definitions name)
 
 -- What the names compare, in their order; none where one of them isn't defined or has no column.
@@ -47,7 +47,7 @@ columns_of definitions header [] = Some []
 columns_of definitions header (name ∷ names) =
     option_and_then
     (λ column. option_map (λ others. column ∷ others) (columns_of definitions header names))
-    (column_for definitions header name)
+    (compared_column definitions header name)
 
 -- ---- a row
 
@@ -61,7 +61,8 @@ told_by column fields =
 abbrev pub told_as : List Defined → List (List ℕ) → List (List ℕ) → List ℕ → Bool
 told_as definitions header fields name =
     option_map_or (λ told. told)
-    (option_and_then (λ column. told_by column fields) (column_for definitions header name)) false
+    (option_and_then (λ column. told_by column fields) (compared_column definitions header name))
+    false
 
 -- Each of these columns has a whole number in the row.
 abbrev pub are_whole : List Column → List (List ℕ) → Bool
@@ -80,12 +81,12 @@ stretch_says end (Some len) whole is_true =
     then (if whole then Ok (plain_stretch len is_true) else Err BadNumber) else Err TooLate)
 
 -- What a recording hangs on; a field of one of these names that is no whole number is a fault.
-pub record Terms : Type 0 where
+pub record ColumnTerms : Type 0 where
   pub definitions : List Defined
   pub names : Vocabulary
   pub scale : ℕ
 
-abbrev pub terms_of : List Defined → List (List ℕ) → List (List ℕ) → ℕ → Terms
+abbrev pub terms_of : List Defined → List (List ℕ) → List (List ℕ) → ℕ → ColumnTerms
 terms_of definitions names events scale = record {
   definitions = definitions;
   names = record { names = names; events = events };
@@ -93,7 +94,7 @@ terms_of definitions names events scale = record {
 }
 
 -- What a row says behind `end`. Its first field is a decimal: how long it lasts.
-abbrev pub row_says : Terms → List (List ℕ) → List Column → ℕ → List (List ℕ)
+abbrev pub row_says : ColumnTerms → List (List ℕ) → List Column → ℕ → List (List ℕ)
     → Result Stretch TraceKind
 row_says terms header columns end fields =
     if nat_lt (length fields) (length header) then Err CutShort
@@ -108,7 +109,7 @@ says_on number end (Err kind) more = faulty number kind
 says_on number end (Ok stretch) more = behind (stretch ∷ []) (more (end + stretch.len))
 
 -- what rows say, the first of which is the record of this number
-abbrev pub rows_from : Terms → List (List ℕ) → List Column → ℕ → List (List (List ℕ)) → ℕ
+abbrev pub rows_from : ColumnTerms → List (List ℕ) → List Column → ℕ → List (List (List ℕ)) → ℕ
     → Recording
 rows_from terms header columns number [] end = nothing
 rows_from terms header columns number (row ∷ rows) end =
@@ -116,24 +117,24 @@ rows_from terms header columns number (row ∷ rows) end =
     (rows_from terms header columns (number + 1) rows)
 
 -- The rows behind a header, where each name has its column.
-abbrev pub under_header : Terms → List (List ℕ) → Option (List Column) → List (List (List ℕ))
+abbrev pub under_header : ColumnTerms → List (List ℕ) → Option (List Column) → List (List (List ℕ))
     → Recording
 under_header terms header None rows = faulty 1 UnknownName
 under_header terms header (Some columns) rows = rows_from terms header columns 2 rows 0
 
 -- The columns of all names: none where there is an event, since rows tell of none.
-abbrev pub compared : Terms → List (List ℕ) → Option (List Column)
+abbrev pub compared : ColumnTerms → List (List ℕ) → Option (List Column)
 compared terms header =
     if length terms.names.events == 0
     then columns_of terms.definitions header terms.names.names else None
 
 -- records: a header and rows; without a record there is no column
-abbrev pub table_says : Terms → List (List (List ℕ)) → Recording
+abbrev pub table_says : ColumnTerms → List (List (List ℕ)) → Recording
 table_says terms [] = under_header terms [] (compared terms []) []
 table_says terms (header ∷ rows) = under_header terms header (compared terms header) rows
 
 -- What bytes say of a trace: nothing while more may come, and then what their records say.
-abbrev pub rows_recording : Terms → Bool → List ℕ → Recording
+abbrev pub rows_recording : ColumnTerms → Bool → List ℕ → Recording
 rows_recording terms false bytes = nothing
 rows_recording terms true bytes =
     table_says terms (records default_config (strip_bom bytes))

@@ -7,7 +7,7 @@ use Rattle.csv.specs.Reading.{default_config, records, strip_bom}
 use Rattle.tre_pairs.specs.declared.TheConstants.{TIME_MAX}
 use Rattle.tre_decimal.specs.Decimal.{units_of}
 use Rattle.tre_num.specs.declared.column.Column.{Column}
-use Rattle.tre_num.specs.Rows.{Terms, are_whole, compared, plain_stretch, row_says, rows_from, rows_recording, says_on, stretch_says, table_says, told_as, under_header}
+use Rattle.tre_num.specs.Rows.{ColumnTerms, are_whole, compared, plain_stretch, row_says, rows_from, rows_recording, says_on, stretch_says, table_says, told_as, under_header}
 use Rattle.tre_trace.specs.Reading.{Grows, Recording, Stretch, Vocabulary, segments_for}
 use Rattle.tre_trace.specs.Trace.{AreLong, IsTrace, end_of}
 use Rattle.tre_trace.specs.declared.fault.TraceKind.{TraceKind}
@@ -37,21 +37,21 @@ stretch-fits end (Some len) whole is_true =
         record { long = grind (arith, nat_tests); in_time = grind (arith, nat_tests) }
 
 -- The segments stand behind a trace that ends at `end`.
-record Follows (end : ℕ) (segments : List Segment) : Type 0 where
+record SegmentsFollow (end : ℕ) (segments : List Segment) : Type 0 where
   long : AreLong segments
   in_time : end ≤ TIME_MAX → end_of end segments ≤ TIME_MAX
 
 module _ (asked : Vocabulary) where
   says-follows : (number end : ℕ) (said : Result Stretch TraceKind) (more : ℕ → Recording)
       → IfOk said (λ stretch. FitsAt end stretch.len)
-      → ((now : ℕ) → Follows now (segments_for asked (more now).stretches))
-      → Follows end (segments_for asked (says_on number end said more).stretches)
+      → ((now : ℕ) → SegmentsFollow now (segments_for asked (more now).stretches))
+      → SegmentsFollow end (segments_for asked (says_on number end said more).stretches)
   says-follows number end (Err kind) more fits later = record { long = tt; in_time = λ h. h }
   says-follows number end (Ok stretch) more fits later =
       let behind = later (end + stretch.len) in
       record { long = (fits.long, behind.long); in_time = λ _. behind.in_time fits.in_time }
 
-  module _ (terms : Terms) (header : List (List ℕ)) where
+  module _ (terms : ColumnTerms) (header : List (List ℕ)) where
     row-fits : (columns : List Column) (end : ℕ) (fields : List (List ℕ))
         → IfOk (row_says terms header columns end fields) (λ stretch. FitsAt end stretch.len)
     row-fits columns end fields = by (nat_lt (length fields) (length header)) where
@@ -64,7 +64,7 @@ module _ (asked : Vocabulary) where
           (are_whole columns fields) (told_as terms.definitions header fields)
 
     rows-follow : (columns : List Column) (number : ℕ) (rows : List (List (List ℕ))) (end : ℕ)
-        → Follows end (segments_for asked (rows_from terms header columns number rows
+        → SegmentsFollow end (segments_for asked (rows_from terms header columns number rows
         end).stretches)
     rows-follow columns number [] end = record { long = tt; in_time = λ h. h }
     rows-follow columns number (row ∷ rows) end =
@@ -79,21 +79,21 @@ module _ (asked : Vocabulary) where
         let follows = rows-follow columns 2 rows 0 in
         record { long = follows.long; in_time = follows.in_time (omega arith) }
 
-  table-is_trace : (terms : Terms) (rows : List (List (List ℕ)))
+  table-is_trace : (terms : ColumnTerms) (rows : List (List (List ℕ)))
       → IsTrace (segments_for asked (table_says terms rows).stretches)
   table-is_trace terms [] = under-is_trace terms [] (compared terms []) []
   table-is_trace terms (header ∷ rows) = under-is_trace terms header (compared terms header) rows
 
-pub rows-are_trace : (terms : Terms) (asked : Vocabulary) (closed : Bool) (bytes : List ℕ)
+pub rows-are_trace : (terms : ColumnTerms) (asked : Vocabulary) (closed : Bool) (bytes : List ℕ)
     → IsTrace (segments_for asked (rows_recording terms closed bytes).stretches)
 rows-are_trace terms asked false bytes = record { long = tt; in_time = omega arith }
 rows-are_trace terms asked true bytes =
     table-is_trace asked terms (records default_config (strip_bom bytes))
 
-pub rows-start : (terms : Terms) → (rows_recording terms false []).stretches ≡ []
+pub rows-start : (terms : ColumnTerms) → (rows_recording terms false []).stretches ≡ []
 rows-start terms = refl
 
-pub rows-grow : (terms : Terms) (closed : Bool) (first more : List ℕ)
+pub rows-grow : (terms : ColumnTerms) (closed : Bool) (first more : List ℕ)
     → Grows (rows_recording terms false first) (rows_recording terms closed (first ++ more))
 rows-grow terms closed first more = record {
   added = (rows_recording terms closed (first ++ more)).stretches;

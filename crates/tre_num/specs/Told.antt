@@ -7,7 +7,7 @@ use Rattle.tre_trace.specs.declared.fault.TraceKind.{TraceKind}
 use Rattle.tre_trace.specs.declared.fault.TraceKind.TheVariants.{BadNumber, CutShort}
 use Rattle.tre_num.specs.declared.column.Column.{Column}
 use Rattle.tre_num.specs.Durations.{duration_says}
-use Rattle.tre_num.specs.Rows.{Terms, compared, told_by}
+use Rattle.tre_num.specs.Rows.{ColumnTerms, compared, told_by}
 
 -- The valuation of a row: the comparison of the first name is the lowest bit.
 abbrev pub valuation_of : List Column → List (List ℕ) → Option ℕ
@@ -30,7 +30,7 @@ row_gives columns width scale end fields =
 
 -- The rows of a table stand under this header, which has so many fields, and in which these are the
 -- columns of all names.
-pub record IsUnder (terms : Terms) (header : List (List ℕ)) (columns : List Column)
+pub record IsUnder (terms : ColumnTerms) (header : List (List ℕ)) (columns : List Column)
     (width scale : ℕ) : Type 0 where
   pub columns_are : compared terms header ≡ Some columns
   pub width_is : length header ≡ width

@@ -3,7 +3,7 @@ ghost use Rattle.std.specs.Prelude.{◌≡◌, ◌≢◌, ◌<◌, ◌≤◌, []
 ghost use Rattle.std.specs.Option.{option_map};
 ghost use Rattle.std.specs.Str.{bytes_eq};
 ghost use Rattle.csv.specs.Records.{fields_of};
-ghost use Rattle.tre_num.specs.Rows.{definition_of, place_in, column_for, columns_of};
+ghost use Rattle.tre_num.specs.Rows.{definition_of, place_in, compared_column, columns_of};
 ghost use Rattle.tre_state.specs.declared.names.TheConstants.{NAMES_MAX};
 ghost use Rattle.tre_trace.specs.Reading.{IsPlaced};
 ghost use Rattle.tre_trace.specs.declared.fault.TraceKind.TheVariants.{UnknownName, Spent, Memory};
@@ -63,7 +63,7 @@ fn column_at(
     number: u8,
 ) -> Option<Column>
     requires { number < length names.now }
-    ensures { result ≡ column_for definitions.now (fields_of header.now)
+    ensures { result ≡ compared_column definitions.now (fields_of header.now)
         (slice_index_or names.now number []) }
 {
     match names.name(number) {
@@ -74,7 +74,7 @@ fn column_at(
 
 // The column of a name, if it is defined and the header has it.
 fn column_for(definitions: &[Definition], header: &ByteRecord, name: &str) -> Option<Column>
-    ensures { result ≡ column_for definitions.now (fields_of header.now) name.now }
+    ensures { result ≡ compared_column definitions.now (fields_of header.now) name.now }
 {
     let definition = definition_of(definitions, name)?;
     let place = place_in(header, definition.column().as_bytes())?;

@@ -1,9 +1,9 @@
 // The definitions of a text.
 ghost use Rattle.std.specs.Prelude.{◌≡◌, ◌≢◌, ◌+◌, ◌∷◌, ◌++◌, [], length, None, IfOk, IfErr, OnOk};
-ghost use Rattle.tre_num.specs.Defined.{Defined, name_of};
-ghost use Rattle.tre_num.specs.Definitions.{Spells, Define, IsRefused};
+ghost use Rattle.tre_num.specs.Defined.{Defined, name_of_let};
+ghost use Rattle.tre_num.specs.Definitions.{Spells, Define, LetsAreRefused};
 ghost use Rattle.tre_num.specs.Rows.{definition_of};
-ghost use Rattle.tre_define.specs.Texts.{HasFault, parts_of};
+ghost use Rattle.tre_define.specs.Texts.{PartHasFault, parts_of};
 ghost use Rattle.tre_define.specs.declared.let_fault.LetFault.{LetFault};
 
 use crate::columns::definition_of;
@@ -20,7 +20,7 @@ pub fn read_definitions(alloc: Global, text: &str) -> Result<Vec<Definition>, Le
     ensures definitions { IfOk result (λ definitions.
         Define (parts_of text.now) definitions.items) }
     ensures refused { IfErr result (λ fault. fault ≢ LetFault.Memory →
-        IsRefused (parts_of text.now) fault) }
+        LetsAreRefused (parts_of text.now) fault) }
 {
     let mut definitions = Vec::new(alloc);
     let mut rest = text.as_bytes();
@@ -44,7 +44,7 @@ fn add(alloc: Global, definitions: &mut Vec<Definition>, part: &[u8]) -> Result<
         × Spells part.now defined
         × (definition_of definitions.old.items defined.name ≡ None)) }
     ensures fault { IfErr result (λ fault. fault ≢ LetFault.Memory →
-        HasFault Spells name_of definitions.old.items (length definitions.old.items + 1)
+        PartHasFault Spells name_of_let definitions.old.items (length definitions.old.items + 1)
         part.now fault) }
 {
     let at = definitions.len() as u64 + 1;

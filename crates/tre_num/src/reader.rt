@@ -3,7 +3,7 @@ ghost use Rattle.std.specs.Prelude.{◌≡◌, ◌≤◌, [], refl};
 ghost use Rattle.tre_decimal.specs.declared.TheConstants.{SCALE_MAX};
 ghost use Rattle.tre_num.specs.Kept.{HasKept};
 ghost use Rattle.tre_num.specs.Times.{rows-grow, rows-are_trace, rows-start};
-ghost use Rattle.tre_num.specs.Rows.{Terms, rows_recording, terms_of};
+ghost use Rattle.tre_num.specs.Rows.{ColumnTerms, rows_recording, terms_of};
 
 use crate::columns::NO_MEMORY;
 use crate::definition::Definition;
@@ -63,7 +63,7 @@ impl ColumnsReader {
 }
 
 impl TraceReader for ColumnsReader {
-    ghost Terms = { Terms };
+    ghost ColumnTerms = { ColumnTerms };
 
     ghost terms = { λ reader. reader.table };
 

@@ -3,8 +3,8 @@ ghost use Rattle.std.specs.Prelude.{◌≡◌, ◌≢◌, ◌≤◌, ℕ, List, 
 ghost use Rattle.csv.specs.Reading.{default_config, records, strip_bom};
 ghost use Rattle.csv.specs.Records.{fields_of};
 ghost use Rattle.tre_decimal.specs.declared.TheConstants.{SCALE_MAX};
-ghost use Rattle.tre_num.specs.Left.{IsLeft, IsNext};
-ghost use Rattle.tre_num.specs.Rows.{Terms, compared, rows_from, rows_recording, terms_of};
+ghost use Rattle.tre_num.specs.Left.{IsLeft, IsNextRecord};
+ghost use Rattle.tre_num.specs.Rows.{ColumnTerms, compared, rows_from, rows_recording, terms_of};
 ghost use Rattle.tre_num.specs.Told.{IsUnder};
 ghost use Rattle.tre_parts.specs.Format.{nothing};
 ghost use Rattle.tre_state.specs.declared.names.TheConstants.{NAMES_MAX};
@@ -34,9 +34,9 @@ pub(crate) struct Table {
 impl Model for Table {
     ghost use Rattle.std.specs.Prelude.{◌≤◌};
     ghost use Rattle.tre_decimal.specs.declared.TheConstants.{SCALE_MAX};
-    ghost use Rattle.tre_num.specs.Rows.{Terms, terms_of};
+    ghost use Rattle.tre_num.specs.Rows.{ColumnTerms, terms_of};
 
-    ghost Value = { Terms };
+    ghost Value = { ColumnTerms };
 
     ghost view = { λ t. terms_of t.definitions.items t.names t.events t.scale };
 
@@ -117,7 +117,7 @@ fn records_of<R: Read + Drop>(alloc: Global, source: R) -> Reader<R>
 // Reads the next record, if there is one. Where there is none, the row has no fields.
 fn next_row<R: Read + Drop>(rows: &mut Reader<R>, row: &mut ByteRecord) -> Result<bool, TraceFault>
     ensures next { (left : List (List (List ℕ))) → IsLeft R.remaining rows.old left →
-        IfOk result (λ found. IsNext R.remaining found (fields_of row.new) rows.new left) }
+        IfOk result (λ found. IsNextRecord R.remaining found (fields_of row.new) rows.new left) }
     ensures none { IfOk result (λ found. found ≡ false → fields_of row.new ≡ []) }
     ensures fault { IfErr result (λ fault. fault ≡ record { place = 0; kind = Memory }) }
 {
@@ -142,14 +142,14 @@ fn read_behind<R: Read + Drop>(
 ) -> Result<(), TraceFault>
     requires few { length columns.now ≤ NAMES_MAX }
     requires scale { scale ≤ SCALE_MAX }
-    ensures whole { (terms : Terms) (header : List (List ℕ)) (left : List (List (List ℕ))) →
+    ensures whole { (terms : ColumnTerms) (header : List (List ℕ)) (left : List (List (List ℕ))) →
         IsUnder terms header columns.now width scale → IsLeft R.remaining rows.old left →
         OnOk result ((rows_from terms header columns.now 2 left 0).fault ≡ None) }
-    ensures adds { (terms : Terms) (header : List (List ℕ)) (left : List (List (List ℕ))) →
+    ensures adds { (terms : ColumnTerms) (header : List (List ℕ)) (left : List (List (List ℕ))) →
         IsUnder terms header columns.now width scale → IsLeft R.remaining rows.old left →
         OnOk result (Adds terms.names segments.old.items segments.new.items nothing
         (rows_from terms header columns.now 2 left 0)) }
-    ensures refused { (terms : Terms) (header : List (List ℕ)) (left : List (List (List ℕ))) →
+    ensures refused { (terms : ColumnTerms) (header : List (List ℕ)) (left : List (List (List ℕ))) →
         IsUnder terms header columns.now width scale → IsLeft R.remaining rows.old left →
         IfErr result (IsRefused terms.names segments.old.items segments.new.items nothing
         (rows_from terms header columns.now 2 left 0)) }

@@ -29,7 +29,7 @@ use Rattle.tre_mark.specs.MarkTree.{MarkTree, mark_of}
 use Rattle.tre_mark.specs.Marked.{since, CanTakeIn, Marked, IsStart, IsWellAt}
 use Rattle.tre_advance.specs.Advance.{GoesOver, MarkedBehind, before_piece, Advances}
 use Rattle.tre_advance.proofs.Opening.{all_later}
-use Rattle.tre_online.specs.Reading.{AreMoments, IsPieceFor, IsBehind, Finds, Reads}
+use Rattle.tre_online.specs.Reading.{AreMoments, IsPieceFor, IsBehind, FindsInPiece, ReadsPiece}
 use Rattle.tre_online.specs.Session.{pattern_of, at_of, held_of, ended_of, kept_of, cut_after, AwaitsMatches, StandsFor, TellsNew}
 use Rattle.tre_online.specs.Told.{WasTold}
 use Rattle.tre_online.specs.declared.session.Progress.{Progress}
@@ -382,20 +382,20 @@ stands_at_start session tree zones moments start pattern at last ended = record 
 pub reads_with : (session : Session) (pattern : Pattern) (progress : Progress) (piece : Piece)
     (told : List ZoneBounds) (rest : MarkTree) → pattern ≡ session.pattern.value
     → progress ≡ session.progress.value
-    → Reads (mark_of progress.mark) (pattern_tree pattern) progress.ended piece told rest
-    → Reads (kept_of session) (pattern_tree (pattern_of session)) (ended_of session) piece told rest
+    → ReadsPiece (mark_of progress.mark) (pattern_tree pattern) progress.ended piece told rest
+    → ReadsPiece (kept_of session) (pattern_tree (pattern_of session)) (ended_of session) piece told rest
 reads_with session pattern progress piece told rest is_pattern is_progress reads =
     subst (λ (p : Progress).
-    Reads (mark_of p.mark) (pattern_tree session.pattern.value) p.ended piece told rest) is_progress
+    ReadsPiece (mark_of p.mark) (pattern_tree session.pattern.value) p.ended piece told rest) is_progress
     (subst (λ (p : Pattern).
-    Reads (mark_of progress.mark) (pattern_tree p) progress.ended piece told rest) is_pattern reads)
+    ReadsPiece (mark_of progress.mark) (pattern_tree p) progress.ended piece told rest) is_pattern reads)
 
 module _ (old : Session) (whole : MarkTree) (u : List Segment) (segment : Segment)
     (piece : Piece) (told : List ZoneBounds) (standing : StandsFor old u)
     (is_piece : IsPieceFor old segment piece)
-    (reads : Reads (kept_of old) (pattern_tree old.pattern.value) (ended_of old) piece told
+    (reads : ReadsPiece (kept_of old) (pattern_tree old.pattern.value) (ended_of old) piece told
     whole) where
-  abbrev finds : Finds (kept_of old) (pattern_tree old.pattern.value) piece reads.found whole
+  abbrev finds : FindsInPiece (kept_of old) (pattern_tree old.pattern.value) piece reads.found whole
   finds = reads.finds
 
   -- What begins in the piece can be taken in.
@@ -470,7 +470,7 @@ in_time_after piece told progress behind =
 
 pub well_after : (before : MarkTree) (tree : PatternTree) (earlier told : List ZoneBounds)
     (piece : Piece) (progress : Progress)
-    → Reads before tree earlier piece told (mark_of progress.mark)
+    → ReadsPiece before tree earlier piece told (mark_of progress.mark)
     → IsBehind piece told progress → IsWellAt progress.at (mark_of progress.mark) tree
 well_after before tree earlier told piece progress reads behind =
     subst (λ (time : ℕ). IsWellAt time (mark_of progress.mark) tree) (sym behind.at)

@@ -21,7 +21,7 @@ AreNewFor (pattern ∷ patterns) (session ∷ sessions) =
 AreNewFor patterns sessions = ⊥
 
 -- What a segment makes of a session, which keeps what it tells of it.
-pub record Goes (old : Session) (segment : Segment) (new : Session) : Type 0 where
+pub record SessionGoes (old : Session) (segment : Segment) (new : Session) : Type 0 where
   pub stands : (trace : List Segment) → StandsFor old trace
       → StandsFor new (trace ++ segment ∷ [])
   pub fits : (trace : List Segment) → StandsFor old trace → Fits trace segment
@@ -33,7 +33,7 @@ pub record Goes (old : Session) (segment : Segment) (new : Session) : Type 0 whe
 pub record IsGiven (session : Session) (segment : Segment) (old new : List Session) : Type 0
   where
     pub next : Session
-    pub goes : Goes session segment next
+    pub goes : SessionGoes session segment next
     pub behind : new ≡ old ++ next ∷ []
 
 -- The first of the sessions has its segment, and was put behind the others.
@@ -47,7 +47,7 @@ pub record IsGivenFirst (old : List Session) (segment : Segment) (new : List Ses
 abbrev pub GoEach : List Session → List Segment → List Session → Type 0
 GoEach [] [] [] = Unit {0}
 GoEach (old ∷ olds) (segment ∷ segments) (new ∷ news) =
-    Goes old segment new × GoEach olds segments news
+    SessionGoes old segment new × GoEach olds segments news
 GoEach olds segments news = ⊥
 
 -- The session refuses the segment for this fault.

@@ -29,7 +29,8 @@ pub record IsPieceFor (session : Session) (segment : Segment) (piece : Piece) : 
 
 -- The mark has gone over the piece, with matches entering at every moment of it, and told what was
 -- found.
-pub record Finds (mark : MarkTree) (tree : PatternTree) (piece : Piece) (found : List ZoneBounds)
+pub record FindsInPiece (mark : MarkTree) (tree : PatternTree) (piece : Piece) (found : List
+    ZoneBounds)
     (rest : MarkTree) : Type 0 where
   pub entering : List ZoneBounds
   pub moments : AreMoments piece.begin (end_of_piece piece) entering
@@ -37,10 +38,11 @@ pub record Finds (mark : MarkTree) (tree : PatternTree) (piece : Piece) (found :
   pub advances : Advances mark tree entering piece found rest
 
 -- What is told is what was found, without what was told earlier.
-pub record Reads (mark : MarkTree) (tree : PatternTree) (earlier : List ZoneBounds) (piece : Piece)
+pub record ReadsPiece (mark : MarkTree) (tree : PatternTree) (earlier : List ZoneBounds) (piece :
+    Piece)
     (told : List ZoneBounds) (rest : MarkTree) : Type 0 where
   pub found : List ZoneBounds
-  pub finds : Finds mark tree piece found rest
+  pub finds : FindsInPiece mark tree piece found rest
   pub without : Without (WasTold earlier) found told
 
 -- The progress is that at the end of the piece, of which this was told.

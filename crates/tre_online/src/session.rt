@@ -50,7 +50,7 @@ impl Session {
     ghost use Rattle.tre_syntax.specs.PatternTree.{node_count};
     ghost use Rattle.tre_syntax.specs.Pattern.{pattern_tree, names_of};
     ghost use Rattle.tre_online.specs.Session.{pattern_of, at_of, ended_of, kept_of, StandsFor, TellsNew, TellsLast};
-    ghost use Rattle.tre_online.specs.Reading.{AreMoments, IsPieceFor, IsBehind, Finds, Reads};
+    ghost use Rattle.tre_online.specs.Reading.{AreMoments, IsPieceFor, IsBehind, FindsInPiece, ReadsPiece};
 
     /// A session that has read no segment.
     pub fn new(alloc: Global, pattern: Pattern) -> Result<Session, AllocError>
@@ -218,7 +218,7 @@ impl Session {
     // What is told of the piece, and a copy of the progress that has gone over it.
     fn read_over_copy(&self, piece: &Piece) -> Result<(Box<Progress>, ZoneSet), AllocError>
         requires { IsPieceFor self.now piece.now.segment piece.now }
-        ensures reads { IfOk result (λ both. Reads (kept_of self.now)
+        ensures reads { IfOk result (λ both. ReadsPiece (kept_of self.now)
             (pattern_tree (pattern_of self.now)) (ended_of self.now) piece.now both.1
             (mark_of (box_value both.0).mark)) }
         ensures behind { IfOk result (λ both. IsBehind piece.now both.1 (box_value both.0)) }
@@ -257,7 +257,7 @@ impl Session {
         piece: &Piece,
     ) -> Result<(), AllocError>
         requires { IsWellAt piece.now.begin (mark_of progress.old.mark) (pattern_tree pattern.now) }
-        ensures reads { OnOk result (Reads (mark_of progress.old.mark)
+        ensures reads { OnOk result (ReadsPiece (mark_of progress.old.mark)
             (pattern_tree pattern.now) progress.old.ended piece.now progress.new.ended
             (mark_of progress.new.mark)) }
         ensures behind { OnOk result (IsBehind piece.now progress.new.ended progress.new) }
@@ -281,7 +281,7 @@ impl Session {
         room: Vec<Zone>,
     ) -> Result<ZoneSet, AllocError>
         requires { IsWellAt piece.now.begin (mark_of mark.old) (pattern_tree pattern.now) }
-        ensures { IfOk result (λ found. Finds (mark_of mark.old) (pattern_tree pattern.now)
+        ensures { IfOk result (λ found. FindsInPiece (mark_of mark.old) (pattern_tree pattern.now)
             piece.now found (mark_of mark.new)) }
     {
         let end = piece.begin + piece.segment.len;

@@ -9,7 +9,7 @@ use Rattle.tre_syntax.specs.PatternTree.{PatternTree}
 use Rattle.tre_parse.specs.declared.lexeme.Lexeme.{Lexeme}
 use Rattle.tre_parse.specs.declared.lexeme.Lexeme.TheVariants.{Blank, Wrong, Name, Number, Sign}
 use Rattle.tre_parse.specs.Lexeme.{word_lexeme, number_lexeme, sign_lexeme, lexeme_of, FitsIn}
-use Rattle.tre_parse.specs.Written.{is_blank}
+use Rattle.tre_parse.specs.Written.{is_white_space}
 use Rattle.tre_syntax.specs.declared.name_kind.NameKind.TheVariants.{Proposition, Event as EventKind}
 use Rattle.tre_parse.specs.Tokens.{RawToken, name, number, sign, RawTokenAt, with_events, names_in, token_of}
 use Rattle.tre_parse.specs.Scanned.{RawTokens, raw_tokens_from, scanned, with_raw_token, raw_tokens_of, bad_byte, words_of, names_of}
@@ -57,7 +57,7 @@ joined_scan (Sign token len) at xs rest long short second some h go =
     ap (with_raw_token at (sign token)) (go (len - 1) (omega (arith, h.0, h.1)))
     ∙ joined_word at (sign token) (short (len - 1)).raw_tokens (short (len - 1)).bad second
 
-lexed_blank : (at : ℕ) (c : ℕ) (ys : List ℕ) → is_blank c ≡ true → raw_tokens_from 0 at (c ∷ ys)
+lexed_blank : (at : ℕ) (c : ℕ) (ys : List ℕ) → is_white_space c ≡ true → raw_tokens_from 0 at (c ∷ ys)
     ≡ raw_tokens_from 0 (at + 1) ys
 lexed_blank at c ys h =
     ap (λ t. scanned (if t then Blank else (if starts_name c then word_lexeme (c ∷ ys) else
@@ -65,7 +65,7 @@ lexed_blank at c ys h =
     (λ skip. raw_tokens_from skip (at + 1) ys)) h
 
 -- The words before a blank, and then those after it.
-lexed_parts : (skip at : ℕ) (xs : List ℕ) (c : ℕ) (ys : List ℕ) → is_blank c ≡ true
+lexed_parts : (skip at : ℕ) (xs : List ℕ) (c : ℕ) (ys : List ℕ) → is_white_space c ≡ true
     → skip ≤ length xs →
     raw_tokens_from skip at (xs ++ c ∷ ys) ≡ joined (raw_tokens_from skip at xs)
     (raw_tokens_from 0 (at + (length xs + 1)) ys)
@@ -119,14 +119,14 @@ lexed_further zero at n (b ∷ bs) =
     (λ skip. raw_tokens_from skip (at + 1) bs)
     (λ k. ap (λ m. raw_tokens_from k m bs) e ∙ lexed_further k (at + 1) n bs)
 
-text_parts : (front rest : List ℕ) (blank : ℕ) → is_blank blank ≡ true →
+text_parts : (front rest : List ℕ) (blank : ℕ) → is_white_space blank ≡ true →
     raw_tokens_from 0 0 (front ++ blank ∷ rest) ≡ joined (raw_tokens_from 0 0 front)
     (further (length front + 1) (raw_tokens_from 0 0 rest))
 text_parts front rest blank h =
     lexed_parts 0 0 front blank rest h (omega arith)
     ∙ ap (joined (raw_tokens_from 0 0 front)) (lexed_further 0 0 (length front + 1) rest)
 
-pub words_after : (front rest : List ℕ) (blank : ℕ) → is_blank blank ≡ true → bad_byte front ≡ None
+pub words_after : (front rest : List ℕ) (blank : ℕ) → is_white_space blank ≡ true → bad_byte front ≡ None
     →
     raw_tokens_of (front ++ blank ∷ rest) ≡ raw_tokens_of front ++ counted_on (length front + 1)
     (raw_tokens_of rest)
@@ -135,14 +135,14 @@ words_after front rest blank h good =
     ∙ ap (λ b. (joined_at (raw_tokens_of front) b (further (length front + 1)
     (raw_tokens_from 0 0 rest))).raw_tokens) good
 
-pub bad_after : (front rest : List ℕ) (blank : ℕ) → is_blank blank ≡ true → bad_byte front ≡ None →
+pub bad_after : (front rest : List ℕ) (blank : ℕ) → is_white_space blank ≡ true → bad_byte front ≡ None →
     bad_byte (front ++ blank ∷ rest) ≡ option_map (λ at. at + (length front + 1)) (bad_byte rest)
 bad_after front rest blank h good =
     ap (λ (l : RawTokens). l.bad) (text_parts front rest blank h)
     ∙ ap (λ b. (joined_at (raw_tokens_of front) b (further (length front + 1)
     (raw_tokens_from 0 0 rest))).bad) good
 
-pub bad_before : (front rest : List ℕ) (blank at : ℕ) → is_blank blank ≡ true → bad_byte front
+pub bad_before : (front rest : List ℕ) (blank at : ℕ) → is_white_space blank ≡ true → bad_byte front
     ≡ Some at → bad_byte (front ++ blank ∷ rest) ≡ Some at
 bad_before front rest blank at h bad =
     ap (λ (l : RawTokens). l.bad) (text_parts front rest blank h)
@@ -214,7 +214,7 @@ joined_none front (Some at) = refl
 joined_none front None = ap (λ (raw_tokens : List RawTokenAt). record
     { raw_tokens = raw_tokens; bad = None }) (append-nil front)
 
-pub another : (front rest : List ℕ) (blank other : ℕ) → is_blank blank ≡ true → is_blank other
+pub another : (front rest : List ℕ) (blank other : ℕ) → is_white_space blank ≡ true → is_white_space other
     ≡ true → SaysAs (front ++ other ∷ rest) (front ++ blank ∷ rest)
 another front rest blank other h k =
     same_text (front ++ other ∷ rest) (front ++ blank ∷ rest) _ _ (text_parts front rest other k)
@@ -222,7 +222,7 @@ another front rest blank other h k =
     (same_behind (raw_tokens_of front) (bad_byte front) _ _
     (same_moved (length front + 1) (length front + 1) (raw_tokens_from 0 0 rest)))
 
-pub more : (front rest : List ℕ) (blank other : ℕ) → is_blank blank ≡ true → is_blank other ≡ true
+pub more : (front rest : List ℕ) (blank other : ℕ) → is_white_space blank ≡ true → is_white_space other ≡ true
     → SaysAs (front ++ blank ∷ other ∷ rest) (front ++ blank ∷ rest)
 more front rest blank other h k =
     let n = length front + 1 in
@@ -234,12 +234,12 @@ more front rest blank other h k =
     (same_behind (raw_tokens_of front) (bad_byte front) _ _
     (same_moved (0 + n + 1) n (raw_tokens_from 0 0 rest)))
 
-pub in_front : (text : List ℕ) (blank : ℕ) → is_blank blank ≡ true → SaysAs (blank ∷ text) text
+pub in_front : (text : List ℕ) (blank : ℕ) → is_white_space blank ≡ true → SaysAs (blank ∷ text) text
 in_front text blank h =
     same_text (blank ∷ text) text _ _ (lexed_blank 0 blank text h ∙ lexed_moved (0 + 1) text)
     (lexed_moved 0 text) (same_moved (0 + 1) 0 (raw_tokens_from 0 0 text))
 
-pub at_end : (text : List ℕ) (blank : ℕ) → is_blank blank ≡ true → SaysAs (text ++ blank ∷ []) text
+pub at_end : (text : List ℕ) (blank : ℕ) → is_white_space blank ≡ true → SaysAs (text ++ blank ∷ []) text
 at_end text blank h =
     same_text (text ++ blank ∷ []) text _ _ (text_parts text [] blank h
     ∙ joined_none (raw_tokens_of text) (bad_byte text)) refl

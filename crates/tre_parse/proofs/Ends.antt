@@ -9,8 +9,8 @@ use Rattle.tre_decimal.specs.Decimal.{is_point}
 use Rattle.tre_state.specs.Name.{starts_name, continues_name}
 use Rattle.tre_parse.specs.declared.token.Token.{Token}
 use Rattle.tre_parse.specs.declared.lexeme.Lexeme.TheVariants.{Blank}
-use Rattle.tre_parse.specs.Lexeme.{named, word_lexeme, decimals_len, number_lexeme, sign_lexeme, lexeme_of}
-use Rattle.tre_parse.specs.Written.{is_blank, reserved}
+use Rattle.tre_parse.specs.Lexeme.{lexeme_named, word_lexeme, decimals_len, number_lexeme, sign_lexeme, lexeme_of}
+use Rattle.tre_parse.specs.Written.{is_white_space, reserved}
 use Rattle.tre_parse.specs.Ends.{bytes_in, EndsRun, EndsNumber}
 use Rattle.tre_parse.proofs.Words.{prefix_passes}
 
@@ -51,19 +51,19 @@ run_ends p x xs h = record {
   ends = prefix_stops p (x ∷ xs);
 }
 
-starts_no_blank : (b : ℕ) → starts_name b ≡ true → is_blank b ≡ false
+starts_no_blank : (b : ℕ) → starts_name b ≡ true → is_white_space b ≡ false
 starts_no_blank b h = grind (arith, nat_tests)
 
 starts_continues : (b : ℕ) → starts_name b ≡ true → continues_name b ≡ true
 starts_continues b h = grind (arith, nat_tests)
 
-digit_no_blank : (b : ℕ) → is_ascii_digit b ≡ true → is_blank b ≡ false
+digit_no_blank : (b : ℕ) → is_ascii_digit b ≡ true → is_white_space b ≡ false
 digit_no_blank b h = grind (arith, nat_tests)
 
 digit_starts_none : (b : ℕ) → is_ascii_digit b ≡ true → starts_name b ≡ false
 digit_starts_none b h = grind (arith, nat_tests)
 
-named_bytes : (n : ℕ) (o : Option Token) → bytes_in (named n o) ≡ n
+named_bytes : (n : ℕ) (o : Option Token) → bytes_in (lexeme_named n o) ≡ n
 named_bytes n None = refl
 named_bytes n (Some token) = refl
 

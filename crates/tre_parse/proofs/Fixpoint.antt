@@ -11,7 +11,7 @@ use Rattle.tre_parse.specs.declared.connective.Join.{Join}
 use Rattle.tre_parse.specs.declared.connective.Join.TheVariants.{Sequence, Intersection, Alternation}
 use Rattle.tre_parse.specs.Front.{front, tail}
 use Rattle.tre_parse.specs.Joins.{connective_sign, join_sign, brackets_of}
-use Rattle.tre_parse.specs.Reader.{Reading, got, stop, and_then, StateTask, state_by, state_after, state_operand, PatternTask, expression_by, expression_after, operand, operand_after, unsigned, Task, of_state, of_pattern, of_interval, Made, Program, give, halt, look, call, is_sign, accept, said, part, leaf_of, event_of, state_part, expression_part, opened_by, number_of, high_of, closed_by, sign_program, is_behind, edge_program, event_program, literal_program, unsigned_program, is_before, interval_program, state_program, pattern_program, program, past, run, deep, rank, read, read_state, read_pattern}
+use Rattle.tre_parse.specs.Reader.{Reading, got, stop, and_then, StateTask, state_by, state_after, state_operand, PatternTask, expression_by, expression_after, operand, operand_after, unsigned, Task, of_state, of_pattern, of_interval, Made, Program, give, halt, look, call, is_sign, accept, said, part, leaf_of, event_number_of, state_part, expression_part, opened_by, number_of, high_end_of, closed_by, sign_program, is_behind, edge_program, event_program, literal_program, unsigned_program, is_before, interval_program, state_program, pattern_program, program, past, run, deep, rank, read, read_state, read_pattern}
 
 -- The tokens that a reading leaves.
 abbrev pub left : {A : Type 0} → Reading A → List Token
@@ -83,7 +83,7 @@ edge_guarded rises = accept_guarded LeftParen _ halt 8
 
 event_guarded : IsGuarded 8 event_program
 event_guarded = accept_guarded LeftParen _ halt 8
-    (part_guarded event_of _ 8 refl (λ i. accept_guarded RightParen _ halt 8 tt tt)) tt
+    (part_guarded event_number_of _ 8 refl (λ i. accept_guarded RightParen _ halt 8 tt tt)) tt
 
 unsigned_guarded : (token : Token)
     → IsGuarded (if is_before token then 8 else 2) (unsigned_program token)
@@ -134,7 +134,7 @@ guarded (of_pattern unsigned) = (refl, unsigned_guarded)
 guarded of_interval =
     part_guarded opened_by _ 0 refl
     (λ low_weak. part_guarded number_of _ 8 refl
-    (λ low. accept_guarded Comma _ halt 8 (part_guarded high_of _ 8 refl
+    (λ low. accept_guarded Comma _ halt 8 (part_guarded high_end_of _ 8 refl
     (λ high. part_guarded (closed_by high) _ 8 (no_close high) (λ high_weak. tt))) tt))
 
 -- ---- two ways that agree below a bound agree there

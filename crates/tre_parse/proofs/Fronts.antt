@@ -11,19 +11,19 @@ use Rattle.tre_state.specs.Name.{starts_name, continues_name}
 use Rattle.tre_parse.specs.declared.token.Token.{Token}
 use Rattle.tre_parse.specs.declared.lexeme.Lexeme.{Lexeme}
 use Rattle.tre_parse.specs.declared.lexeme.Lexeme.TheVariants.{Blank, Number, Sign}
-use Rattle.tre_parse.specs.Lexeme.{named, first_sign, word_lexeme, decimals_len, number_lexeme, sign_lexeme, lexeme_of, FitsIn}
-use Rattle.tre_parse.specs.Written.{is_blank, reserved}
+use Rattle.tre_parse.specs.Lexeme.{lexeme_named, first_sign, word_lexeme, decimals_len, number_lexeme, sign_lexeme, lexeme_of, FitsIn}
+use Rattle.tre_parse.specs.Written.{is_white_space, reserved}
 use Rattle.tre_parse.specs.declared.lexeme.TheConstants.{SIGNS}
 use Rattle.tre_parse.proofs.Table.{Each}
 
 -- No word and no number goes on with a blank, and no sign of two bytes has one.
-blank_ends_word : (c : ℕ) → is_blank c ≡ true → continues_name c ≡ false
+blank_ends_word : (c : ℕ) → is_white_space c ≡ true → continues_name c ≡ false
 blank_ends_word c h = grind (arith, nat_tests)
 
-blank_ends_number : (c : ℕ) → is_blank c ≡ true → is_ascii_digit c ≡ false
+blank_ends_number : (c : ℕ) → is_white_space c ≡ true → is_ascii_digit c ≡ false
 blank_ends_number c h = grind (arith, nat_tests)
 
-blank_no_point : (c : ℕ) → is_blank c ≡ true → is_point c ≡ false
+blank_no_point : (c : ℕ) → is_white_space c ≡ true → is_point c ≡ false
 blank_no_point c h = grind (arith, nat_tests)
 
 -- What begins before a blank doesn't depend on what follows.
@@ -48,16 +48,16 @@ take_while_ends p xs c ys h =
     ap (λ n. take n (xs ++ c ∷ ys)) (prefix_ends p xs c ys h)
     ∙ take_front (prefix_len p xs) xs (c ∷ ys) (prefix_len-le-length p xs)
 
-word_front : (xs : List ℕ) (c : ℕ) (ys : List ℕ) → is_blank c ≡ true → word_lexeme (xs ++ c ∷ ys)
+word_front : (xs : List ℕ) (c : ℕ) (ys : List ℕ) → is_white_space c ≡ true → word_lexeme (xs ++ c ∷ ys)
     ≡ word_lexeme xs
 word_front xs c ys h =
     let ends = blank_ends_word c h in
-    ap (λ n. named n (reserved (take_while continues_name (xs ++ c ∷ ys))))
+    ap (λ n. lexeme_named n (reserved (take_while continues_name (xs ++ c ∷ ys))))
     (prefix_ends continues_name xs c ys ends)
-    ∙ ap (λ w. named (prefix_len continues_name xs) (reserved w))
+    ∙ ap (λ w. lexeme_named (prefix_len continues_name xs) (reserved w))
     (take_while_ends continues_name xs c ys ends)
 
-decimals_front : (xs : List ℕ) (c : ℕ) (ys : List ℕ) → is_blank c ≡ true
+decimals_front : (xs : List ℕ) (c : ℕ) (ys : List ℕ) → is_white_space c ≡ true
     → decimals_len (xs ++ c ∷ ys) ≡ decimals_len xs
 decimals_front [] c ys h =
     ap (λ t. if t && nat_lt 0 (prefix_len is_ascii_digit ys)
@@ -66,7 +66,7 @@ decimals_front (x ∷ xs) c ys h =
     ap (λ n. if is_point x && nat_lt 0 n then 1 + n else 0)
     (prefix_ends is_ascii_digit xs c ys (blank_ends_number c h))
 
-number_front : (xs : List ℕ) (c : ℕ) (ys : List ℕ) → is_blank c ≡ true
+number_front : (xs : List ℕ) (c : ℕ) (ys : List ℕ) → is_white_space c ≡ true
     → number_lexeme (xs ++ c ∷ ys) ≡ number_lexeme xs
 number_front xs c ys h =
     let len = prefix_len is_ascii_digit xs in
@@ -79,21 +79,21 @@ number_front xs c ys h =
 -- The text of a sign has no blank.
 abbrev no_blank : List ℕ → Bool
 no_blank [] = true
-no_blank (b ∷ bs) = cond (is_blank b) false (no_blank bs)
+no_blank (b ∷ bs) = cond (is_white_space b) false (no_blank bs)
 
-other_byte : (b c : ℕ) → is_blank b ≡ false → is_blank c ≡ true → nat_eq b c ≡ false
+other_byte : (b c : ℕ) → is_white_space b ≡ false → is_white_space c ≡ true → nat_eq b c ≡ false
 other_byte b c h k = grind (arith, nat_tests)
 
-past_blank : (b : ℕ) (more : Bool) → cond (is_blank b) false more ≡ true → (is_blank b ≡ false)
+past_blank : (b : ℕ) (more : Bool) → cond (is_white_space b) false more ≡ true → (is_white_space b ≡ false)
     × (more ≡ true)
-past_blank b more e = by (is_blank b) more refl e
+past_blank b more e = by (is_white_space b) more refl e
   where
-    by : (is more : Bool) → is ≡ is_blank b → cond is false more ≡ true → (is_blank b ≡ false)
+    by : (is more : Bool) → is ≡ is_white_space b → cond is false more ≡ true → (is_white_space b ≡ false)
         × (more ≡ true)
     by true more q e = absurd (cc)
     by false more q e = (sym q, e)
 
-text_front : (sign xs : List ℕ) (c : ℕ) (ys : List ℕ) → is_blank c ≡ true → no_blank sign ≡ true
+text_front : (sign xs : List ℕ) (c : ℕ) (ys : List ℕ) → is_white_space c ≡ true → no_blank sign ≡ true
     → starts_with nat_eq (xs ++ c ∷ ys) sign ≡ starts_with nat_eq xs sign
 text_front [] xs c ys h e = refl
 text_front (b ∷ bs) [] c ys h e = ap (λ t. t && starts_with nat_eq ys bs)
@@ -102,7 +102,7 @@ text_front (b ∷ bs) (x ∷ xs) c ys h e = ap (λ t. nat_eq b x && t)
     (text_front bs xs c ys h (past_blank b (no_blank bs) e).1)
 
 sign_front : {A : Type 0} (text : A → List ℕ) (token : A → Token) (signs : List A) (xs : List ℕ)
-    (c : ℕ) (ys : List ℕ) → is_blank c ≡ true → Each (λ s. no_blank (text s) ≡ true) signs →
+    (c : ℕ) (ys : List ℕ) → is_white_space c ≡ true → Each (λ s. no_blank (text s) ≡ true) signs →
     first_sign text token signs (xs ++ c ∷ ys) ≡ first_sign text token signs xs
 sign_front text token [] xs c ys h e = refl
 sign_front text token (s ∷ more) xs c ys h e =
@@ -111,7 +111,7 @@ sign_front text token (s ∷ more) xs c ys h e =
     ∙ ap (λ l. cond (starts_with nat_eq xs (text s)) (Sign (token s) (length (text s))) l)
     (sign_front text token more xs c ys h e.1)
 
-signs_front : (xs : List ℕ) (c : ℕ) (ys : List ℕ) → is_blank c ≡ true → sign_lexeme (xs ++ c ∷ ys)
+signs_front : (xs : List ℕ) (c : ℕ) (ys : List ℕ) → is_white_space c ≡ true → sign_lexeme (xs ++ c ∷ ys)
     ≡ sign_lexeme xs
 signs_front xs c ys h = sign_front (λ sign. sign.0.now) (λ sign. sign.1) SIGNS xs c ys h (
   refl,
@@ -157,21 +157,21 @@ signs_front xs c ys h = sign_front (λ sign. sign.0.now) (λ sign. sign.1) SIGNS
   ),
 )
 
-pub lexeme_front : (z : ℕ) (xs : List ℕ) (c : ℕ) (ys : List ℕ) → is_blank c ≡ true
+pub lexeme_front : (z : ℕ) (xs : List ℕ) (c : ℕ) (ys : List ℕ) → is_white_space c ≡ true
     → lexeme_of (z ∷ (xs ++ c ∷ ys)) ≡ lexeme_of (z ∷ xs)
 lexeme_front z xs c ys h =
     let long = z ∷ (xs ++ c ∷ ys) in
-    ap (λ l. if is_blank z then Blank else (if starts_name z then l else
+    ap (λ l. if is_white_space z then Blank else (if starts_name z then l else
     (if is_ascii_digit z then number_lexeme long else sign_lexeme long)))
     (word_front (z ∷ xs) c ys h)
-    ∙ ap (λ l. if is_blank z then Blank else (if starts_name z then word_lexeme (z ∷ xs) else
+    ∙ ap (λ l. if is_white_space z then Blank else (if starts_name z then word_lexeme (z ∷ xs) else
     (if is_ascii_digit z then l else sign_lexeme long))) (number_front (z ∷ xs) c ys h)
-    ∙ ap (λ l. if is_blank z then Blank else (if starts_name z then word_lexeme (z ∷ xs) else
+    ∙ ap (λ l. if is_white_space z then Blank else (if starts_name z then word_lexeme (z ∷ xs) else
     (if is_ascii_digit z then number_lexeme (z ∷ xs) else l))) (signs_front (z ∷ xs) c ys h)
 
 -- A lexeme takes at least one byte, and never goes past the end.
 named_fits : (available n : ℕ) (o : Option Token) → 0 < n → n ≤ available
-    → FitsIn available (named n o)
+    → FitsIn available (lexeme_named n o)
 named_fits available n None some h = (some, h)
 named_fits available n (Some t) some h = (some, h)
 
@@ -286,7 +286,7 @@ pub lexeme_fits : (xs : List ℕ) → 0 < length xs → FitsIn (length xs) (lexe
 lexeme_fits [] some = absurd (omega arith)
 lexeme_fits (z ∷ zs) some =
     let xs = z ∷ zs in
-    fits_by (length xs) (is_blank z) (starts_name z) (is_ascii_digit z) (word_lexeme xs)
+    fits_by (length xs) (is_white_space z) (starts_name z) (is_ascii_digit z) (word_lexeme xs)
     (number_lexeme xs) (sign_lexeme xs) (omega arith)
     (λ q. named_fits (length xs) (prefix_len continues_name xs)
     (reserved (take_while continues_name xs)) (first_passes continues_name z zs

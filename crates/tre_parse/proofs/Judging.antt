@@ -18,7 +18,7 @@ use Rattle.tre_parse.specs.declared.token.Token.{Token}
 use Rattle.tre_parse.specs.declared.scan.Scan.{Scan}
 use Rattle.tre_parse.specs.TokenGrammar.{expr, Spells}
 use Rattle.tre_parse.specs.Reader.{got}
-use Rattle.tre_parse.specs.Reading.{Goes, Stops}
+use Rattle.tre_parse.specs.Reading.{ReadingGoes, Stops}
 use Rattle.tre_parse.proofs.Fixpoint.{left}
 use Rattle.tre_parse.proofs.Whole.{read_whole, IsCut, fault_at, spelt_read}
 use Rattle.tre_parse.specs.declared.cursor.Stop.{Stop}
@@ -81,7 +81,7 @@ stop_outcome words (Stuck n) fault rest e h f =
 -- So have those that are an expression with more behind it.
 pub rest_outcome : (words : TextTokens) (stopped : Stop) (fault : ParseFault) (operand : Operand)
     (rest : List Token) → limit_fault words ≡ None →
-    Goes Represents operand (read_whole words.tokens) (λ e. got e rest) → (rest ≡ [] → ⊥) →
+    ReadingGoes Represents operand (read_whole words.tokens) (λ e. got e rest) → (rest ≡ [] → ⊥) →
     stopped ≡ Stuck (length rest) → IsFaultOf words stopped fault →
     (fault ≡ Memory) ⊎ IsOutcomeWithin words (refused fault)
 rest_outcome words stopped fault operand rest e h some q f =
@@ -90,7 +90,7 @@ rest_outcome words stopped fault operand rest e h some q f =
     (subst P q f))
 
 pub is_whole : (words : TextTokens) (operand : Operand)
-    → Goes Represents operand (read_whole words.tokens) (λ e. got e [])
+    → ReadingGoes Represents operand (read_whole words.tokens) (λ e. got e [])
     → IsRepresented words operand
 is_whole words operand h = record {
   tree = h.tree;

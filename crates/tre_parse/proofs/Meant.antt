@@ -14,9 +14,9 @@ use Rattle.tre_parse.specs.declared.token.Token.{Token}
 use Rattle.tre_parse.specs.declared.lexeme.Lexeme.{Lexeme}
 use Rattle.tre_parse.specs.declared.lexeme.Lexeme.TheVariants.{Blank, Wrong, Name, Number, Sign}
 use Rattle.tre_parse.specs.Ends.{bytes_in}
-use Rattle.tre_parse.specs.Lexeme.{named, word_lexeme, decimals_len, number_len, number_lexeme, first_sign, sign_lexeme, lexeme_of, FitsIn}
+use Rattle.tre_parse.specs.Lexeme.{lexeme_named, word_lexeme, decimals_len, number_len, number_lexeme, first_sign, sign_lexeme, lexeme_of, FitsIn}
 use Rattle.tre_parse.specs.Signs.{IsSign, TakesSign}
-use Rattle.tre_parse.specs.Written.{is_blank, reserved, signs, HasDecimals, Writes, BeginsWith, AreTokens, at_end, blank, next, wrong}
+use Rattle.tre_parse.specs.Written.{is_white_space, reserved, signs, HasDecimals, Writes, BeginsWith, AreTokens, at_end, blank, next, wrong}
 use Rattle.tre_parse.specs.declared.lexeme.TheConstants.{SIGNS}
 use Rattle.tre_parse.specs.Tokens.{RawToken, name, event_name, number, sign, RawTokenAt}
 use Rattle.tre_parse.specs.Scanned.{RawTokens, raw_tokens_from, scanned, with_raw_token, raw_tokens_of, bad_byte}
@@ -47,16 +47,16 @@ all_listed p xs h = list_all-from_AllPass p xs h
 starts_continues : (b : ℕ) → starts_name b ≡ true → continues_name b ≡ true
 starts_continues b h = grind (arith, nat_tests)
 
-starts_no_blank : (b : ℕ) → starts_name b ≡ true → is_blank b ≡ false
+starts_no_blank : (b : ℕ) → starts_name b ≡ true → is_white_space b ≡ false
 starts_no_blank b h = grind (arith, nat_tests)
 
-digit_no_blank : (b : ℕ) → is_ascii_digit b ≡ true → is_blank b ≡ false
+digit_no_blank : (b : ℕ) → is_ascii_digit b ≡ true → is_white_space b ≡ false
 digit_no_blank b h = grind (arith, nat_tests)
 
 digit_starts_none : (b : ℕ) → is_ascii_digit b ≡ true → starts_name b ≡ false
 digit_starts_none b h = grind (arith, nat_tests)
 
-named_bytes : (n : ℕ) (o : Option Token) → bytes_in (named n o) ≡ n
+named_bytes : (n : ℕ) (o : Option Token) → bytes_in (lexeme_named n o) ≡ n
 named_bytes n None = refl
 named_bytes n (Some token) = refl
 
@@ -224,7 +224,7 @@ pub record Stands (bytes : List ℕ) (lexeme : Lexeme) : Type 0 where
   pub writes : Writes (take (bytes_in lexeme) bytes) (raw_in lexeme bytes)
 
 word_by : (len : ℕ) (bytes : List ℕ) (kept : Option Token) → IsWord (take len bytes)
-    → reserved (take len bytes) ≡ kept → Stands bytes (named len kept)
+    → reserved (take len bytes) ≡ kept → Stands bytes (lexeme_named len kept)
 word_by len bytes None is e = record { taken = tt; writes = (refl, is, e) }
 word_by len bytes (Some token) is e = record { taken = tt; writes = inr (is, e) }
 
@@ -346,7 +346,7 @@ sign_stands bytes (Name len) e is = absurd is
 sign_stands bytes (Number len) e is = absurd is
 
 -- where no blank stands, a token does or none
-pub stands : (b : ℕ) (bs : List ℕ) → is_blank b ≡ false
+pub stands : (b : ℕ) (bs : List ℕ) → is_white_space b ≡ false
     → (lexeme_of (b ∷ bs) ≡ Wrong) ⊎ Stands (b ∷ bs) (lexeme_of (b ∷ bs))
 stands b bs absent = by (starts_name b) (is_ascii_digit b) refl refl
   where
@@ -398,7 +398,7 @@ word_starts : (b : ℕ) (bs : List ℕ) → IsWord (b ∷ bs) → starts_name b 
 word_starts b bs is = is.0
 
 writes_no_blank : (b : ℕ) (bs : List ℕ) (token : RawToken) → Writes (b ∷ bs) token
-    → is_blank b ≡ false
+    → is_white_space b ≡ false
 writes_no_blank b bs (name text) h = starts_no_blank b (word_starts b bs h.1)
 writes_no_blank b bs (event_name text) h = absurd h
 writes_no_blank b bs (number text) h = digit_no_blank b (starts_digit (b ∷ bs) h.1 b bs refl)
@@ -534,7 +534,7 @@ next_raw at (suc m) b bs token is = by (stands b bs (writes_no_blank b (take m b
         ∙ ap (λ r. with_raw_token at r (raw_tokens_from (suc m - 1) (at + 1) bs)) raw
         ∙ ap (with_raw_token at token) (after_token at (suc m) b bs (omega arith) is.within)
 
-blank_lexeme : (b : ℕ) (bs : List ℕ) → is_blank b ≡ true → lexeme_of (b ∷ bs) ≡ Blank
+blank_lexeme : (b : ℕ) (bs : List ℕ) → is_white_space b ≡ true → lexeme_of (b ∷ bs) ≡ Blank
 blank_lexeme b bs h =
     ap (λ (t : Bool). if t then Blank else (if starts_name b then word_lexeme (b ∷ bs) else
     (if is_ascii_digit b then number_lexeme (b ∷ bs) else sign_lexeme (b ∷ bs)))) h
@@ -578,9 +578,9 @@ some_list (suc fuel) at (b ∷ bs) few =
     by (some_list fuel (at + 1) bs (omega (arith, few)))
     (λ len some. some_list fuel (at + len) (drop len (b ∷ bs))
     (omega (arith, few, some, length-drop len (b ∷ bs))))
-    (is_blank b) refl
+    (is_white_space b) refl
   where
-    by_token : ((len : ℕ) → 0 < len → HasTokens (at + len) (drop len (b ∷ bs))) → is_blank b ≡ false
+    by_token : ((len : ℕ) → 0 < len → HasTokens (at + len) (drop len (b ∷ bs))) → is_white_space b ≡ false
         → (lexeme_of (b ∷ bs) ≡ Wrong) ⊎ Stands (b ∷ bs) (lexeme_of (b ∷ bs))
         → HasTokens at (b ∷ bs)
     by_token go absent (inl is) = record {
@@ -606,7 +606,7 @@ some_list (suc fuel) at (b ∷ bs) few =
         }
 
     by : HasTokens (at + 1) bs → ((len : ℕ) → 0 < len → HasTokens (at + len) (drop len (b ∷ bs)))
-        → (is : Bool) → is_blank b ≡ is → HasTokens at (b ∷ bs)
+        → (is : Bool) → is_white_space b ≡ is → HasTokens at (b ∷ bs)
     by rest go true is = record {
       tokens = rest.tokens;
       bad = rest.bad;

@@ -9,8 +9,8 @@ use Rattle.tre_parse.specs.declared.token.Token.{Token}
 use Rattle.tre_parse.specs.declared.token.Token.TheVariants.{Name as Numbered, EventName, Eps, Rise, Fall, Inf, True, Event}
 use Rattle.tre_parse.specs.declared.lexeme.Lexeme.{Lexeme}
 use Rattle.tre_parse.specs.declared.lexeme.Lexeme.TheVariants.{Blank, Wrong, Name, Number, Sign}
-use Rattle.tre_parse.specs.Lexeme.{named, first_sign, word_lexeme, number_lexeme, sign_lexeme, lexeme_of}
-use Rattle.tre_parse.specs.Written.{is_blank, reserved}
+use Rattle.tre_parse.specs.Lexeme.{lexeme_named, first_sign, word_lexeme, number_lexeme, sign_lexeme, lexeme_of}
+use Rattle.tre_parse.specs.Written.{is_white_space, reserved}
 use Rattle.tre_parse.specs.declared.lexeme.TheConstants.{SIGNS}
 use Rattle.tre_parse.proofs.Table.{Each}
 use Rattle.tre_parse.specs.Tokens.{RawToken, name, event_name, number, sign, RawTokenAt}
@@ -44,7 +44,7 @@ abbrev SaysNoName : Lexeme → Type 0
 SaysNoName (Sign token len) = IsNoName token
 SaysNoName _ = Unit {0}
 
-named_no_name : (n : ℕ) (o : Option Token) → IfSome o IsNoName → SaysNoName (named n o)
+named_no_name : (n : ℕ) (o : Option Token) → IfSome o IsNoName → SaysNoName (lexeme_named n o)
 named_no_name n None h = tt
 named_no_name n (Some t) h = h
 
@@ -105,7 +105,7 @@ lexeme_by false false false word decimal other h k m = m
 lexeme_no_name : (rest : List ℕ) → SaysNoName (lexeme_of rest)
 lexeme_no_name [] = tt
 lexeme_no_name (b ∷ bs) =
-    lexeme_by (is_blank b) (starts_name b) (is_ascii_digit b) (word_lexeme (b ∷ bs))
+    lexeme_by (is_white_space b) (starts_name b) (is_ascii_digit b) (word_lexeme (b ∷ bs))
     (number_lexeme (b ∷ bs)) (sign_lexeme (b ∷ bs))
     (named_no_name _ _ (reserved_no_name (take_while continues_name (b ∷ bs)))) tt
     (sign_no_name (b ∷ bs))

@@ -16,7 +16,7 @@ use Rattle.tre_parse.specs.TokenGrammar.{StateRule, state, conj, neg, SpellsStat
 use Rattle.tre_parse.specs.Begins as begin
 use Rattle.tre_parse.specs.Begins.{BeginsState, BeginsInterval, Begins}
 use Rattle.tre_parse.specs.Joins.{connected, connective_sign, connected_rule, joined_by, join_sign, joined_rule, brackets_of, operand_in, edge_sign}
-use Rattle.tre_parse.specs.Reader.{state_by, state_after, state_operand, expression_by, expression_after, operand, operand_after, unsigned, Task, of_state, of_pattern, of_interval, Program, give, halt, call, is_sign, accept, expect, said, part, leaf_of, event_of, opened_by, number_of, high_of, closed_by, behind_high, behind_comma, behind_low, behind_opening, state_part, expression_part, go_on, sign_program, is_behind, edge_program, behind_event, event_program, literal_program, unsigned_program, is_before}
+use Rattle.tre_parse.specs.Reader.{state_by, state_after, state_operand, expression_by, expression_after, operand, operand_after, unsigned, Task, of_state, of_pattern, of_interval, Program, give, halt, call, is_sign, accept, expect, said, part, leaf_of, event_number_of, opened_by, number_of, high_end_of, closed_by, behind_high, behind_comma, behind_low, behind_opening, state_part, expression_part, go_on, sign_program, is_behind, edge_program, behind_event, event_program, literal_program, unsigned_program, is_before}
 use Rattle.tre_parse.proofs.Equations.{sign_is}
 use Rattle.tre_parse.proofs.Says.{StateSpelt, PatternSpelt, StateBegun, PatternBegun, Holds, TaskSays, ProgramHolds, says_by}
 
@@ -299,8 +299,8 @@ edge_holds false =
     ) begin.primary_fall
 
 named_holds : (token : Token) → Holds (Spells primary) (Begins primary)
-    (said (event_of token) behind_event)
-    (if is_some (event_of token) then Event ∷ LeftParen ∷ token ∷ [] else Event ∷ LeftParen ∷ [])
+    (said (event_number_of token) behind_event)
+    (if is_some (event_number_of token) then Event ∷ LeftParen ∷ token ∷ [] else Event ∷ LeftParen ∷ [])
 named_holds (EventName i) =
     accepts (Spells primary) (Begins primary) RightParen (give (atom (event i))) halt
     (Event ∷ LeftParen ∷ EventName i ∷ []) (grammar.primary_event i) (begin.primary_event_name i)
@@ -308,7 +308,7 @@ named_holds _ = begin.primary_event_paren
 
 event_holds : Holds (Spells primary) (Begins primary) event_program (Event ∷ [])
 event_holds = accepts (Spells primary) (Begins primary) LeftParen
-    (part event_of behind_event) halt (Event ∷ []) named_holds
+    (part event_number_of behind_event) halt (Event ∷ []) named_holds
     begin.primary_event
 
 literal_holds : Holds (Spells primary) (Begins primary) (literal_program false) []
@@ -364,8 +364,8 @@ closed low weak None _ = record {
 }
 
 high_end : (low : ℕ) (weak : Bool) (token : Token) → Holds SpellsInterval BeginsInterval
-    (said (high_of token) (λ high. behind_high weak low high))
-    (if is_some (high_of token) then opening weak ∷ Number low ∷ Comma ∷ token ∷ []
+    (said (high_end_of token) (λ high. behind_high weak low high))
+    (if is_some (high_end_of token) then opening weak ∷ Number low ∷ Comma ∷ token ∷ []
     else opening weak ∷ Number low ∷ Comma ∷ [])
 high_end low weak (Number high) = closed low weak (Some high)
 high_end low weak Inf = closed low weak None

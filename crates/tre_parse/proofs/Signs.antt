@@ -8,7 +8,7 @@ use Rattle.tre_parse.specs.declared.token.Token.{Token}
 use Rattle.tre_parse.specs.declared.lexeme.Lexeme.TheVariants.{Sign}
 use Rattle.tre_parse.specs.Lexeme.{sign_lexeme}
 use Rattle.tre_parse.specs.Signs.{IsSign, left_paren, right_paren, left_bracket, right_bracket, left_brace, right_brace, comma, semicolon, bar, double_bar, ampersand, double_ampersand, bang, star, plus, question, percent, begins, ends}
-use Rattle.tre_parse.specs.Written.{is_blank, signs}
+use Rattle.tre_parse.specs.Written.{is_white_space, signs}
 
 abbrev IsListed : List ℕ × Token → Type 0
 IsListed listed = IsSign listed.0 listed.1
@@ -98,7 +98,7 @@ sign_taken _ _ percent = refl
 
 abbrev pub NoBlank : List ℕ → Type 0
 NoBlank [] = ⊥
-NoBlank (b ∷ bs) = is_blank b ≡ false
+NoBlank (b ∷ bs) = is_white_space b ≡ false
 
 abbrev pub NoWord : List ℕ → Type 0
 NoWord [] = ⊥

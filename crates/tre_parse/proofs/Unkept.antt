@@ -17,7 +17,7 @@ use Rattle.tre_parse.specs.Parts.{IsFineInterval, IsMadeOf}
 use Rattle.tre_parse.specs.Operands.{Formula, RepresentsState}
 use Rattle.tre_parse.specs.TokenOutcome.{is_big, HasEmptyAt, IsFirstEmpty}
 use Rattle.tre_parse.specs.Reader.{Reading, got, StateTask, of_state, of_interval, read, read_state}
-use Rattle.tre_parse.specs.Reading.{Goes, Accepts}
+use Rattle.tre_parse.specs.Reading.{ReadingGoes, Accepts}
 use Rattle.tre_parse.specs.Unkept.{NoneEmptyBefore, NoneEmpty, BeginsUnkept, Finds, FindsUpTo, unkept_at}
 use Rattle.tre_parse.proofs.Empties.{none_before_one, none_before_more, none_empty, unkept_empty, same_ends}
 use Rattle.tre_parse.proofs.Fine.{none_big, ends_within}
@@ -108,7 +108,7 @@ skips_state _ _ _ (neg_parens xs s k) ys found h =
 
 pub up_to_state : (r : StateRule) (task : StateTask) (x : Formula) (old new : List Token)
     → ((xs : List Token) (s : StateTree) → StateSpelt task xs s → SpellsState r xs s) →
-    Goes RepresentsState x (read_state task old) (λ s. got s new) → FindsUpTo old new None
+    ReadingGoes RepresentsState x (read_state task old) (λ s. got s new) → FindsUpTo old new None
 up_to_state r task x old new spelt k = λ later h.
     let s = task_says (of_state task) old in
     let P = λ (o : Reading StateTree). Says (StateSpelt task) (StateBegun task) s.taken o in
@@ -126,7 +126,7 @@ skips_interval _ _ (without_high low true) ys found h = h
 skips_interval _ _ (without_high low false) ys found h = h
 
 pub up_to_interval : (within : Option IntervalEnds) (us new : List Token)
-    → Goes IsMadeOf within (read of_interval us) (λ ends. got ends new) →
+    → ReadingGoes IsMadeOf within (read of_interval us) (λ ends. got ends new) →
     FindsUpTo (Percent ∷ us) new (unkept_at within (length us))
 up_to_interval within us new k =
     let s = task_says of_interval us in

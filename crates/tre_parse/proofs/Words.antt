@@ -13,8 +13,8 @@ use Rattle.tre_parse.specs.declared.token.Token.{Token}
 use Rattle.tre_parse.specs.declared.token.Token.TheVariants.{Eps, Rise, Fall, Inf, True, Event}
 use Rattle.tre_parse.specs.declared.lexeme.Lexeme.{Lexeme}
 use Rattle.tre_parse.specs.declared.lexeme.Lexeme.TheVariants.{Blank, Name, Number, Sign}
-use Rattle.tre_parse.specs.Lexeme.{named, word_lexeme, first_sign, sign_lexeme, lexeme_of}
-use Rattle.tre_parse.specs.Written.{is_blank, reserved}
+use Rattle.tre_parse.specs.Lexeme.{lexeme_named, word_lexeme, first_sign, sign_lexeme, lexeme_of}
+use Rattle.tre_parse.specs.Written.{is_white_space, reserved}
 use Rattle.tre_parse.specs.declared.lexeme.TheConstants.{SIGNS}
 
 -- The front that passes a test does.
@@ -57,7 +57,7 @@ not_reserved false false false false true f p q = cc
 not_reserved false false false false false true p q = cc
 not_reserved false false false false false false p q = cc
 
-named_name : (n len : ℕ) (o : Option Token) → named n o ≡ Name len → (o ≡ None) × (n ≡ len)
+named_name : (n len : ℕ) (o : Option Token) → lexeme_named n o ≡ Name len → (o ≡ None) × (n ≡ len)
 named_name n len None e = (refl, cc)
 named_name n len (Some t) e = absurd (cc)
 
@@ -96,7 +96,7 @@ word_from b bs len h e =
 pub name_bytes : (rest : List ℕ) (len : ℕ) → lexeme_of rest ≡ Name len → IsName (take len rest)
 name_bytes [] len e = absurd (cc)
 name_bytes (b ∷ bs) len e =
-    let found = name_starts (is_blank b) (starts_name b) (is_ascii_digit b) (word_lexeme (b ∷ bs))
+    let found = name_starts (is_white_space b) (starts_name b) (is_ascii_digit b) (word_lexeme (b ∷ bs))
     (sign_lexeme (b ∷ bs)) _ len (sign_no_name (b ∷ bs) len) e in
     let known = named_name (prefix_len continues_name (b ∷ bs)) len
     (reserved (take_while continues_name (b ∷ bs))) found.1 in

@@ -9,16 +9,16 @@ use Rattle.tre_parse.specs.declared.token.Token.{Token}
 use Rattle.tre_parse.specs.declared.lexeme.TheConstants.{SIGNS}
 use Rattle.tre_parse.specs.declared.lexeme.Lexeme.{Lexeme}
 use Rattle.tre_parse.specs.declared.lexeme.Lexeme.TheVariants.{Blank, Wrong, Name, Number, Sign}
-use Rattle.tre_parse.specs.Written.{is_blank, reserved}
+use Rattle.tre_parse.specs.Written.{is_white_space, reserved}
 
-abbrev pub named : ℕ → Option Token → Lexeme
-named len None = Name len
-named len (Some token) = Sign token len
+abbrev pub lexeme_named : ℕ → Option Token → Lexeme
+lexeme_named len None = Name len
+lexeme_named len (Some token) = Sign token len
 
 -- A word: as many bytes as can stand in a name.
 abbrev pub word_lexeme : List ℕ → Lexeme
 word_lexeme rest =
-    named (prefix_len continues_name rest) (reserved (take_while continues_name rest))
+    lexeme_named (prefix_len continues_name rest) (reserved (take_while continues_name rest))
 
 -- How many bytes the decimals have that stand there: a point, and as many digits as there are, one
 -- at least.
@@ -50,7 +50,7 @@ sign_lexeme rest = first_sign (λ sign. sign.0.now) (λ sign. sign.1) SIGNS rest
 abbrev pub lexeme_of : List ℕ → Lexeme
 lexeme_of [] = Wrong
 lexeme_of (byte ∷ rest) =
-    if is_blank byte then Blank
+    if is_white_space byte then Blank
     else (if starts_name byte then word_lexeme (byte ∷ rest)
     else (if is_ascii_digit byte then number_lexeme (byte ∷ rest)
     else sign_lexeme (byte ∷ rest)))

@@ -42,13 +42,13 @@ pub record AreNamesOf (uses names : List (List ℕ)) : Type 0 where
   pub same : (bytes : List ℕ) → Contains names bytes ↔ Contains uses bytes
 
 -- No more than NAMES_MAX different names are used.
-pub record AreFew (uses : List (List ℕ)) : Type 0 where
+pub record NamesAreFew (uses : List (List ℕ)) : Type 0 where
   pub names : List (List ℕ)
   pub are : AreNamesOf uses names
   pub few : length names ≤ NAMES_MAX
 
 abbrev pub UsesFew : List RawTokenAt → Type 0
-UsesFew raw_tokens = (kind : NameKind) → AreFew (uses_in kind raw_tokens)
+UsesFew raw_tokens = (kind : NameKind) → NamesAreFew (uses_in kind raw_tokens)
 
 -- A name is used at the offset that is none of the NAMES_MAX different ones of its kind used before
 -- it.

@@ -96,9 +96,9 @@ leaf_of (Name i) = Some (proposition i)
 leaf_of True = Some always
 leaf_of _ = None
 
-abbrev pub event_of : Token → Option ℕ
-event_of (EventName i) = Some i
-event_of _ = None
+abbrev pub event_number_of : Token → Option ℕ
+event_number_of (EventName i) = Some i
+event_number_of _ = None
 
 abbrev pub opened_by : Token → Option Bool
 opened_by LeftBracket = Some true
@@ -109,10 +109,10 @@ abbrev pub number_of : Token → Option ℕ
 number_of (Number n) = Some n
 number_of _ = None
 
-abbrev pub high_of : Token → Option (Option ℕ)
-high_of (Number n) = Some (Some n)
-high_of Inf = Some None
-high_of _ = None
+abbrev pub high_end_of : Token → Option (Option ℕ)
+high_end_of (Number n) = Some (Some n)
+high_end_of Inf = Some None
+high_end_of _ = None
 
 abbrev pub closed_by : Option ℕ → Token → Option Bool
 closed_by (Some high) RightBracket = Some true
@@ -125,7 +125,7 @@ behind_high low_weak low high = part (closed_by high)
     (λ high_weak. give (ends_of low low_weak high (kept_weak high high_weak)))
 
 abbrev pub behind_comma : Bool → ℕ → Program IntervalEnds
-behind_comma low_weak low = part high_of (λ high. behind_high low_weak low high)
+behind_comma low_weak low = part high_end_of (λ high. behind_high low_weak low high)
 
 abbrev pub behind_low : Bool → ℕ → Program IntervalEnds
 behind_low low_weak low = expect Comma (behind_comma low_weak low)
@@ -198,7 +198,7 @@ abbrev pub behind_event : ℕ → Program PatternTree
 behind_event number = expect RightParen (give (atom (event number)))
 
 abbrev pub event_program : Program PatternTree
-event_program = expect LeftParen (part event_of behind_event)
+event_program = expect LeftParen (part event_number_of behind_event)
 
 abbrev pub literal_program : Bool → Program PatternTree
 literal_program begins =

@@ -10,7 +10,7 @@ use Rattle.tre_parse.specs.Operands.{Formula, Operand, RepresentsState, Represen
 use Rattle.tre_parse.specs.Reader.{Reading, got, stop, StateTask, PatternTask, read_state, read_pattern}
 
 -- What was made stands for a tree, with which the reading goes on.
-pub record Goes {A Tree Whole : Type 0} (StandsFor : A → Tree → Type 0) (x : A)
+pub record ReadingGoes {A Tree Whole : Type 0} (StandsFor : A → Tree → Type 0) (x : A)
     (reading : Reading Whole) (next : Tree → Reading Whole) : Type 0 where
   pub tree : Tree
   pub stands : StandsFor x tree
@@ -22,22 +22,23 @@ Stops reading Memory rest = Unit {0}
 Stops reading (Syntax left) rest = (left ≡ length rest) × (reading ≡ stop rest)
 
 -- The answer is what is read.
-abbrev pub IsRead : {A Tree : Type 0} → (A → Tree → Type 0) → Reading Tree → Result A Stop →
+abbrev pub IsReadAs : {A Tree : Type 0} → (A → Tree → Type 0) → Reading Tree → Result A Stop →
     List Token → Type 0
-IsRead StandsFor reading (Ok x) rest = Goes StandsFor x reading (λ tree. got tree rest)
-IsRead StandsFor reading (Err fault) rest = Stops reading fault rest
+IsReadAs StandsFor reading (Ok x) rest = ReadingGoes StandsFor x reading (λ tree. got tree rest)
+IsReadAs StandsFor reading (Err fault) rest = Stops reading fault rest
 
 abbrev pub ReadsState : StateTask → Result Formula Stop → List Token → List Token → Type 0
-ReadsState task result old new = IsRead RepresentsState (read_state task old) result new
+ReadsState task result old new = IsReadAs RepresentsState (read_state task old) result new
 
 abbrev pub Reads : PatternTask → Result Operand Stop → List Token → List Token → Type 0
-Reads task result old new = IsRead Represents (read_pattern task old) result new
+Reads task result old new = IsReadAs Represents (read_pattern task old) result new
 
 -- The next token says this, and is passed; or it says nothing, and stays.
-abbrev pub IsPart : {A : Type 0} → (Token → Option A) → Result A Stop → List Token → List Token →
+abbrev pub IsReadPart : {A : Type 0} → (Token → Option A) → Result A Stop → List Token → List Token
+    →
     Type 0
-IsPart says (Ok x) old new = (says (front old) ≡ Some x) × (new ≡ tail old)
-IsPart says (Err fault) old new =
+IsReadPart says (Ok x) old new = (says (front old) ≡ Some x) × (new ≡ tail old)
+IsReadPart says (Err fault) old new =
     (says (front old) ≡ None) × (new ≡ old) × (fault ≡ Syntax (length old))
 
 -- The token begins no operand but a literal, with `<:` before it or not.

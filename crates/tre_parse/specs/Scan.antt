@@ -46,13 +46,13 @@ pub record Numbers (old new : Scan) (bytes : List ℕ) : Type 0 where
   pub size : new.size ≡ old.size
   pub same_scale : new.scale ≡ old.scale
 
-abbrev pub IsNumbered : Scan → Scan → List ℕ → Result ℕ NameFault → Type 0
-IsNumbered old new bytes (Ok number) =
+abbrev pub ScanIsNumbered : Scan → Scan → List ℕ → Result ℕ NameFault → Type 0
+ScanIsNumbered old new bytes (Ok number) =
     Numbers old new bytes
     × (number_of (kind_behind old.before) (known_in old) bytes ≡ Some number)
-IsNumbered old new bytes (Err TooMany) =
+ScanIsNumbered old new bytes (Err TooMany) =
     Numbers old new bytes × (number_of (kind_behind old.before) (known_in old) bytes ≡ None)
-IsNumbered old new bytes (Err Lacking) = Unit {0}
+ScanIsNumbered old new bytes (Err Lacking) = Unit {0}
 
 -- The scan after one more word.
 pub record TakesToken (old new : Scan) (at : ℕ) (word : RawToken) : Type 0 where
@@ -73,7 +73,7 @@ pub record LeadsTo (bytes : List ℕ) (old : Scan) (at : ℕ) (new : Scan) (next
   pub same_scale : new.scale ≡ old.scale
 
 -- One step of the scan: it goes on, or says at which byte no token begins.
-pub record GoesOn (bytes : List ℕ) (old : Scan) (at : ℕ) (new : Scan) (next : ℕ) : Type 0 where
+pub record ScanGoesOn (bytes : List ℕ) (old : Scan) (at : ℕ) (new : Scan) (next : ℕ) : Type 0 where
   pub leads : LeadsTo bytes old at new next
   pub further : at < next
   pub within : next ≤ length bytes

@@ -9,7 +9,7 @@ use Rattle.tre_state.specs.Name.{is_reserved, IsName}
 use Rattle.tre_state.specs.Names.{place_of}
 use Rattle.tre_trace.specs.Reading.{Vocabulary}
 use Rattle.tre_parse.specs.Tokens.{first_uses}
-use Rattle.tre_parse.specs.Written.{is_blank}
+use Rattle.tre_parse.specs.Written.{is_white_space}
 
 -- A name, the name of an event, a number, or a sign or reserved word by its bytes. In a text names
 -- and numbers are bytes too; in the grammar they are numbers.
@@ -45,13 +45,13 @@ pub record BeginsWith (bytes : List ℕ) (word : Word (List ℕ)) (len : ℕ) : 
 pub data AreWords : ℕ → List ℕ → List (ℕ × Word (List ℕ)) → Option ℕ → Type 0 where
   at_end : (at : ℕ) → AreWords at [] [] None
   blank : (at byte : ℕ) (rest : List ℕ) (words : List (ℕ × Word (List ℕ))) (bad : Option ℕ)
-      → is_blank byte ≡ true → AreWords (at + 1) rest words bad
+      → is_white_space byte ≡ true → AreWords (at + 1) rest words bad
       → AreWords at (byte ∷ rest) words bad
   next : (at len : ℕ) (bytes : List ℕ) (word : Word (List ℕ)) (words : List (ℕ × Word (List ℕ)))
       (bad : Option ℕ) → BeginsWith bytes word len
       → AreWords (at + len) (drop len bytes) words bad
       → AreWords at bytes ((at, word) ∷ words) bad
-  wrong : (at byte : ℕ) (rest : List ℕ) → is_blank byte ≡ false
+  wrong : (at byte : ℕ) (rest : List ℕ) → is_white_space byte ≡ false
       → ((word : Word (List ℕ)) (len : ℕ) → BeginsWith (byte ∷ rest) word len → ⊥)
       → AreWords at (byte ∷ rest) [] (Some at)
 

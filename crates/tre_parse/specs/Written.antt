@@ -12,8 +12,8 @@ use Rattle.tre_parse.specs.declared.token.Token.TheVariants.{LeftParen, RightPar
 use Rattle.tre_parse.specs.Tokens.{RawToken, name, event_name, number, sign, RawTokenAt}
 
 -- A space (32), a tab (9), CR (13) or LF (10).
-abbrev pub is_blank : ℕ → Bool
-is_blank byte = byte == 32 || byte == 9 || byte == 13 || byte == 10
+abbrev pub is_white_space : ℕ → Bool
+is_white_space byte = byte == 32 || byte == 9 || byte == 13 || byte == 10
 
 -- The token of a reserved word. They stand in the order of the words.
 abbrev pub reserved : List ℕ → Option Token
@@ -60,12 +60,12 @@ pub record BeginsWith (bytes : List ℕ) (token : RawToken) (len : ℕ) : Type 0
 pub data AreTokens : ℕ → List ℕ → List RawTokenAt → Option ℕ → Type 0 where
   at_end : (at : ℕ) → AreTokens at [] [] None
   blank : (at byte : ℕ) (rest : List ℕ) (tokens : List RawTokenAt) (bad : Option ℕ)
-      → is_blank byte ≡ true → AreTokens (at + 1) rest tokens bad
+      → is_white_space byte ≡ true → AreTokens (at + 1) rest tokens bad
       → AreTokens at (byte ∷ rest) tokens bad
   next : (at len : ℕ) (bytes : List ℕ) (token : RawToken) (tokens : List RawTokenAt)
       (bad : Option ℕ) → BeginsWith bytes token len
       → AreTokens (at + len) (drop len bytes) tokens bad
       → AreTokens at bytes ((record { at = at; word = token }) ∷ tokens) bad
-  wrong : (at byte : ℕ) (rest : List ℕ) → is_blank byte ≡ false
+  wrong : (at byte : ℕ) (rest : List ℕ) → is_white_space byte ≡ false
       → ((token : RawToken) (len : ℕ) → BeginsWith (byte ∷ rest) token len → ⊥)
       → AreTokens at (byte ∷ rest) [] (Some at)

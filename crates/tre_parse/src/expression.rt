@@ -3,8 +3,8 @@ ghost use Rattle.std.specs.Prelude.{◌≡◌, ◌≤◌, None, length, IfOk};
 ghost use Rattle.tre_parse.specs.Joins.{edge_sign, plain_literal, edged_literal};
 ghost use Rattle.tre_parse.specs.Operands.{RepresentsState, Represents, Turns};
 ghost use Rattle.tre_parse.specs.Front.{front};
-ghost use Rattle.tre_parse.specs.Reader.{PatternTask, expression_part, event_of};
-ghost use Rattle.tre_parse.specs.Reading.{BeginsLiteral, IsPart, Reads};
+ghost use Rattle.tre_parse.specs.Reader.{PatternTask, expression_part, event_number_of};
+ghost use Rattle.tre_parse.specs.Reading.{BeginsLiteral, IsReadPart, Reads};
 ghost use Rattle.tre_parse.specs.Unkept.{FindsUpTo};
 
 use crate::connective::{Connective, Join};
@@ -139,7 +139,7 @@ fn event(tokens: &mut Cursor) -> Result<Operand, Stop>
 
 // The number of an event's name.
 fn event_name(tokens: &mut Cursor) -> Result<u8, Stop>
-    ensures { IsPart event_of result tokens.old tokens.new }
+    ensures { IsReadPart event_number_of result tokens.old tokens.new }
 {
     let Token::EventName(number) = tokens.peek() else {
         return Err(tokens.refused());

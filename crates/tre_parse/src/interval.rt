@@ -1,7 +1,7 @@
 ghost use Rattle.std.specs.Prelude.{◌≤◌, length, IfOk};
 ghost use Rattle.tre_parse.specs.Parts.{IsMadeOf};
-ghost use Rattle.tre_parse.specs.Reader.{Task, opened_by, high_of, closed_by, read};
-ghost use Rattle.tre_parse.specs.Reading.{IsRead, IsPart};
+ghost use Rattle.tre_parse.specs.Reader.{Task, opened_by, high_end_of, closed_by, read};
+ghost use Rattle.tre_parse.specs.Reading.{IsReadAs, IsReadPart};
 ghost use Rattle.tre_zone.specs.Interval.{ends_of, kept_weak};
 
 use crate::cursor::{Cursor, Stop};
@@ -11,7 +11,7 @@ use tre_zone::Interval;
 
 /// An interval. None where no duration is in it, or an end is above the latest time.
 pub(crate) fn interval(tokens: &mut Cursor) -> Result<Option<Interval>, Stop>
-    ensures reads { IsRead IsMadeOf (read Task.of_interval tokens.old) result tokens.new }
+    ensures reads { IsReadAs IsMadeOf (read Task.of_interval tokens.old) result tokens.new }
     ensures shorter { IfOk result (λ _. length tokens.new ≤ length tokens.old) }
 {
     let low_weak = opening(tokens)?;
@@ -27,7 +27,7 @@ pub(crate) fn interval(tokens: &mut Cursor) -> Result<Option<Interval>, Stop>
 
 // The bracket before an interval, which says whether the low end is in it.
 fn opening(tokens: &mut Cursor) -> Result<bool, Stop>
-    ensures { IsPart opened_by result tokens.old tokens.new }
+    ensures { IsReadPart opened_by result tokens.old tokens.new }
 {
     if tokens.accept(Token::LeftBracket) {
         return Ok(true);
@@ -38,7 +38,7 @@ fn opening(tokens: &mut Cursor) -> Result<bool, Stop>
 
 // The high end, None for `inf`.
 fn high(tokens: &mut Cursor) -> Result<Option<u64>, Stop>
-    ensures { IsPart high_of result tokens.old tokens.new }
+    ensures { IsReadPart high_end_of result tokens.old tokens.new }
 {
     if tokens.accept(Token::Inf) {
         return Ok(None);
@@ -53,7 +53,7 @@ fn high(tokens: &mut Cursor) -> Result<Option<u64>, Stop>
 // The bracket after an interval, which says whether the high end is in it: never where there is
 // none.
 fn closing(high: Option<u64>, tokens: &mut Cursor) -> Result<bool, Stop>
-    ensures { IsPart (closed_by high) result tokens.old tokens.new }
+    ensures { IsReadPart (closed_by high) result tokens.old tokens.new }
 {
     if high.is_some() && tokens.accept(Token::RightBracket) {
         return Ok(true);

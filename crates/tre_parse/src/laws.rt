@@ -16,7 +16,7 @@ ghost use Rattle.tre_state.specs.Name.{starts_name, continues_name};
 ghost use Rattle.tre_parse.specs.Ends.{bytes_in, EndsRun, EndsNumber};
 ghost use Rattle.tre_parse.specs.Past.{kind_after, UsesFew, IsOneTooMany};
 ghost use Rattle.tre_parse.specs.Lexeme.{sign_lexeme, lexeme_of};
-ghost use Rattle.tre_parse.specs.Written.{is_blank};
+ghost use Rattle.tre_parse.specs.Written.{is_white_space};
 ghost use Rattle.tre_parse.specs.Words.{AreWords, numbered_words, names_among};
 ghost use Rattle.tre_parse.specs.Grammar.{SpellsState as WordsSpellState, Spells as WordsSpell};
 ghost use Rattle.tre_parse.specs.TokenWords.{WordAt, word_of, words_of, rule_word, state_rule_word};
@@ -136,15 +136,15 @@ pub fn state_strength()
 /// A blank parts a text: the words before it and those after it are read each by themselves, up to
 /// the first byte at which no token begins.
 pub fn blank_parts()
-    ensures words { (front rest : List ℕ) (blank : ℕ) → is_blank blank ≡ true →
+    ensures words { (front rest : List ℕ) (blank : ℕ) → is_white_space blank ≡ true →
         bad_byte front ≡ None →
         raw_tokens_of (front ++ blank
         ∷ rest) ≡ raw_tokens_of front ++ counted_on (length front + 1) (raw_tokens_of rest) }
-    ensures bad_after { (front rest : List ℕ) (blank : ℕ) → is_blank blank ≡ true →
+    ensures bad_after { (front rest : List ℕ) (blank : ℕ) → is_white_space blank ≡ true →
         bad_byte front ≡ None →
         bad_byte (front ++ blank
         ∷ rest) ≡ option_map (λ at. at + (length front + 1)) (bad_byte rest) }
-    ensures bad_before { (front rest : List ℕ) (blank at : ℕ) → is_blank blank ≡ true →
+    ensures bad_before { (front rest : List ℕ) (blank at : ℕ) → is_white_space blank ≡ true →
         bad_byte front ≡ Some at →
         bad_byte (front ++ blank ∷ rest) ≡ Some at }
 {}
@@ -152,15 +152,15 @@ pub fn blank_parts()
 /// A blank says nothing: one more beside it, another one in its place, or one in front or at the
 /// end, and the text spells what it spelt.
 pub fn blank_says_nothing()
-    ensures more { (front rest : List ℕ) (blank other : ℕ) → is_blank blank ≡ true →
-        is_blank other ≡ true →
+    ensures more { (front rest : List ℕ) (blank other : ℕ) → is_white_space blank ≡ true →
+        is_white_space other ≡ true →
         SaysAs (front ++ blank ∷ other ∷ rest) (front ++ blank ∷ rest) }
-    ensures another { (front rest : List ℕ) (blank other : ℕ) → is_blank blank ≡ true →
-        is_blank other ≡ true →
+    ensures another { (front rest : List ℕ) (blank other : ℕ) → is_white_space blank ≡ true →
+        is_white_space other ≡ true →
         SaysAs (front ++ other ∷ rest) (front ++ blank ∷ rest) }
-    ensures in_front { (text : List ℕ) (blank : ℕ) → is_blank blank ≡ true →
+    ensures in_front { (text : List ℕ) (blank : ℕ) → is_white_space blank ≡ true →
         SaysAs (blank ∷ text) text }
-    ensures at_end { (text : List ℕ) (blank : ℕ) → is_blank blank ≡ true →
+    ensures at_end { (text : List ℕ) (blank : ℕ) → is_white_space blank ≡ true →
         SaysAs (text ++ blank ∷ []) text }
     ensures spelling { (scale : ℕ) (text other : List ℕ) (tree : PatternTree) (names : Vocabulary) →
         SaysAs text other →

@@ -3,7 +3,7 @@ ghost use Rattle.std.specs.Char.{is_ascii_digit};
 ghost use Rattle.std.specs.List.{prefix_len};
 ghost use Rattle.tre_state.specs.Name.{continues_name, starts_name};
 ghost use Rattle.tre_parse.specs.Lexeme.{word_lexeme, decimals_len, number_lexeme, first_sign, lexeme_of, FitsIn};
-ghost use Rattle.tre_parse.specs.Written.{is_blank, reserved};
+ghost use Rattle.tre_parse.specs.Written.{is_white_space, reserved};
 
 use crate::sign;
 use crate::token::Token;
@@ -67,7 +67,7 @@ pub(crate) fn lexeme_of(rest: &[u8]) -> Lexeme
 }
 
 fn is_blank(byte: u8) -> bool
-    ensures { result ≡ is_blank byte }
+    ensures { result ≡ is_white_space byte }
 {
     byte == b' ' || byte == b'\t' || byte == b'\r' || byte == b'\n'
 }

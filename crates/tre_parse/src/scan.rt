@@ -4,7 +4,7 @@ ghost use Rattle.tre_decimal.specs.declared.TheConstants.{SCALE_MAX};
 ghost use Rattle.tre_parse.specs.Tokens.{name, number, sign, units_within};
 ghost use Rattle.tre_parse.specs.TokenOutcome.{offset_of};
 ghost use Rattle.tre_parse.specs.Answers.{text_tokens_in};
-ghost use Rattle.tre_parse.specs.Scan.{Puts, IsNumbered, TakesToken, GoesOn, IsBadByte, IsScan};
+ghost use Rattle.tre_parse.specs.Scan.{Puts, ScanIsNumbered, TakesToken, ScanGoesOn, IsBadByte, IsScan};
 
 use crate::before::{Before, numbered};
 use crate::fault::ParseFault;
@@ -86,7 +86,7 @@ impl Scan {
     // The number of a name among those of its kind.
     fn number(&mut self, word: &str) -> Result<u8, NameFault>
         requires { IsName word.now }
-        ensures { IsNumbered self.old self.new word.now result }
+        ensures { ScanIsNumbered self.old self.new word.now result }
     {
         let kind = self.before.kind();
         self.before = Before::Other;
@@ -114,7 +114,7 @@ impl Scan {
     fn step(&mut self, text: &str, at: usize) -> Result<usize, ParseFault>
         requires place { at < length text.now }
         requires scale { self.old.scale ≤ SCALE_MAX }
-        ensures ok { IfOk result (GoesOn text.now self.old at self.new) }
+        ensures ok { IfOk result (ScanGoesOn text.now self.old at self.new) }
         ensures err { IfErr result (IsBadByte text.now at) }
     {
         match lexeme_of(&text.as_bytes()[at..]) {

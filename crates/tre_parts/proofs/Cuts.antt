@@ -4,7 +4,7 @@ use Rattle.std.proofs.Math.Seq.{take-length, take-suc, take-add}
 use Rattle.std.proofs.lemmas.List.{length-drop, length-take-le, get_or-take, get_or-drop}
 use Rattle.std.proofs.lemmas.List.Elements.{All-from_get_or}
 use Rattle.tre_parts.specs.Bytes.{NoneBetween, between}
-use Rattle.tre_parts.specs.Walk.{IsInside}
+use Rattle.tre_parts.specs.Walk.{HasNoSeparator}
 
 pub split_around : (xs : List ℕ) (k : ℕ) → k < length xs → xs ≡ take k xs ++ get_or xs k 0 ∷ drop
     (suc k) xs
@@ -32,7 +32,7 @@ take-between xs from to behind within =
     ∙ append_assoc (take from xs) (between xs from to) (get_or xs to 0 ∷ [])
 
 pub inside-between : (p : ℕ → Bool) (xs : List ℕ) (from to : ℕ) → to < length xs
-    → NoneBetween p xs from to → IsInside p (between xs from to)
+    → NoneBetween p xs from to → HasNoSeparator p (between xs from to)
 inside-between p xs from to within none =
     All-from_get_or (λ byte. p byte ≡ false) (between xs from to) 0 (λ k before.
     let small : k < to - from = omega (arith, before, length-between xs from to within) in

@@ -4,7 +4,7 @@ use Rattle.tre_parts.proofs.Cuts.{split_around}
 use Rattle.tre_parts.specs.Growing.{reading-grows}
 use Rattle.tre_parts.specs.Format.{Format, recording_of}
 use Rattle.tre_parts.specs.Skims.{IsFed}
-use Rattle.tre_parts.specs.Walk.{IsInside, EndsAt, IsAt}
+use Rattle.tre_parts.specs.Walk.{HasNoSeparator, SeparatedAt, IsAt}
 use Rattle.tre_parts.specs.declared.spot.Spot.{Spot}
 use Rattle.tre_trace.specs.declared.reader.TheConstants.{FED_MAX}
 use Rattle.tre_trace.proofs.Readings.{Adds-trans, IsRefused-after, IsRefused-grows}
@@ -66,7 +66,7 @@ pub record HasRoom {Reader T S : Type 0} (tm : Reader → T) (fm : T → Format 
     (now : Reader) (part_now : List ℕ) (spot_now : Spot) (bytes front : List ℕ) (separator : ℕ) :
     Type 0 where
   pub at : IsAt tm fm hd terms now part_now spot_now bytes
-  pub inside : IsInside (fm terms).separates front
+  pub inside : HasNoSeparator (fm terms).separates front
   pub ends : (fm terms).separates separator ≡ true
   pub few : length bytes + length front + 1 ≤ FED_MAX
 
@@ -77,7 +77,7 @@ pub fed-room : {Reader T S : Type 0} {gv : Reader → Vocabulary} {tm : Reader �
     → (fed : IsFed gv tm fm hd reader part spot old piece now part_now spot_now mid rest)
     (terms : T) (bytes : List ℕ)
     → IsAt tm fm hd terms reader part spot bytes → length bytes + length piece ≤ FED_MAX
-    → EndsAt (fm (tm now)).separates rest k
+    → SeparatedAt (fm (tm now)).separates rest k
     → HasRoom tm fm hd terms now part_now spot_now (bytes ++ fed.taken) (take k rest)
     (get_or rest k 0)
 fed-room {piece = piece} {rest = rest} {k = k} fed terms bytes here few ends =
@@ -106,7 +106,7 @@ pub fed-step : {Reader T S : Type 0} {gv : Reader → Vocabulary} {tm : Reader �
     {spot spot_now spot_next : Spot} {old mid new : List Segment} {piece rest rest_next : List ℕ}
     {k : ℕ}
     → IsFed gv tm fm hd reader part spot old piece now part_now spot_now mid rest
-    → EndsAt (fm (tm now)).separates rest k → tm next ≡ tm now → gv next ≡ gv now
+    → SeparatedAt (fm (tm now)).separates rest k → tm next ≡ tm now → gv next ≡ gv now
     → ((terms : T) (bytes : List ℕ) → HasRoom tm fm hd terms now part_now spot_now bytes
     (take k rest) (get_or rest k 0)
     → IsAt tm fm hd terms next part_next spot_next

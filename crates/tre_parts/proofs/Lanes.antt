@@ -11,7 +11,7 @@ use Rattle.std.proofs.lemmas.Nat.Bits.{bit_at-zero, bit_at-trailing_zeros}
 use Rattle.std.proofs.lemmas.Simd.{bit_mask_l, length-chunk, get_or-chunk}
 use Rattle.tre_parts.specs.Bytes.{NoneBetween, IsNextAt}
 use Rattle.tre_parts.specs.Marks.{AreMarks}
-use Rattle.tre_parts.specs.Walk.{EndsAt}
+use Rattle.tre_parts.specs.Walk.{SeparatedAt}
 use Rattle.tre_parts.specs.declared.marks.Marks.{Marks}
 use lib.Lanes.{mask_l, chunk}
 
@@ -188,7 +188,7 @@ none_inside p bytes none =
     All-from_get_or (λ byte. p byte ≡ false) bytes 0 (λ k within. none k (omega arith) within)
 
 pub ends_at : (p : ℕ → Bool) (bytes : List ℕ) (place : ℕ) → IsNextAt p bytes 0 place
-    → EndsAt p bytes place
+    → SeparatedAt p bytes place
 ends_at p bytes place is = record {
   within = is.within;
   inside =

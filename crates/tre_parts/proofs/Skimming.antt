@@ -8,7 +8,7 @@ use Rattle.tre_parts.specs.Bytes.{between, IsNextAt}
 use Rattle.tre_parts.specs.Format.{Format, Step, behind, read_on, after_part, part_says, recording_from, recording_of}
 use Rattle.tre_parts.specs.Growing.{short_enough}
 use Rattle.tre_parts.specs.Skims.{Skims, IsFed, spot_behind}
-use Rattle.tre_parts.specs.Walk.{IsInside, GoesOn, IsAt, AddsPart}
+use Rattle.tre_parts.specs.Walk.{HasNoSeparator, PartGoesOn, IsAt, AddsPart}
 use Rattle.tre_parts.specs.declared.TheConstants.{PART_MAX}
 use Rattle.tre_parts.specs.declared.skimmed.Skimmed.{Skimmed}
 use Rattle.tre_parts.specs.declared.spot.Spot.{Spot}
@@ -201,9 +201,9 @@ pub skims-part : {S : Type 0} {gs : Vocabulary} {format : Format S} {before afte
     {bytes : List ℕ} {old mid new : List Segment} {told : List Stretch} {read : Skimmed}
     → (skims : Skims gs format before state bytes old mid read) → (end : ℕ) → read.bytes ≤ end
     → end < length bytes → length bytes ≤ PART_MAX
-    → IsInside format.separates (between bytes read.bytes end)
+    → HasNoSeparator format.separates (between bytes read.bytes end)
     → format.separates (get_or bytes end 0) ≡ true
-    → GoesOn (format.says skims.now (between bytes read.bytes end)) told after
+    → PartGoesOn (format.says skims.now (between bytes read.bytes end)) told after
     → new ≡ mid ++ segments_for gs told
     → Skims gs format after state bytes old new
     (record { bytes = end + 1; parts = read.parts + 1 })

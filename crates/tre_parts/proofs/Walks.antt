@@ -6,7 +6,7 @@ use Rattle.std.proofs.lemmas.List.Splits.{slice_split_none, slice_split_at}
 use Rattle.tre_parts.specs.Joins.{slice_split-has}
 use Rattle.tre_parts.specs.Growing.{more_parts, too_long, short_enough, reading-grows}
 use Rattle.tre_parts.specs.Format.{Format, Step, nothing, faulty, ending, behind, read_on, after_part, part_says, last_part, parts_recording, recording_from, recording_of}
-use Rattle.tre_parts.specs.Walk.{IsInside, GoesOn, IsAt, AddsPart, IsRefusedPart, IsEnded}
+use Rattle.tre_parts.specs.Walk.{HasNoSeparator, PartGoesOn, IsAt, AddsPart, IsRefusedPart, IsEnded}
 use Rattle.tre_parts.specs.declared.TheConstants.{PART_MAX}
 use Rattle.tre_parts.specs.declared.spot.Spot.{Spot}
 use Rattle.tre_trace.proofs.Readings.{is_memory, Adds-none, IsRefused-told, IsRefused-memory}
@@ -26,7 +26,7 @@ behind-behind told stretches more = ap
 -- what bytes say whose first part ends at a separator
 pub reading-part : {S : Type 0} (format : Format S) (closed : Bool) (state : S) (spot : Spot)
     (part : List ℕ) (separator : ℕ) (more : List ℕ)
-    → IsInside format.separates part → format.separates separator ≡ true
+    → HasNoSeparator format.separates part → format.separates separator ≡ true
     → recording_from format closed state spot (part ++ separator ∷ more)
     ≡ read_on (format.place spot) (part_says format state part) (λ now. recording_from format
     closed now (after_part spot (length part)) more)
@@ -40,7 +40,7 @@ reading-part format closed state spot part separator more inside ends =
 
 -- what bytes say that are one part
 pub reading-last : {S : Type 0} (format : Format S) (closed : Bool) (state : S) (spot : Spot)
-    (part : List ℕ) → IsInside format.separates part
+    (part : List ℕ) → HasNoSeparator format.separates part
     → recording_from format closed state spot part ≡ last_part format closed state spot part
 unfolding recording_from
 reading-last format closed state spot part inside = ap (parts_recording format closed state spot)
@@ -60,7 +60,7 @@ pub at-last : {Reader T S : Type 0} {tm : Reader → T} {fm : T → Format S}
     {hd : Reader → S → Type 0} {terms : T} {reader : Reader} {part : List ℕ}
     {spot : Spot} {bytes : List ℕ}
     → (here : IsAt tm fm hd terms reader part spot bytes) (closed : Bool) (more : List ℕ)
-    → IsInside (fm terms).separates more
+    → HasNoSeparator (fm terms).separates more
     → recording_of (fm terms) closed (bytes ++ more) ≡ behind here.told (last_part (fm terms) closed
     here.state spot (part ++ more))
 at-last {fm = fm} {terms = terms} {part = part} {spot = spot} here closed more inside =
@@ -87,7 +87,7 @@ follows-ended : {Reader T S : Type 0} {tm : Reader → T} {fm : T → Format S}
     {spot : Spot} {bytes : List ℕ}
     → (here : IsAt tm fm hd terms reader part spot bytes) (whole front : List ℕ) (separator : ℕ)
     → whole ≡ part ++ front
-    → IsInside (fm terms).separates front → (fm terms).separates separator ≡ true → (closed : Bool)
+    → HasNoSeparator (fm terms).separates front → (fm terms).separates separator ≡ true → (closed : Bool)
     (more : List ℕ)
     → recording_of (fm terms) closed ((bytes ++ (front ++ separator ∷ [])) ++ more)
     ≡ behind here.told (read_on ((fm terms).place spot) (part_says (fm terms) here.state whole)
@@ -95,7 +95,7 @@ follows-ended : {Reader T S : Type 0} {tm : Reader → T} {fm : T → Format S}
 follows-ended {fm = fm} {terms = terms} {part = part} {spot = spot} {bytes = bytes} here whole front
     separator is inside ends closed more =
     let f = fm terms in
-    let all : IsInside f.separates (part ++ front) = All-append (λ byte. f.separates byte ≡ false)
+    let all : HasNoSeparator f.separates (part ++ front) = All-append (λ byte. f.separates byte ≡ false)
     part front here.inside inside in
     ap (recording_of f closed) (append_assoc bytes (front ++ separator ∷ []) more
     ∙ ap (λ rest. bytes ++ rest) (append_assoc front (separator ∷ []) more))
@@ -110,8 +110,8 @@ pub after-ended : {Reader T S : Type 0} {tm : Reader → T} {fm : T → Format S
     {spot next : Spot} {bytes : List ℕ} {stretches : List Stretch}
     → (here : IsAt tm fm hd terms reader part spot bytes) (whole front : List ℕ) (separator : ℕ)
     → whole ≡ part ++ front
-    → IsInside (fm terms).separates front → (fm terms).separates separator ≡ true
-    → GoesOn (part_says (fm terms) here.state whole) stretches (hd now) → tm now ≡ terms → next
+    → HasNoSeparator (fm terms).separates front → (fm terms).separates separator ≡ true
+    → PartGoesOn (part_says (fm terms) here.state whole) stretches (hd now) → tm now ≡ terms → next
     ≡ after_part spot (length whole)
     → IsAt tm fm hd terms now [] next (bytes ++ (front ++ separator ∷ []))
 after-ended {fm = fm} {terms = terms} {part = part} {spot = spot} {next = next} {bytes = bytes}
@@ -159,7 +159,7 @@ reading-ended : {Reader T S : Type 0} {tm : Reader → T} {fm : T → Format S}
     {spot : Spot} {bytes : List ℕ}
     → (here : IsAt tm fm hd terms reader part spot bytes) (whole front : List ℕ) (separator : ℕ)
     → whole ≡ part ++ front
-    → IsInside (fm terms).separates front → (fm terms).separates separator ≡ true
+    → HasNoSeparator (fm terms).separates front → (fm terms).separates separator ≡ true
     → recording_of (fm terms) false (bytes ++ (front ++ separator ∷ [])) ≡ behind here.told
     (read_on ((fm terms).place spot) (part_says (fm terms) here.state whole) (λ _. nothing))
 reading-ended {fm = fm} {terms = terms} {spot = spot} {bytes = bytes} here whole front separator is
@@ -174,7 +174,7 @@ pub adds-ended : {gs : Vocabulary} {Reader T S : Type 0} {tm : Reader → T} {fm
     {spot : Spot} {bytes : List ℕ} {old new : List Segment}
     → (here : IsAt tm fm hd terms reader part spot bytes) (whole front : List ℕ) (separator : ℕ)
     → whole ≡ part ++ front
-    → IsInside (fm terms).separates front → (fm terms).separates separator ≡ true
+    → HasNoSeparator (fm terms).separates front → (fm terms).separates separator ≡ true
     → AddsPart gs (part_says (fm terms) here.state whole) (hd now) old new
     → Adds gs old new (recording_of (fm terms) false bytes) (recording_of (fm terms) false
     (bytes ++ (front ++ separator ∷ [])))
@@ -221,7 +221,7 @@ pub refused-ended : {gs : Vocabulary} {Reader T S : Type 0} {tm : Reader → T} 
     {spot : Spot} {bytes : List ℕ} {old new : List Segment} {fault : TraceFault}
     → (here : IsAt tm fm hd terms reader part spot bytes) (whole front : List ℕ) (separator : ℕ)
     → whole ≡ part ++ front
-    → IsInside (fm terms).separates front → (fm terms).separates separator ≡ true
+    → HasNoSeparator (fm terms).separates front → (fm terms).separates separator ≡ true
     → IsRefusedPart (part_says (fm terms) here.state whole) ((fm terms).place spot) old new fault
     → IsRefused gs old new (recording_of (fm terms) false bytes) (recording_of (fm terms) false
     (bytes ++ (front ++ separator ∷ []))) fault
@@ -239,7 +239,7 @@ pub after-kept : {Reader T S : Type 0} {tm : Reader → T} {fm : T → Format S}
     {hd : Reader → S → Type 0} {terms : T} {reader : Reader} {part : List ℕ}
     {spot : Spot} {bytes : List ℕ}
     → IsAt tm fm hd terms reader part spot bytes → (whole more : List ℕ) → whole ≡ part ++ more
-    → IsInside (fm terms).separates more → length whole ≤ PART_MAX
+    → HasNoSeparator (fm terms).separates more → length whole ≤ PART_MAX
     → IsAt tm fm hd terms reader whole spot (bytes ++ more)
 after-kept {fm = fm} {terms = terms} {part = part} {spot = spot} {bytes = bytes} here whole more is
     inside short =
@@ -269,7 +269,7 @@ after-kept {fm = fm} {terms = terms} {part = part} {spot = spot} {bytes = bytes}
 pub adds-kept : {gs : Vocabulary} {Reader T S : Type 0} {tm : Reader → T} {fm : T → Format S}
     {hd : Reader → S → Type 0} {terms : T} {reader : Reader} {part : List ℕ}
     {spot : Spot} {bytes : List ℕ}
-    → IsAt tm fm hd terms reader part spot bytes → (more : List ℕ) → IsInside (fm terms).separates
+    → IsAt tm fm hd terms reader part spot bytes → (more : List ℕ) → HasNoSeparator (fm terms).separates
     more → length part + length more ≤ PART_MAX → (old : List Segment)
     → Adds gs old old (recording_of (fm terms) false bytes)
     (recording_of (fm terms) false (bytes ++ more))
@@ -285,7 +285,7 @@ adds-kept {fm = fm} {terms = terms} {part = part} {spot = spot} {bytes = bytes} 
 pub refused-long : {gs : Vocabulary} {Reader T S : Type 0} {tm : Reader → T} {fm : T → Format S}
     {hd : Reader → S → Type 0} {terms : T} {reader : Reader} {part : List ℕ}
     {spot : Spot} {bytes : List ℕ}
-    → IsAt tm fm hd terms reader part spot bytes → (more : List ℕ) → IsInside (fm terms).separates
+    → IsAt tm fm hd terms reader part spot bytes → (more : List ℕ) → HasNoSeparator (fm terms).separates
     more → PART_MAX < length part + length more → (old : List Segment)
     → IsRefused gs old old (recording_of (fm terms) false bytes) (recording_of (fm terms) false
     (bytes ++ more)) (record { place = (fm terms).place spot; kind = LineTooLong })
@@ -335,7 +335,7 @@ closed-goes : {Reader T S : Type 0} {tm : Reader → T} {fm : T → Format S}
     {hd : Reader → S → Type 0} {terms : T} {reader : Reader} {part : List ℕ}
     {spot : Spot} {bytes : List ℕ} {stretches : List Stretch} {holds : S → Type 0}
     → (here : IsAt tm fm hd terms reader part spot bytes)
-    → (goes : GoesOn (part_says (fm terms) here.state part) stretches holds)
+    → (goes : PartGoesOn (part_says (fm terms) here.state part) stretches holds)
     → recording_of (fm terms) true bytes ≡ behind here.told
     (behind stretches (ending (spot.offset + length part) ((fm terms).last goes.state)
     ((fm terms).at_end goes.state)))
@@ -349,7 +349,7 @@ pub whole-closed : {Reader T S : Type 0} {tm : Reader → T} {fm : T → Format 
     {hd : Reader → S → Type 0} {terms : T} {reader : Reader} {part : List ℕ}
     {spot : Spot} {bytes : List ℕ} {stretches : List Stretch} {holds : S → Type 0}
     → (here : IsAt tm fm hd terms reader part spot bytes)
-    → (goes : GoesOn (part_says (fm terms) here.state part) stretches holds)
+    → (goes : PartGoesOn (part_says (fm terms) here.state part) stretches holds)
     → None ≡ (fm terms).at_end goes.state
     → (asked : Vocabulary) (last : ℕ) → last ≡ events_for asked ((fm terms).last goes.state)
     → IsEnded asked (recording_of (fm terms) true bytes) last
@@ -372,7 +372,7 @@ pub adds-closed : {gs : Vocabulary} {Reader T S : Type 0} {tm : Reader → T} {f
     {spot : Spot} {bytes : List ℕ} {stretches : List Stretch} {old new : List Segment} {holds : S
     → Type 0}
     → (here : IsAt tm fm hd terms reader part spot bytes)
-    → (goes : GoesOn (part_says (fm terms) here.state part) stretches holds) → new
+    → (goes : PartGoesOn (part_says (fm terms) here.state part) stretches holds) → new
     ≡ old ++ segments_for gs stretches
     → Adds gs old new (recording_of (fm terms) false bytes) (recording_of (fm terms) true bytes)
 adds-closed {fm = fm} {terms = terms} {part = part} {spot = spot} {stretches = stretches} here goes
@@ -411,7 +411,7 @@ pub refused-end : {gs : Vocabulary} {Reader T S : Type 0} {tm : Reader → T} {f
     {spot : Spot} {bytes : List ℕ} {stretches : List Stretch} {old new : List Segment} {holds : S
     → Type 0}
     → (here : IsAt tm fm hd terms reader part spot bytes)
-    → (goes : GoesOn (part_says (fm terms) here.state part) stretches holds) → new
+    → (goes : PartGoesOn (part_says (fm terms) here.state part) stretches holds) → new
     ≡ old ++ segments_for gs stretches
     → (place : ℕ) (kind : TraceKind) → Some kind ≡ (fm terms).at_end goes.state → kind ≢ Spent
     → place ≡ spot.offset + length part

@@ -93,7 +93,7 @@ abbrev pub recording_of : {State : Type 0} → Format State → Bool → List �
 recording_of format closed bytes = recording_from format closed format.start first_spot bytes
 
 -- Segments lead from one time to another, and a time within the limit is one that they may reach.
-pub record Leads (before : ℕ) (segments : List Segment) (now : ℕ) : Type 0 where
+pub record LeadsInTime (before : ℕ) (segments : List Segment) (now : ℕ) : Type 0 where
   pub long : AreLong segments
   pub ends : end_of before segments ≡ now
   pub in_time : before ≤ TIME_MAX → now ≤ TIME_MAX
@@ -104,4 +104,5 @@ pub record KeepsTime {State : Type 0} (format : Format State) : Type 0 where
   pub begins : format.time format.start ≡ 0
   pub leads : (asked : Vocabulary) (state : State) (part : List ℕ) (step : Step State)
       → format.says state part ≡ Ok step
-      → Leads (format.time state) (map (segment_for asked) step.stretches) (format.time step.state)
+      → LeadsInTime (format.time state) (map (segment_for asked) step.stretches) (format.time
+      step.state)

@@ -3,7 +3,7 @@ use Rattle.std.proofs.Common.{◌≡◌, ℕ, ◌+◌, ◌≤◌, nat_le, Bool, 
 use Rattle.std.specs.List.{slice_split}
 use Rattle.std.proofs.lemmas.List.{map-append}
 use Rattle.tre_pairs.specs.declared.TheConstants.{TIME_MAX}
-use Rattle.tre_parts.specs.Format.{Format, Step, nothing, faulty, ending, read_on, after_part, parts_recording, recording_from, recording_of, first_spot, Leads, KeepsTime}
+use Rattle.tre_parts.specs.Format.{Format, Step, nothing, faulty, ending, read_on, after_part, parts_recording, recording_from, recording_of, first_spot, LeadsInTime, KeepsTime}
 use Rattle.tre_parts.specs.declared.TheConstants.{PART_MAX}
 use Rattle.tre_parts.specs.declared.spot.Spot.{Spot}
 use Rattle.tre_trace.proofs.Segments.{end_of-append}
@@ -25,7 +25,7 @@ AreLong-append : (xs ys : List Segment) → AreLong xs → AreLong ys → AreLon
 AreLong-append [] ys long later = later
 AreLong-append (x ∷ xs) ys long later = (long.0, AreLong-append xs ys long.1 later)
 
-leads-stays : (before now : ℕ) (segments more : List Segment) → Leads before segments now
+leads-stays : (before now : ℕ) (segments more : List Segment) → LeadsInTime before segments now
     → StaysInTime now more → StaysInTime before (segments ++ more)
 leads-stays before now segments more leads stays = record {
   long = AreLong-append segments more leads.long stays.long;

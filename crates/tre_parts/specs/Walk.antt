@@ -13,17 +13,18 @@ use Rattle.tre_trace.specs.declared.fault.TraceKind.{TraceKind}
 use Rattle.tre_trace.specs.declared.fault.TraceKind.TheVariants.{Memory, Spent}
 
 -- no separator stands in the bytes
-abbrev pub IsInside : (ℕ → Bool) → List ℕ → Type 0
-IsInside separates bytes = All (λ byte. separates byte ≡ false) bytes
+abbrev pub HasNoSeparator : (ℕ → Bool) → List ℕ → Type 0
+HasNoSeparator separates bytes = All (λ byte. separates byte ≡ false) bytes
 
 -- the first separator among the bytes is at this place
-pub record EndsAt (separates : ℕ → Bool) (bytes : List ℕ) (place : ℕ) : Type 0 where
+pub record SeparatedAt (separates : ℕ → Bool) (bytes : List ℕ) (place : ℕ) : Type 0 where
   pub within : place < length bytes
-  pub inside : IsInside separates (take place bytes)
+  pub inside : HasNoSeparator separates (take place bytes)
   pub ends : separates (slice_index bytes place) ≡ true
 
 -- a part said these stretches, and the state behind it is held
-pub record GoesOn {State : Type 0} (said : Result (Step State) TraceKind) (stretches : List Stretch)
+pub record PartGoesOn {State : Type 0} (said : Result (Step State) TraceKind) (stretches : List
+    Stretch)
     (holds : State → Type 0) : Type 0 where
   pub state : State
   pub says : said ≡ Ok (record { stretches = stretches; state = state })
@@ -40,15 +41,16 @@ pub record SaysOne {State : Type 0} (asked : Vocabulary) (said : Result (Step St
     (segment : Segment) (holds : State → Type 0) : Type 0 where
   pub stretch : Stretch
   pub is : segment ≡ segment_for asked stretch
-  pub goes_on : GoesOn said (stretch ∷ []) holds
+  pub goes_on : PartGoesOn said (stretch ∷ []) holds
 
 -- what a reader told of a part is what the part says, for the names that it reads, and the reader
 -- holds the state behind it
-abbrev pub Tells : {State : Type 0} → Vocabulary → Result (Step State) TraceKind → (State → Type 0)
+abbrev pub TellsPart : {State : Type 0} → Vocabulary → Result (Step State) TraceKind → (State →
+    Type 0)
     → Said → Type 0
-Tells asked said holds Nothing = GoesOn said [] holds
-Tells asked said holds (Says segment) = SaysOne asked said segment holds
-Tells asked said holds (Wrong kind) = IsWrong said kind
+TellsPart asked said holds Nothing = PartGoesOn said [] holds
+TellsPart asked said holds (Says segment) = SaysOne asked said segment holds
+TellsPart asked said holds (Wrong kind) = IsWrong said kind
 
 -- The reader has read these bytes and found no fault: it holds a state, it kept the part that
 -- isn't ended yet, and what follows is read from there.
@@ -64,7 +66,7 @@ pub record IsAt {Reader Terms State : Type 0} (terms_of : Reader → Terms)
       recording_of (format terms) closed (bytes ++ more) ≡ behind told
       (recording_from (format terms)
       closed state spot (part ++ more))
-  pub inside : IsInside (format terms).separates part
+  pub inside : HasNoSeparator (format terms).separates part
   pub short : length part ≤ PART_MAX
   pub counts : spot.offset + length part ≡ length bytes
   pub few : spot.number ≤ spot.offset + 1
@@ -74,7 +76,7 @@ pub record AddsPart {State : Type 0} (asked : Vocabulary)
     (said : Result (Step State) TraceKind) (holds : State → Type 0)
     (old new : List Segment) : Type 0 where
   pub stretches : List Stretch
-  pub goes_on : GoesOn said stretches holds
+  pub goes_on : PartGoesOn said stretches holds
   pub added : new ≡ old ++ segments_for asked stretches
 
 -- A part was refused, and no segment added.
@@ -91,7 +93,8 @@ pub record IsEnded (asked : Vocabulary) (recording : Recording) (last : ℕ) : T
 
 -- A call that read more bytes: what holds of an Ok's value says how far the reader is, and what was
 -- put behind the old segments is what the bytes say; a fault is the first one that they say.
-abbrev pub Takes : {T : Type 0} → Vocabulary → (T → Type 0) → List Segment → List Segment
+abbrev pub TakesBytes : {T : Type 0} → Vocabulary → (T → Type 0) → List Segment → List Segment
     → Recording → Recording → Result T TraceFault → Type 0
-Takes asked IsBehind old new before now (Ok told) = IsBehind told × Adds asked old new before now
-Takes asked IsBehind old new before now (Err fault) = IsRefused asked old new before now fault
+TakesBytes asked IsBehind old new before now (Ok told) = IsBehind told × Adds asked old new before
+    now
+TakesBytes asked IsBehind old new before now (Err fault) = IsRefused asked old new before now fault

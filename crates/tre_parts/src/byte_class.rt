@@ -2,7 +2,7 @@
 ghost use Rattle.std.specs.Prelude.{◌≡◌, ◌+◌, ◌≤◌, ℕ, Bool, length, map, IfNone, IfSome};
 ghost use Rattle.std.specs.Simd.Lanes.{mask_l};
 ghost use Rattle.tre_parts.specs.Bytes.{NoneBetween, IsNextAt};
-ghost use Rattle.tre_parts.specs.Walk.{IsInside, EndsAt};
+ghost use Rattle.tre_parts.specs.Walk.{HasNoSeparator, SeparatedAt};
 
 use std::simd::prelude::*;
 
@@ -25,8 +25,8 @@ pub trait ByteClass {
 /// The place of the first byte of the class, where there is one.
 #[inline(always)]
 pub fn first_of<C: ByteClass>(bytes: &[u8]) -> Option<usize>
-    ensures none { IfNone result (IsInside C.has bytes.now) }
-    ensures first { IfSome result (EndsAt C.has bytes.now) }
+    ensures none { IfNone result (HasNoSeparator C.has bytes.now) }
+    ensures first { IfSome result (SeparatedAt C.has bytes.now) }
 {
     match first_from::<C>(bytes, 0) {
         Some(place) => Some(place),

@@ -4,7 +4,7 @@ ghost use Rattle.tre_parts.specs.declared.said.Said.{Said};
 ghost use Rattle.tre_trace.specs.Reading.{Vocabulary, events_for};
 ghost use Rattle.tre_trace.specs.declared.fault.TraceKind.TheVariants.{Spent, Memory};
 ghost use Rattle.tre_parts.specs.Skims.{Skims};
-ghost use Rattle.tre_parts.specs.Walk.{IsInside, EndsAt, Tells};
+ghost use Rattle.tre_parts.specs.Walk.{HasNoSeparator, SeparatedAt, TellsPart};
 
 use crate::{PART_MAX, Said, Skimmed, Spot};
 use tre_trace::{Segment, TraceKind};
@@ -31,8 +31,8 @@ pub trait PartReader {
 
     /// The place of the first separator, where there is one.
     fn separator_in(&self, bytes: &[u8]) -> Option<usize>
-        ensures none { IfNone result (IsInside (format (terms self.now)).separates bytes.now) }
-        ensures first { IfSome result (EndsAt (format (terms self.now)).separates bytes.now) };
+        ensures none { IfNone result (HasNoSeparator (format (terms self.now)).separates bytes.now) }
+        ensures first { IfSome result (SeparatedAt (format (terms self.now)).separates bytes.now) };
 
     /// Reads whole parts from the front of the bytes on, each with the separator behind it, as long
     /// as they are plain, and puts their segments behind the others. It may stop before any part,
@@ -51,7 +51,8 @@ pub trait PartReader {
     fn read(&mut self, part: &[u8]) -> Said
         requires short { length part.now ≤ PART_MAX }
         ensures tells { (state : State) → holds self.old state →
-            Tells (names self.old) ((format (terms self.old)).says state part.now) (holds self.new)
+            TellsPart (names self.old) ((format (terms self.old)).says state part.now) (holds
+            self.new)
             result }
         ensures kinds { result ≢ Said.Wrong Spent }
         ensures same_terms { terms self.new ≡ terms self.old }

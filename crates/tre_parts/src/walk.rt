@@ -2,7 +2,7 @@
 ghost use Rattle.std.specs.Prelude.{◌≡◌, ◌≢◌, ℕ, ◌+◌, ◌≤◌, List, [], ◌∷◌, None, ◌++◌, length, drop, true, false, OnOk, IfErr};
 ghost use Rattle.tre_parts.specs.Format.{recording_of, part_says};
 ghost use Rattle.tre_parts.specs.Skims.{IsFed};
-ghost use Rattle.tre_parts.specs.Walk.{IsInside, IsAt, AddsPart, IsRefusedPart, IsEnded, Takes};
+ghost use Rattle.tre_parts.specs.Walk.{HasNoSeparator, IsAt, AddsPart, IsRefusedPart, IsEnded, TakesBytes};
 ghost use Rattle.tre_trace.specs.Reading.{IsPlaced, Vocabulary};
 ghost use Rattle.tre_trace.specs.declared.fault.TraceKind.TheVariants.{Spent};
 ghost use Rattle.tre_trace.specs.declared.segment.Segment.{Segment};
@@ -82,8 +82,8 @@ impl<R: PartReader + Drop> Walk<R> {
             (segments : List Segment) →
             IsAt R.terms R.format R.holds terms self.old.reader self.old.part.items self.old.spot
             bytes →
-            IsInside (R.format terms).separates more.now →
-            Takes asked (λ _. IsAt R.terms R.format R.holds terms self.new.reader
+            HasNoSeparator (R.format terms).separates more.now →
+            TakesBytes asked (λ _. IsAt R.terms R.format R.holds terms self.new.reader
             self.new.part.items
             self.new.spot (bytes ++ more.now))
             segments segments (recording_of (R.format terms) false bytes)
@@ -110,10 +110,11 @@ impl<R: PartReader + Drop> Walk<R> {
         ensures takes { (terms : R.Terms) (bytes : List ℕ) (separator : ℕ) →
             IsAt R.terms R.format R.holds terms self.old.reader self.old.part.items self.old.spot
             bytes →
-            IsInside (R.format terms).separates part.now → (R.format terms).separates separator
+            HasNoSeparator (R.format terms).separates part.now → (R.format terms).separates
+            separator
             ≡ true →
             length bytes + length part.now + 1 ≤ FED_MAX →
-            Takes (R.names self.old.reader) (λ _. IsAt R.terms R.format R.holds terms
+            TakesBytes (R.names self.old.reader) (λ _. IsAt R.terms R.format R.holds terms
             self.new.reader self.new.part.items
             self.new.spot (bytes ++ (part.now ++ separator ∷ [])))
             segments.old.items segments.new.items (recording_of (R.format terms) false bytes)
@@ -134,7 +135,7 @@ impl<R: PartReader + Drop> Walk<R> {
             IsAt R.terms R.format R.holds terms self.old.reader self.old.part.items self.old.spot
             bytes →
             (R.format terms).separates separator ≡ true → length bytes + 1 ≤ FED_MAX →
-            Takes (R.names self.old.reader) (λ _. IsAt R.terms R.format R.holds terms
+            TakesBytes (R.names self.old.reader) (λ _. IsAt R.terms R.format R.holds terms
             self.new.reader self.new.part.items
             self.new.spot (bytes ++ separator ∷ []))
             segments.old.items segments.new.items (recording_of (R.format terms) false bytes)
@@ -156,10 +157,11 @@ impl<R: PartReader + Drop> Walk<R> {
         ensures takes { (terms : R.Terms) (bytes : List ℕ) (separator : ℕ) →
             IsAt R.terms R.format R.holds terms self.old.reader self.old.part.items self.old.spot
             bytes →
-            IsInside (R.format terms).separates front.now → (R.format terms).separates separator
+            HasNoSeparator (R.format terms).separates front.now → (R.format terms).separates
+            separator
             ≡ true →
             length bytes + length front.now + 1 ≤ FED_MAX →
-            Takes (R.names self.old.reader) (λ _. IsAt R.terms R.format R.holds terms
+            TakesBytes (R.names self.old.reader) (λ _. IsAt R.terms R.format R.holds terms
             self.new.reader self.new.part.items
             self.new.spot (bytes ++ (front.now ++ separator ∷ [])))
             segments.old.items segments.new.items (recording_of (R.format terms) false bytes)
@@ -201,7 +203,7 @@ impl<R: PartReader + Drop> Walk<R> {
             IsAt R.terms R.format R.holds terms self.old.reader self.old.part.items self.old.spot
             bytes →
             length bytes + length piece.now ≤ FED_MAX →
-            Takes (R.names self.old.reader) (λ _. IsAt R.terms R.format R.holds terms
+            TakesBytes (R.names self.old.reader) (λ _. IsAt R.terms R.format R.holds terms
             self.new.reader self.new.part.items
             self.new.spot (bytes ++ piece.now))
             segments.old.items segments.new.items (recording_of (R.format terms) false bytes)
@@ -226,7 +228,7 @@ impl<R: PartReader + Drop> Walk<R> {
             IsAt R.terms R.format R.holds terms self.old.reader self.old.part.items self.old.spot
             bytes →
             end ≡ length bytes →
-            Takes (R.names self.old.reader) (IsEnded (R.names self.old.reader)
+            TakesBytes (R.names self.old.reader) (IsEnded (R.names self.old.reader)
             (recording_of (R.format terms) true bytes)) segments.old.items
             segments.new.items
             (recording_of (R.format terms) false bytes) (recording_of (R.format terms) true bytes)

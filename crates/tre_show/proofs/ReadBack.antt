@@ -25,8 +25,8 @@ use Rattle.tre_syntax.specs.declared.name_kind.NameKind.TheVariants.{Proposition
 use Rattle.tre_syntax.specs.PatternTree.{seen_after}
 use Rattle.tre_parse.specs.declared.token.Token.{Token}
 use Rattle.tre_parse.specs.declared.token.Token.TheVariants.{Name, EventName, Number, Bar, DoubleBar, Ampersand, DoubleAmpersand, Percent, Begins, Ends, Eps, Rise, Fall, Inf, True, Event, EndOfText}
-use Rattle.tre_parse.specs.Lexeme.{named, word_lexeme, number_len, number_lexeme, sign_lexeme, lexeme_of}
-use Rattle.tre_parse.specs.Written.{is_blank, reserved}
+use Rattle.tre_parse.specs.Lexeme.{lexeme_named, word_lexeme, number_len, number_lexeme, sign_lexeme, lexeme_of}
+use Rattle.tre_parse.specs.Written.{is_white_space, reserved}
 use Rattle.tre_parse.specs.declared.before.Before.{Before}
 use Rattle.tre_parse.specs.declared.before.Before.TheVariants.{Other}
 use Rattle.tre_parse.specs.Numbering.{numbers_in}
@@ -69,13 +69,13 @@ takes_front byte bytes rest word at is =
 
 -- A word that is taken is a name or a reserved one.
 scanned_named : (len : ℕ) (o : Option Token) (at : ℕ) (bytes : List ℕ) (next : ℕ → RawTokens)
-    → scanned (named len o) at bytes next ≡ with_raw_token at (word_for (take len bytes) o)
+    → scanned (lexeme_named len o) at bytes next ≡ with_raw_token at (word_for (take len bytes) o)
     (next (len - 1))
 scanned_named len None at bytes next = refl
 scanned_named len (Some token) at bytes next = refl
 
 scanned_word : (byte : ℕ) (bytes rest : List ℕ) (o : Option Token) (at : ℕ) (next : ℕ → RawTokens)
-    → scanned (named (length (byte ∷ bytes)) o) at (byte ∷ (bytes ++ rest)) next
+    → scanned (lexeme_named (length (byte ∷ bytes)) o) at (byte ∷ (bytes ++ rest)) next
     ≡ with_raw_token at (word_for (byte ∷ bytes) o) (next (length bytes))
 scanned_word byte bytes rest o at next =
     let whole = byte ∷ bytes in
@@ -99,15 +99,15 @@ scanned_number byte bytes rest at next len =
 
 -- which of the kinds the first byte chooses
 kind_word : {A : Type 0} (byte : ℕ) (a b c : A) → starts_name byte ≡ true
-    → (if is_blank byte then a else (if starts_name byte then b else c)) ≡ b
+    → (if is_white_space byte then a else (if starts_name byte then b else c)) ≡ b
 kind_word byte a b c starts =
-    let never : is_blank byte ≡ false = grind (arith, nat_tests) in rw (never, starts) refl
+    let never : is_white_space byte ≡ false = grind (arith, nat_tests) in rw (never, starts) refl
 
 kind_number : {A : Type 0} (byte : ℕ) (a b c d : A) → is_ascii_digit byte ≡ true
-    → (if is_blank byte then a else (if starts_name byte then b
+    → (if is_white_space byte then a else (if starts_name byte then b
     else (if is_ascii_digit byte then c else d))) ≡ c
 kind_number byte a b c d digit =
-    let never : is_blank byte ≡ false = grind (arith, nat_tests) in
+    let never : is_white_space byte ≡ false = grind (arith, nat_tests) in
     let nor : starts_name byte ≡ false = grind (arith, nat_tests) in rw (never, nor, digit) refl
 
 start_continues : (byte : ℕ) → starts_name byte ≡ true → continues_name byte ≡ true
@@ -122,8 +122,8 @@ takes_word byte bytes rest at starts all cut =
     (All-cons (λ b. continues_name b ≡ true) byte bytes (start_continues byte starts) all)
     (cut_stops continues_name rest (λ b fails. fails) cut) in
     let lexeme = kind_word byte _ (word_lexeme (whole ++ rest)) _ starts
-    ∙ ap (λ n. named n (reserved (take n (whole ++ rest)))) size
-    ∙ ap (λ w. named (length whole) (reserved w)) (take-append_seam whole rest) in
+    ∙ ap (λ n. lexeme_named n (reserved (take n (whole ++ rest)))) size
+    ∙ ap (λ w. lexeme_named (length whole) (reserved w)) (take-append_seam whole rest) in
     takes_front byte bytes rest (word_for whole (reserved whole)) at
     (λ next. ap (λ l. scanned l at (whole ++ rest) next) lexeme
     ∙ scanned_word byte bytes rest (reserved whole) at next)

@@ -20,7 +20,7 @@ use Rattle.tre_zone.proofs.Paths.{Meets-looser, Meets-sum, Meets-loop}
 use Rattle.tre_zone.proofs.Scaling.{SetHolds-rising}
 use Rattle.tre_zone.proofs.ZoneListLemmas.{SetHolds-empty, SetHolds-append, SetHolds-push}
 use Rattle.tre_zoneset.proofs.Stretches.{take_to}
-use Rattle.tre_star.specs.Parts.{SomeSteps, BeginFrom, EndBy, LieBefore, AreLastBegins}
+use Rattle.tre_star.specs.Parts.{SomeSteps, BeginFrom, PairsEndBy, LieBefore, AreLastBegins}
 use Rattle.tre_star.proofs.Chaining.{Scales-SetHolds}
 use Rattle.tre_star.proofs.Powers.{Meets-earlier}
 
@@ -152,8 +152,8 @@ slice_more zones start end zone rises within is =
 
 pub EndBy-more : (zones : List ZoneBounds) (start end : ℕ) (zone : ZoneBounds) (reach next : ℤ)
     → start ≤ end → end < length zones → zone ≡ get_or zones end zone → reach ≤ℤ next
-    → zone.end_high ≤ℤ next → EndBy reach (slice_range zones start end)
-    → EndBy next (slice_range zones start (end + 1))
+    → zone.end_high ≤ℤ next → PairsEndBy reach (slice_range zones start end)
+    → PairsEndBy next (slice_range zones start (end + 1))
 EndBy-more zones start end zone reach next rises within is le own old =
     rw (slice_more zones start end zone rises within is) (record {
       each = λ a b n some h. ⊎_elim
@@ -163,7 +163,7 @@ EndBy-more zones start end zone reach next rises within is le own old =
     })
 
 pub EndBy-first : (zones : List ZoneBounds) (start : ℕ) (zone : ZoneBounds) → start < length zones
-    → zone ≡ get_or zones start zone → EndBy zone.end_high (slice_range zones start (start + 1))
+    → zone ≡ get_or zones start zone → PairsEndBy zone.end_high (slice_range zones start (start + 1))
 EndBy-first zones start zone within is =
     EndBy-more zones start start zone zone.end_high zone.end_high (omega arith) within is
     (omega (arith, ints)) (omega (arith, ints))
@@ -182,7 +182,7 @@ ends_before begin reach b c n some gap ends begins =
     (cases_lt b c)
 
 pub LieBefore-behind : (begin reach : ℤ) (early late : List ZoneBounds)
-    → (begin +ℤ reach) <ℤ pos 1 → EndBy reach early → BeginFrom begin late → LieBefore early late
+    → (begin +ℤ reach) <ℤ pos 1 → PairsEndBy reach early → BeginFrom begin late → LieBefore early late
 LieBefore-behind begin reach early late gap ends begins = record {
   each = λ a b c d n some x y. ends_before begin reach b c n some gap (ends.each a b n some x)
       (begins.each c d n some y);

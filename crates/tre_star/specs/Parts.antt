@@ -14,7 +14,7 @@ pub record BeginFrom (key : ℤ) (zones : List ZoneBounds) : Type 0 where
   pub each : (a b n : ℕ) → 0 < n → SetHolds zones a b n → Meets key 0 a n
 
 -- Every pair of the zones meets the bound from above on its end.
-pub record EndBy (key : ℤ) (zones : List ZoneBounds) : Type 0 where
+pub record PairsEndBy (key : ℤ) (zones : List ZoneBounds) : Type 0 where
   pub each : (a b n : ℕ) → 0 < n → SetHolds zones a b n → Meets key b 0 n
 
 -- Every pair of the first zones ends before any of the others begins.

@@ -8,8 +8,8 @@ use Rattle.tre_zone.specs.ZoneList.{SetHolds, AreCanonical, HoldExactly}
 use Rattle.tre_zone.specs.declared.zone_bounds.ZoneBounds.{ZoneBounds}
 use Rattle.tre_zone.proofs.TightBounds.{canonical_from_tight}
 use Rattle.tre_zone.proofs.Tightness.{canonical-tight}
-use Rattle.tre_strips.specs.Profile.{Fits}
-use Rattle.tre_strips.specs.Runs.{IsRun, IsInStrip}
+use Rattle.tre_strips.specs.Profile.{BarsFit}
+use Rattle.tre_strips.specs.Runs.{IsRunOfBars, IsInStrip}
 use Rattle.tre_strips.specs.Listed.{AreListed, compare_lines}
 use Rattle.tre_strips.specs.Strips.{IsStripZone, of_run, of_time, AreStrips}
 use Rattle.tre_strips.specs.Spun.{HaveSamePairs, AreFound}
@@ -73,7 +73,7 @@ HoldExactly-found set found zones are same = record {
 -- ---- sets with the same pairs have the same strips
 
 module _ (M N : Pairs) (same : (a b n : ℕ) → 0 < n → M a b n ↔ N a b n) where
-  Fits-pairs : (bars : List Bar) (time : ℕ) → Fits M bars time → Fits N bars time
+  Fits-pairs : (bars : List Bar) (time : ℕ) → BarsFit M bars time → BarsFit N bars time
   Fits-pairs bars time fits = record {
     filled = fits.filled;
     exact = λ b n some.
@@ -84,8 +84,8 @@ module _ (M N : Pairs) (same : (a b n : ℕ) → 0 < n → M a b n ↔ N a b n) 
 
 module _ (M N : Pairs) (same : (a b n : ℕ) → 0 < n → M a b n ↔ N a b n)
     (back : (a b n : ℕ) → 0 < n → N a b n ↔ M a b n) where
-  IsRun-pairs : (bars : List Bar) (from until : ℕ) → IsRun M bars from until
-      → IsRun N bars from until
+  IsRun-pairs : (bars : List Bar) (from until : ℕ) → IsRunOfBars M bars from until
+      → IsRunOfBars N bars from until
   IsRun-pairs bars from until run = record {
     rising = run.rising;
     profile = IsProfile-pairs M N same bars from until run.profile;

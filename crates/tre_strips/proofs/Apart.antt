@@ -8,7 +8,7 @@ use Rattle.tre_zone.specs.ZoneList.{SetHolds, AreCanonical}
 use Rattle.tre_zone.specs.declared.zone_bounds.ZoneBounds.{ZoneBounds}
 use Rattle.tre_strips.specs.Bar.{place_of, BarHolds, RiseFrom}
 use Rattle.tre_strips.specs.Profile.{IsProfile}
-use Rattle.tre_strips.specs.Runs.{IsRun, IsInBlock, IsInColumn}
+use Rattle.tre_strips.specs.Runs.{IsRunOfBars, IsInBlock, IsInColumn}
 use Rattle.tre_strips.specs.Strips.{IsStripZone, of_run, of_time}
 use Rattle.tre_strips.specs.Found.{StandAlike}
 use Rattle.tre_strips.specs.declared.bar.Bar.{Bar}
@@ -123,7 +123,7 @@ module _ (zones : List ZoneBounds) (canonical : AreCanonical zones) where
 module _ (zones : List ZoneBounds) (canonical : AreCanonical zones) where
   -- Two runs that share a time between whole ones are one.
   runs_same : (bars others : List Bar) (from until start end : ℕ)
-      → IsRun (SetHolds zones) bars from until → IsRun (SetHolds zones) others start end
+      → IsRunOfBars (SetHolds zones) bars from until → IsRunOfBars (SetHolds zones) others start end
       → from ≤ start → start < until → (bars ≡ others) × (from ≡ start) × (until ≡ end)
   runs_same bars others from until start end run run' low high =
       let rises = run.rising in
@@ -150,9 +150,9 @@ module _ (zones : List ZoneBounds) (canonical : AreCanonical zones) where
 
   of_runs : (zone other : ZoneBounds) → IsCanonical zone → IsCanonical other
       → Includes zone other
-      → (bars : List Bar) (from until : ℕ) (bar : Bar) → IsRun (SetHolds zones) bars from until
+      → (bars : List Bar) (from until : ℕ) (bar : Bar) → IsRunOfBars (SetHolds zones) bars from until
       → Contains bars bar → IsZoneOf zone (IsInBlock (SetHolds zones) bars from until bar)
-      → (others : List Bar) (start end : ℕ) (bar' : Bar) → IsRun (SetHolds zones) others start end
+      → (others : List Bar) (start end : ℕ) (bar' : Bar) → IsRunOfBars (SetHolds zones) others start end
       → Contains others bar' → IsZoneOf other (IsInBlock (SetHolds zones) others start end bar')
       → zone ≡ other
   of_runs zone other is_canonical is_canonical' includes bars from until bar run has is

@@ -2,12 +2,12 @@
 use Rattle.std.proofs.Common.{◌≡◌, ◌≢◌, ℕ, ◌+◌, ◌*◌, ◌<◌, ◌≤◌, ◌↔◌, Bool, true, false, cond, IsTrue, refl, sym, ap, arith, inl, inr, ⊎_elim, true≢false, mul-le-mul_right}
 use Rattle.std.proofs.lemmas.Bool.{cases_eq, cases_lt}
 use Rattle.tre_strips.specs.Bar.{place_of}
-use Rattle.tre_strips.specs.Times.{IsTime, Narrows, sample_of, IsSettled, Compares}
+use Rattle.tre_strips.specs.Times.{IsAmongTimes, Narrows, sample_of, IsSettled, Compares}
 use Rattle.tre_strips.specs.declared.bar.BarEnd.{BarEnd}
 use Rattle.tre_strips.specs.declared.times.Times.{Times}
 
 -- Where a/n is one of them, the times do not end before they begin.
-pub times_rise : (times : Times) (a n : ℕ) → IsTime times a n → times.from ≤ times.until
+pub times_rise : (times : Times) (a n : ℕ) → IsAmongTimes times a n → times.from ≤ times.until
 times_rise times a n time =
     ⊎_elim (λ one. let same = one.0 in omega arith)
     (λ many. ⊎_elim (λ (less : times.from < times.until). omega arith)
@@ -18,7 +18,7 @@ times_rise times a n time =
     absurd (omega arith))
     (cases_lt times.from times.until)) time.inside
 
-pub sample_is_time : (times : Times) → times.from ≤ times.until → IsTime times (sample_of times) 2
+pub sample_is_time : (times : Times) → times.from ≤ times.until → IsAmongTimes times (sample_of times) 2
 unfolding sample_of
 sample_is_time times rising =
     ⊎_elim (λ (same : times.from ≡ times.until).
@@ -49,8 +49,8 @@ Compares-test times one other false test settled = record {
       settled.order;
 }
 
-pub Narrows-time : (old new : Times) → Narrows old new → (a n : ℕ) → IsTime new a n
-    → IsTime old a n
+pub Narrows-time : (old new : Times) → Narrows old new → (a n : ℕ) → IsAmongTimes new a n
+    → IsAmongTimes old a n
 Narrows-time old new narrows a n time =
     let from = narrows.from in
     let until = narrows.until in

@@ -4,8 +4,8 @@ use Rattle.std.proofs.lemmas.Bool.{cases_lt}
 use Rattle.std.proofs.lemmas.List.{take_more, take_all, get_or_default}
 use Rattle.tre_strips.specs.Bar.{place_of, BarsHold, AreFilled, RiseFrom}
 use Rattle.tre_strips.specs.Found.{StandAlike, AreSamePlaces, Agree, RiseAt}
-use Rattle.tre_strips.specs.Profiles.{AreFilledOver, IsUnion}
-use Rattle.tre_strips.specs.Times.{IsTime}
+use Rattle.tre_strips.specs.Profiles.{AreFilledOver, IsUnionOfBars}
+use Rattle.tre_strips.specs.Times.{IsAmongTimes}
 use Rattle.tre_strips.specs.declared.bar.Bar.{Bar}
 use Rattle.tre_strips.specs.declared.bar.BarEnd.{BarEnd}
 use Rattle.tre_strips.specs.declared.times.Times.{Times}
@@ -148,12 +148,12 @@ all_alike (bar ∷ bars) (other ∷ others) a n same each = (
 
 -- What is united rises, and agrees with the profile exactly where it stands alike.
 pub Agree-same : (time : ℕ) (times : Times) (bars union there : List Bar) → times.from ≡ time
-    → times.until ≡ time → AreFilled bars (2 * time) 2 → IsUnion times bars union
+    → times.until ≡ time → AreFilled bars (2 * time) 2 → IsUnionOfBars times bars union
     → AreSamePlaces union there (2 * time) 2 → Agree time bars there
 Agree-same time times bars union there is is' filled union_is same = record {
   filled = λ n some. AreFilled-single bars time n some filled;
   exact = λ b n some.
-      let own : IsTime times (time * n) n = record {
+      let own : IsAmongTimes times (time * n) n = record {
         some = some;
         inside = inl (is ∙ sym is', ap (λ k. k * n) (sym is));
       } in
@@ -164,12 +164,12 @@ Agree-same time times bars union there is is' filled union_is same = record {
 }
 
 pub same-Agree : (time : ℕ) (times : Times) (bars union there : List Bar) → times.from ≡ time
-    → times.until ≡ time → IsUnion times bars union → RiseAt time there → Agree time bars there
+    → times.until ≡ time → IsUnionOfBars times bars union → RiseAt time there → Agree time bars there
     → AreSamePlaces union there (2 * time) 2
 same-Agree time times bars union there is is' union_is rise agree =
     let turned : time * 2 ≡ 2 * time = omega arith in
     let twice : time * 4 ≡ 2 * (2 * time) = omega arith in
-    let own : (n : ℕ) → 0 < n → IsTime times (time * n) n = λ n some. record {
+    let own : (n : ℕ) → 0 < n → IsAmongTimes times (time * n) n = λ n some. record {
       some = some;
       inside = inl (is ∙ sym is', ap (λ k. k * n) (sym is));
     } in

@@ -4,8 +4,8 @@ use Rattle.std.specs.List.Sorted.{IsNonDecreasingBy, IsPermutation}
 use Rattle.std.proofs.lemmas.Bool.{cases_lt}
 use Rattle.std.proofs.lemmas.List.{take_all, get_or_default}
 use Rattle.tre_strips.specs.Bar.{place_of, BarHolds, BarsHold}
-use Rattle.tre_strips.specs.Profiles.{AreFilledOver, IsUnion, IsJoined, Extends, apart, touching}
-use Rattle.tre_strips.specs.Times.{IsTime, Narrows, sample_of, IsSettled, Compares, IsLater}
+use Rattle.tre_strips.specs.Profiles.{AreFilledOver, IsUnionOfBars, IsJoined, ExtendsBars, apart, touching}
+use Rattle.tre_strips.specs.Times.{IsAmongTimes, Narrows, sample_of, IsSettled, Compares, IsLater}
 use Rattle.tre_strips.specs.declared.bar.Bar.{Bar}
 use Rattle.tre_strips.specs.declared.bar.BarEnd.{BarEnd}
 use Rattle.tre_strips.specs.declared.times.Times.{Times}
@@ -20,7 +20,7 @@ IsInOrder times bars = IsNonDecreasingBy (λ (bar : Bar). place_of bar.low (samp
 pub record IsJoining (start times : Times) (first : Bar) (rest : List Bar) (i : ℕ)
     (joined : List Bar) (last : Bar) : Type 0 where
   pub narrowed : Narrows start times
-  pub union : IsUnion times (first ∷ take i rest) (joined ++ last ∷ [])
+  pub union : IsUnionOfBars times (first ∷ take i rest) (joined ++ last ∷ [])
   pub next : (k : ℕ) (d : Bar) → i ≤ k → k < length rest
       → place_of last.low (sample_of start) 2 ≤ place_of (get_or rest k d).low (sample_of start) 2
 
@@ -52,7 +52,7 @@ more first rest i bar within is a b n =
 
 filled_at : (times : Times) (first : Bar) (rest : List Bar) (i : ℕ) (bar : Bar) → i < length rest
     → bar ≡ get_or rest i bar → AreFilledOver times (first ∷ rest) → (a n : ℕ)
-    → IsTime times a n → place_of bar.low a n < place_of bar.high a n
+    → IsAmongTimes times a n → place_of bar.low a n < place_of bar.high a n
 filled_at times first rest i bar within is filled a n time =
     subst (λ (other : Bar). place_of other.low a n < place_of other.high a n) (sym is)
     (AreFilled-at (first ∷ rest) (suc i) a n bar (filled.each a n time) (omega (arith, within)))
@@ -147,7 +147,7 @@ pub IsJoining-step : (start old new : Times) (first : Bar) (rest : List Bar) (i 
     (joined joined' : List Bar) (last bar next : Bar) → IsInOrder start (first ∷ rest)
     → AreFilledOver start (first ∷ rest) → i < length rest → bar ≡ get_or rest i bar
     → IsJoining start old first rest i joined last → Narrows old new
-    → Extends new last bar joined joined' next
+    → ExtendsBars new last bar joined joined' next
     → IsJoining start new first rest (i + 1) joined' next
 IsJoining-step start old new first rest i joined joined' last bar next order filled within is now
     cut (apart gap e e') =
@@ -172,19 +172,19 @@ IsJoining-order start old first rest i joined last bar within is now =
 pub IsJoining-all : (start times : Times) (first : Bar) (rest : List Bar) (i : ℕ)
     (joined : List Bar) (last : Bar) → length rest ≤ i
     → IsJoining start times first rest i joined last
-    → IsUnion times (first ∷ rest) (joined ++ last ∷ [])
+    → IsUnionOfBars times (first ∷ rest) (joined ++ last ∷ [])
 IsJoining-all start times first rest i joined last past now =
-    subst (λ (bars : List Bar). IsUnion times (first ∷ bars) (joined ++ last ∷ []))
+    subst (λ (bars : List Bar). IsUnionOfBars times (first ∷ bars) (joined ++ last ∷ []))
     (take_all i rest past) now.union
 
 -- ---- the whole
 
-pub IsUnion-none : (times : Times) → IsUnion times [] []
+pub IsUnion-none : (times : Times) → IsUnionOfBars times [] []
 IsUnion-none times = search (rules, RiseFrom-nil)
 
 -- Fewer than two bars are united as they stand.
 pub IsUnion-few : (times : Times) (bars : List Bar) → length bars < 2 → AreFilledOver times bars
-    → IsUnion times bars bars
+    → IsUnionOfBars times bars bars
 IsUnion-few times [] few filled = IsUnion-none times
 IsUnion-few times (bar ∷ []) few filled = record {
   rising = λ a n time.
@@ -194,7 +194,7 @@ IsUnion-few times (bar ∷ []) few filled = record {
 IsUnion-few times (bar ∷ other ∷ bars) few filled = absurd (omega arith)
 
 pub IsUnion-permutation : (times : Times) (bars others union : List Bar)
-    → IsPermutation bars others → IsUnion times others union → IsUnion times bars union
+    → IsPermutation bars others → IsUnionOfBars times others union → IsUnionOfBars times bars union
 IsUnion-permutation times bars others union order is =
     search (rules, BarsHold-permutation, is.exact)
 

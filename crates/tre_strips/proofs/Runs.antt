@@ -3,9 +3,9 @@ use Rattle.std.proofs.Common.{◌≡◌, ◌≢◌, ℕ, ◌*◌, ◌<◌, ◌�
 use Rattle.std.proofs.lemmas.Bool.{cases_eq, cases_lt}
 use Rattle.tre_pairs.specs.Pairs.{Pairs}
 use Rattle.tre_strips.specs.Bar.{RiseFrom}
-use Rattle.tre_strips.specs.Profile.{IsIn, IsProfile, Fits}
-use Rattle.tre_strips.specs.Runs.{IsRun}
-use Rattle.tre_strips.specs.Found.{AreSamePlaces, GoesOn, Agree}
+use Rattle.tre_strips.specs.Profile.{IsIn, IsProfile, BarsFit}
+use Rattle.tre_strips.specs.Runs.{IsRunOfBars}
+use Rattle.tre_strips.specs.Found.{AreSamePlaces, ProfileGoesOn, Agree}
 use Rattle.tre_strips.specs.declared.bar.Bar.{Bar}
 use Rattle.tre_strips.proofs.Unique.{IsProfile-places, IsProfile-same}
 use Rattle.tre_strips.proofs.Fitting.{AreSamePlaces-single, AreSamePlaces-held}
@@ -141,7 +141,7 @@ IsProfile-alike M bars there time same at = record {
 }
 
 pub Fits-agree : (M : Pairs) (bars there : List Bar) (time : ℕ) → IsProfile M there time time
-    → Fits M bars time ↔ Agree time bars there
+    → BarsFit M bars time ↔ Agree time bars there
 Fits-agree M bars there time at = (
   (λ fits. record {
     filled = fits.filled;
@@ -164,7 +164,7 @@ Fits-agree M bars there time at = (
 module _ (M : Pairs) (bars there behind : List Bar) (from time until : ℕ) (less : from < time)
     (later : time < until) (before : IsProfile M bars from time)
     (at : IsProfile M there time time) (next : IsProfile M behind time until) where
-  pub IsProfile-on : GoesOn bars there behind time → IsProfile M bars from until
+  pub IsProfile-on : ProfileGoesOn bars there behind time → IsProfile M bars from until
   IsProfile-on goes = IsProfile-through M bars from time until less later before
       (IsProfile-alike M bars there time goes.1 at)
       (subst (λ (l : List Bar). IsProfile M l time until) (sym goes.0) next)
@@ -176,7 +176,7 @@ module _ (M : Pairs) (bars there behind : List Bar) (from time until : ℕ) (les
       own at
 
   -- Where the bars are the profile for longer, the run goes on.
-  pub longer : (end : ℕ) → time < end → IsProfile M bars from end → GoesOn bars there behind time
+  pub longer : (end : ℕ) → time < end → IsProfile M bars from end → ProfileGoesOn bars there behind time
   longer end past whole = (
     IsProfile-same M bars behind time (min end until) (omega arith)
         (IsProfile-part M bars from end time (min end until) (omega arith) (omega arith)
@@ -188,7 +188,7 @@ module _ (M : Pairs) (bars there behind : List Bar) (from time until : ℕ) (les
 
   -- So it does where the bars behind the time are the profile before it.
   pub earlier : (start : ℕ) → start < time → IsProfile M behind start until
-      → GoesOn bars there behind time
+      → ProfileGoesOn bars there behind time
   earlier start before_it whole =
       let same : behind ≡ bars =
       IsProfile-same M behind bars (max start from) time (omega arith)
@@ -205,8 +205,8 @@ module _ (M : Pairs) (bars there behind : List Bar) (from time until : ℕ) (les
   abbrev pub IsFirst : Type 0
   IsFirst = (start : ℕ) → start ≤ from → IsProfile M bars start time → start ≡ from
 
-  module _ (first : IsFirst) (stops : GoesOn bars there behind time → ⊥) where
-    pub IsRun-closed : IsRun M bars from time
+  module _ (first : IsFirst) (stops : ProfileGoesOn bars there behind time → ⊥) where
+    pub IsRun-closed : IsRunOfBars M bars from time
     IsRun-closed = record {
       rising = less;
       profile = before;
@@ -221,7 +221,7 @@ module _ (M : Pairs) (bars there behind : List Bar) (from time until : ℕ) (les
     }
 
     -- A run that overlaps this one is this one.
-    pub IsRun-same : (others : List Bar) (start end : ℕ) → IsRun M others start end
+    pub IsRun-same : (others : List Bar) (start end : ℕ) → IsRunOfBars M others start end
         → start < time → from < end → (others ≡ bars) × (start ≡ from) × (end ≡ time)
     IsRun-same others start end run early late =
         let rises = run.rising in

@@ -10,11 +10,11 @@ use Rattle.tre_zone.specs.ZoneList.{SetHolds, AreCanonical}
 use Rattle.tre_zone.specs.declared.zone_bounds.ZoneBounds.{ZoneBounds}
 use Rattle.tre_zone.proofs.Scaling.{canonical-frame}
 use Rattle.tre_strips.specs.Bar.{BarHolds, BarsHold}
-use Rattle.tre_strips.specs.Profile.{IsProfile, Fits}
-use Rattle.tre_strips.specs.Runs.{IsRun, IsInStrip, IsAlone, IsInBlock, IsInColumn}
+use Rattle.tre_strips.specs.Profile.{IsProfile, BarsFit}
+use Rattle.tre_strips.specs.Runs.{IsRunOfBars, IsInStrip, IsAlone, IsInBlock, IsInColumn}
 use Rattle.tre_strips.specs.Strips.{IsStripZone, of_run, of_time}
-use Rattle.tre_strips.specs.Found.{StandAlike, GoesOn, IsInPart}
-use Rattle.tre_strips.specs.Spun.{Closes, Begun, IsSpun}
+use Rattle.tre_strips.specs.Found.{StandAlike, ProfileGoesOn, IsInPart}
+use Rattle.tre_strips.specs.Spun.{ClosesRun, Begun, IsSpun}
 use Rattle.tre_strips.specs.declared.bar.Bar.{Bar}
 use Rattle.tre_strips.specs.declared.strip_zone.Begins.{Begins}
 use Rattle.tre_strips.proofs.Lists.{BarsHold-which, BarsHold-by}
@@ -63,8 +63,8 @@ column_held M bars time bar profile has a b n some column =
 -- What fits is what is taken.
 module _ (zones : List ZoneBounds) (canonical : AreCanonical zones) (bars : List Bar)
     (from until : ℕ) (takes taken : Bool) (profile : IsProfile (SetHolds zones) bars from until)
-    (first : (takes ≡ true) ↔ Fits (SetHolds zones) bars from)
-    (last : (taken ≡ true) ↔ Fits (SetHolds zones) bars until) where
+    (first : (takes ≡ true) ↔ BarsFit (SetHolds zones) bars from)
+    (last : (taken ≡ true) ↔ BarsFit (SetHolds zones) bars until) where
   abbrev the_strip : Begins
   the_strip = record {
     from = from;
@@ -178,7 +178,7 @@ module _ (zones : List ZoneBounds) (canonical : AreCanonical zones) (there behin
     (at : IsProfile (SetHolds zones) there time time)
     (next : IsProfile (SetHolds zones) behind time until)
     (begun : Begun there behind time taken takes mid new) where
-  next_fits : (takes ≡ true) ↔ Fits (SetHolds zones) behind time
+  next_fits : (takes ≡ true) ↔ BarsFit (SetHolds zones) behind time
   next_fits =
       let both = Fits-agree (SetHolds zones) behind there time at in
       ((λ e. both.1 (begun.fits.0 e)), (λ fits. begun.fits.1 (both.0 fits)))
@@ -194,7 +194,7 @@ module _ (zones : List ZoneBounds) (canonical : AreCanonical zones) (there behin
       (λ x. x.2.held a b n h) begun.pushed
 
   -- A run that begins at the time has the bars behind it.
-  same_behind : (others : List Bar) (start end : ℕ) → IsRun (SetHolds zones) others start end
+  same_behind : (others : List Bar) (start end : ℕ) → IsRunOfBars (SetHolds zones) others start end
       → start ≡ time → others ≡ behind
   same_behind others start end run is =
       let rises = run.rising in
@@ -205,7 +205,7 @@ module _ (zones : List ZoneBounds) (canonical : AreCanonical zones) (there behin
       (omega arith) (omega arith) next)
 
   -- Where neither run takes the time, it is alone.
-  is_alone : ((others : List Bar) (start end : ℕ) → IsRun (SetHolds zones) others start end
+  is_alone : ((others : List Bar) (start end : ℕ) → IsRunOfBars (SetHolds zones) others start end
       → start < time → IsInStrip (SetHolds zones) others start end time 1 → taken ≡ true)
       → taken ≡ false → takes ≡ false → IsAlone (SetHolds zones) time
   is_alone before free free' = record {
@@ -215,9 +215,9 @@ module _ (zones : List ZoneBounds) (canonical : AreCanonical zones) (there behin
         true≢false (sym (before others start end run early strip) ∙ free))
         (λ (above : time ≤ start).
         let is : start ≡ time = omega arith in
-        let fits = subst (λ (l : List Bar). Fits (SetHolds zones) l time)
+        let fits = subst (λ (l : List Bar). BarsFit (SetHolds zones) l time)
         (same_behind others start end run is)
-        (subst (λ (k : ℕ). Fits (SetHolds zones) others k) is
+        (subst (λ (k : ℕ). BarsFit (SetHolds zones) others k) is
         (strip.first (omega arith))) in
         true≢false (sym (next_fits.1 fits) ∙ free'))
         (cases_lt start time);
@@ -233,7 +233,7 @@ module _ (zones : List ZoneBounds) (canonical : AreCanonical zones) (there behin
         ((λ h. both.1 (one.0 h)), (λ h. one.1 (both.0 h)));
   }
 
-  sound_begun : ((others : List Bar) (start end : ℕ) → IsRun (SetHolds zones) others start end
+  sound_begun : ((others : List Bar) (start end : ℕ) → IsRunOfBars (SetHolds zones) others start end
       → start < time → IsInStrip (SetHolds zones) others start end time 1 → taken ≡ true)
       → ((zone : ZoneBounds) → Contains mid zone
       → IsCanonical zone × IsStripZone (SetHolds zones) zone)
@@ -334,7 +334,7 @@ IsSpun-first zones there behind time until takes new canonical start less at nex
 pub IsSpun-on : (zones : List ZoneBounds) (bars there behind : List Bar) (from time until : ℕ)
     (takes : Bool) (found : List ZoneBounds) → time < until
     → IsProfile (SetHolds zones) there time time → IsProfile (SetHolds zones) behind time until
-    → GoesOn bars there behind time → IsSpun zones bars from takes found time
+    → ProfileGoesOn bars there behind time → IsSpun zones bars from takes found time
     → IsSpun zones bars from takes found until
 IsSpun-on zones bars there behind from time until takes found less at next goes spun =
     let rising = spun.rising in
@@ -359,20 +359,20 @@ module _ (zones : List ZoneBounds) (canonical : AreCanonical zones)
     (old mid new : List ZoneBounds) (later : time < until)
     (at : IsProfile (SetHolds zones) there time time)
     (next : IsProfile (SetHolds zones) behind time until)
-    (stops : GoesOn bars there behind time → ⊥)
-    (closes : Closes bars there from time takes taken old mid)
+    (stops : ProfileGoesOn bars there behind time → ⊥)
+    (closes : ClosesRun bars there from time takes taken old mid)
     (begun : Begun there behind time taken takes' mid new)
     (spun : IsSpun zones bars from takes old time) where
-  last_fits : (taken ≡ true) ↔ Fits (SetHolds zones) bars time
+  last_fits : (taken ≡ true) ↔ BarsFit (SetHolds zones) bars time
   last_fits =
       let both = Fits-agree (SetHolds zones) bars there time at in
       ((λ e. both.1 (closes.fits.0 e)), (λ fits. closes.fits.1 (both.0 fits)))
 
-  is_run : IsRun (SetHolds zones) bars from time
+  is_run : IsRunOfBars (SetHolds zones) bars from time
   is_run = IsRun-closed (SetHolds zones) bars there behind from time until spun.rising later
       spun.profile at next spun.first stops
 
-  same_run : (others : List Bar) (start end : ℕ) → IsRun (SetHolds zones) others start end
+  same_run : (others : List Bar) (start end : ℕ) → IsRunOfBars (SetHolds zones) others start end
       → start < time → from < end → (others ≡ bars) × (start ≡ from) × (end ≡ time)
   same_run others start end run early late =
       IsRun-same (SetHolds zones) bars there behind from time until spun.rising later spun.profile
@@ -390,7 +390,7 @@ module _ (zones : List ZoneBounds) (canonical : AreCanonical zones)
   kept_on = kept zones canonical there behind time until taken takes' mid new later at next begun
 
   runs_again : (others : List Bar) (start end : ℕ) (bar : Bar) (zone : ZoneBounds)
-      → IsRun (SetHolds zones) others start end → start < time → Contains others bar
+      → IsRunOfBars (SetHolds zones) others start end → start < time → Contains others bar
       → IsCanonical zone → IsZoneOf zone (IsInBlock (SetHolds zones) others start end bar)
       → Contains new zone
   runs_again others start end bar zone run early has is_canonical is =
@@ -422,15 +422,15 @@ module _ (zones : List ZoneBounds) (canonical : AreCanonical zones)
     last = λ e. last_fits.0 (last (omega arith));
   }
 
-  before : (others : List Bar) (start end : ℕ) → IsRun (SetHolds zones) others start end
+  before : (others : List Bar) (start end : ℕ) → IsRunOfBars (SetHolds zones) others start end
       → start < time → IsInStrip (SetHolds zones) others start end time 1 → taken ≡ true
   before others start end run early strip =
       let high = strip.high in
       let rising = spun.rising in
       let same = same_run others start end run early (omega arith) in
       let ends = same.2 in
-      last_fits.1 (subst (λ (l : List Bar). Fits (SetHolds zones) l time) same.0
-      (subst (λ (k : ℕ). Fits (SetHolds zones) others k) same.2
+      last_fits.1 (subst (λ (l : List Bar). BarsFit (SetHolds zones) l time) same.0
+      (subst (λ (k : ℕ). BarsFit (SetHolds zones) others k) same.2
       (strip.last (omega arith))))
 
   sound_mid : (zone : ZoneBounds) → Contains mid zone

@@ -10,7 +10,7 @@ use Rattle.tre_zone.specs.declared.zone_bounds.ZoneBounds.{ZoneBounds}
 use Rattle.tre_zone.proofs.Ranges.{canonical-ranges}
 use Rattle.tre_zone.proofs.ZoneListLemmas.{SetHolds-empty, SetHolds-append}
 use Rattle.tre_strips.specs.Profile.{IsIn, IsProfile}
-use Rattle.tre_strips.specs.Sweep.{begin_of, last_begin_of, AreInTurn, IsSwept, BeginFrom, BeginsBehind, SameBehind}
+use Rattle.tre_strips.specs.Sweep.{begin_of, last_begin_of, BeginInTurn, IsSwept, PairsBeginFrom, BeginsBehind, SameBehind}
 use Rattle.tre_strips.specs.declared.bar.Bar.{Bar}
 
 -- ---- when pairs of a zone begin
@@ -55,7 +55,7 @@ BeginsBehind-last zone canonical time last is = by (nat_lt time last) refl
 
 waits_at : (zones : List ZoneBounds) (least : ℕ) → AreCanonical zones
     → ((k : ℕ) (d : ZoneBounds) → k < length zones → least ≤ begin_of (get_or zones k d))
-    → BeginFrom least zones
+    → PairsBeginFrom least zones
 unfolding SetHolds AreCanonical
 waits_at [] least canonical each = record { begin = λ a b n some h. absurd h }
 waits_at (zone ∷ zones) least canonical each =
@@ -78,9 +78,9 @@ canonical_drop zero zones canonical = canonical
 canonical_drop (suc i) [] canonical = tt
 canonical_drop (suc i) (zone ∷ zones) canonical = canonical_drop i zones canonical.1
 
-pub BeginFrom-waiting : (zones : List ZoneBounds) (place : ℕ) → AreInTurn zones
+pub BeginFrom-waiting : (zones : List ZoneBounds) (place : ℕ) → BeginInTurn zones
     → place < length zones → (d : ZoneBounds)
-    → BeginFrom (begin_of (get_or zones place d)) (drop place zones)
+    → PairsBeginFrom (begin_of (get_or zones place d)) (drop place zones)
 BeginFrom-waiting zones place turn within d =
     waits_at (drop place zones) _ (canonical_drop place zones turn.canonical)
     (λ k e below.
@@ -90,7 +90,7 @@ BeginFrom-waiting zones place turn within d =
     (turn.order place (place + k) e (omega arith) (omega (arith, below)))))
 
 pub BeginFrom-none : (zones : List ZoneBounds) (place time : ℕ) → length zones ≤ place
-    → BeginFrom time (drop place zones)
+    → PairsBeginFrom time (drop place zones)
 BeginFrom-none zones place time past = record {
   begin = λ a b n some h. absurd (SetHolds-empty a b n (rw (drop_all place zones past) at h));
 }
@@ -184,7 +184,7 @@ module _ {F : Type 0} (R : F → ZoneBounds → Bool → F → Type 0) (time : �
 -- At the time no zone that waits begins.
 pub IsProfile-there : (zones here : List ZoneBounds) (bars : List Bar)
     (waiting time next from until : ℕ) → from ≡ time → until ≡ time
-    → IsSwept zones here waiting time → time < next → BeginFrom next (drop waiting zones)
+    → IsSwept zones here waiting time → time < next → PairsBeginFrom next (drop waiting zones)
     → IsProfile (SetHolds here) bars from until → IsProfile (SetHolds zones) bars time time
 IsProfile-there zones here bars waiting time next from until is is' now later ahead profile =
     record {
@@ -214,7 +214,7 @@ IsProfile-there zones here bars waiting time next from until is is' now later ah
 pub IsProfile-behind : (zones here kept : List ZoneBounds) (bars : List Bar)
     (waiting time next from until : ℕ) → from ≡ time → from < until → until ≤ next
     → IsSwept zones here waiting time → SameBehind time here kept
-    → BeginFrom next (drop waiting zones)
+    → PairsBeginFrom next (drop waiting zones)
     → IsProfile (SetHolds kept) bars from until → IsProfile (SetHolds zones) bars time until
 IsProfile-behind zones here kept bars waiting time next from until is many within now same ahead
     profile = record {

@@ -14,10 +14,10 @@ use Rattle.tre_zoneset.proofs.Members.{SetHolds-any}
 use Rattle.tre_zoneset.proofs.Thinning.{SetHolds-permutation}
 use Rattle.tre_strips.specs.Bar.{place_of, BarsHold, RiseFrom}
 use Rattle.tre_strips.specs.Profile.{IsProfile}
-use Rattle.tre_strips.specs.Runs.{IsRun, IsAlone, IsInBlock, IsInColumn}
+use Rattle.tre_strips.specs.Runs.{IsRunOfBars, IsAlone, IsInBlock, IsInColumn}
 use Rattle.tre_strips.specs.Strips.{IsStripZone, of_run, of_time}
 use Rattle.tre_strips.specs.Spun.{IsSpun, HaveSamePairs, AreFound}
-use Rattle.tre_strips.specs.Sweep.{begin_of, AreInTurn, IsColumn}
+use Rattle.tre_strips.specs.Sweep.{begin_of, BeginInTurn, IsColumn}
 use Rattle.tre_strips.specs.declared.bar.Bar.{Bar}
 use Rattle.tre_strips.specs.declared.column.Column.{Column}
 use Rattle.tre_strips.proofs.Lists.{BarsHold-none}
@@ -133,7 +133,7 @@ module _ (zones : List ZoneBounds) (canonical : AreCanonical zones) where
         ((fits.exact b n some).1 (subst (λ (k : ℕ). SetHolds zones k b n) x.0 h))) where_it
 
     found_run : (others : List Bar) (start end : ℕ) (bar : Bar) (zone : ZoneBounds)
-        → IsRun (SetHolds zones) others start end → Contains others bar → IsCanonical zone
+        → IsRunOfBars (SetHolds zones) others start end → Contains others bar → IsCanonical zone
         → IsZoneOf zone (IsInBlock (SetHolds zones) others start end bar) → Contains found zone
     found_run others start end bar zone run has is_canonical is =
         let rises = run.rising in
@@ -215,7 +215,7 @@ canonical_again (zone ∷ zones) each = (
 )
 
 pub AreInTurn-sorted : (zones sorted : List ZoneBounds) → IsPermutation zones sorted
-    → AreCanonical zones → IsNonDecreasingBy begin_of sorted → AreInTurn sorted
+    → AreCanonical zones → IsNonDecreasingBy begin_of sorted → BeginInTurn sorted
 AreInTurn-sorted zones sorted order canonical rising = record {
   order = rising;
   canonical = canonical_again sorted

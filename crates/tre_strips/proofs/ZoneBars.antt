@@ -10,8 +10,8 @@ use Rattle.tre_zone.proofs.ZoneListLemmas.{SetHolds-empty}
 use Rattle.tre_zoneset.proofs.Members.{SetHolds-more}
 use Rattle.tre_strips.specs.Bar.{place_of}
 use Rattle.tre_strips.specs.Profile.{IsProfile}
-use Rattle.tre_strips.specs.Profiles.{low_of, high_of, Begin, IsBarOf, AreFilledOver, AreBarsOf, IsUnion}
-use Rattle.tre_strips.specs.Times.{IsTime, Narrows, Compares, IsLater, IsEarlier}
+use Rattle.tre_strips.specs.Profiles.{low_of, bar_end_of, Begin, IsBarOf, AreFilledOver, AreBarsOf, IsUnionOfBars}
+use Rattle.tre_strips.specs.Times.{IsAmongTimes, Narrows, Compares, IsLater, IsEarlier}
 use Rattle.tre_strips.specs.declared.bar.Bar.{Bar}
 use Rattle.tre_strips.specs.declared.bar.BarEnd.{BarEnd}
 use Rattle.tre_strips.specs.declared.times.Times.{Times}
@@ -49,11 +49,11 @@ rises false v a n x h = omega arith
 -- A pair of the zone, by the places of its bounds.
 pub record AreBetween (zone : ZoneBounds) (a b n : ℕ) : Type 0 where
   pub begin_low : place_of (low_of zone.begin_low false) a n ≤ 2 * a
-  pub begin_high : 2 * a < place_of (high_of zone.begin_high false) a n
+  pub begin_high : 2 * a < place_of (bar_end_of zone.begin_high false) a n
   pub end_low : place_of (low_of zone.end_low false) a n ≤ 2 * b
-  pub end_high : 2 * b < place_of (high_of zone.end_high false) a n
+  pub end_high : 2 * b < place_of (bar_end_of zone.end_high false) a n
   pub dur_low : place_of (low_of zone.dur_low true) a n ≤ 2 * b
-  pub dur_high : 2 * b < place_of (high_of zone.dur_high true) a n
+  pub dur_high : 2 * b < place_of (bar_end_of zone.dur_high true) a n
 
 abbrev ticks : ℤ → ℕ
 ticks key = nat_abs (value_of key)
@@ -101,7 +101,7 @@ IsBarOf-outside times zone canonical begins = record {
 pub IsBarOf-empty : (mid late times : Times) (zone : ZoneBounds) (low high : BarEnd)
     → IsCanonical zone → Narrows mid times → Narrows late times
     → IsLater mid (low_of zone.end_low false) (low_of zone.dur_low true) low
-    → IsEarlier late (high_of zone.end_high false) (high_of zone.dur_high true) high
+    → IsEarlier late (bar_end_of zone.end_high false) (bar_end_of zone.dur_high true) high
     → Compares false times low high → IsBarOf times zone None
 IsBarOf-empty mid late times zone low high canonical cut cut' later earlier above = record {
   each = λ a n time b h.
@@ -120,7 +120,7 @@ pub IsBarOf-some : (early mid late times : Times) (zone : ZoneBounds) (bar : Bar
     → IsCanonical zone → Narrows early times → Narrows mid times → Narrows late times
     → Begin true early zone.begin_low zone.begin_high
     → IsLater mid (low_of zone.end_low false) (low_of zone.dur_low true) bar.low
-    → IsEarlier late (high_of zone.end_high false) (high_of zone.dur_high true) bar.high
+    → IsEarlier late (bar_end_of zone.end_high false) (bar_end_of zone.dur_high true) bar.high
     → Compares true times bar.low bar.high → IsBarOf times zone (Some bar)
 IsBarOf-some early mid late times zone bar canonical cut cut' cut'' begins later earlier less =
     record {
@@ -172,7 +172,7 @@ Begin-before times low high less = record {
 
 pub Begin-told : (old times : Times) (low high : ℤ) (within : Bool) → Narrows old times
     → Compares false old the_begin (low_of low false)
-    → Compares within times the_begin (high_of high false) → Begin within times low high
+    → Compares within times the_begin (bar_end_of high false) → Begin within times low high
 Begin-told old times low high true cut above less = record {
   each = λ a n time.
       let at = at_begin a n in
@@ -252,11 +252,11 @@ pub AreBarsOf-filled : (times : Times) (zones : List ZoneBounds) (bars : List Ba
 AreBarsOf-filled times zones bars are = record { each = are.filled }
 
 pub IsProfile-union : (old times : Times) (zones : List ZoneBounds) (bars union : List Bar)
-    → AreBarsOf old zones bars → Narrows old times → IsUnion times bars union
+    → AreBarsOf old zones bars → Narrows old times → IsUnionOfBars times bars union
     → IsProfile (SetHolds zones) union times.from times.until
 IsProfile-union old times zones bars union are cut is = record {
   each = λ a n some inside.
-      let time : IsTime times a n = record { some = some; inside = inside } in
+      let time : IsAmongTimes times a n = record { some = some; inside = inside } in
       record {
         rising = is.rising a n time;
         exact = λ b.

@@ -23,8 +23,8 @@ AreSamePlaces (bar ∷ bars) (other ∷ others) a n =
     StandAlike a n bar other × AreSamePlaces bars others a n
 
 -- The bars are those behind the time, and stand where the profile does there.
-abbrev pub GoesOn : List Bar → List Bar → List Bar → ℕ → Type 0
-GoesOn bars there behind time = (bars ≡ behind) × AreSamePlaces bars there (2 * time) 2
+abbrev pub ProfileGoesOn : List Bar → List Bar → List Bar → ℕ → Type 0
+ProfileGoesOn bars there behind time = (bars ≡ behind) × AreSamePlaces bars there (2 * time) 2
 
 -- Over the time none of the bars is empty, and together they are the others.
 pub record Agree (time : ℕ) (bars others : List Bar) : Type 0 where

@@ -22,6 +22,6 @@ pub record IsProfile (M : Pairs) (bars : List Bar) (from until : ℕ) : Type 0 w
 
 -- The bars fit the time: over it none is empty, and together they are the ends of the pairs of M
 -- that begin there. They may touch.
-pub record Fits (M : Pairs) (bars : List Bar) (time : ℕ) : Type 0 where
+pub record BarsFit (M : Pairs) (bars : List Bar) (time : ℕ) : Type 0 where
   pub filled : (n : ℕ) → 0 < n → AreFilled bars (time * n) n
   pub exact : (b n : ℕ) → 0 < n → BarsHold bars (time * n) b n ↔ M (time * n) b n

@@ -2,12 +2,12 @@
 use Rattle.std.specs.Prelude.{◌≡◌, ℕ, ◌*◌, ◌<◌, ◌≤◌, List}
 use Rattle.tre_pairs.specs.Pairs.{Pairs}
 use Rattle.tre_strips.specs.Bar.{BarHolds}
-use Rattle.tre_strips.specs.Profile.{IsProfile, Fits}
+use Rattle.tre_strips.specs.Profile.{IsProfile, BarsFit}
 use Rattle.tre_strips.specs.declared.bar.Bar.{Bar}
 
 -- A run: over all times strictly between two whole ones the bars are the profile of M, and over no
 -- longer stretch of time that takes these in.
-pub record IsRun (M : Pairs) (bars : List Bar) (from until : ℕ) : Type 0 where
+pub record IsRunOfBars (M : Pairs) (bars : List Bar) (from until : ℕ) : Type 0 where
   pub rising : from < until
   pub profile : IsProfile M bars from until
   pub longest : (start end : ℕ) → start ≤ from → until ≤ end → IsProfile M bars start end
@@ -18,12 +18,12 @@ pub record IsRun (M : Pairs) (bars : List Bar) (from until : ℕ) : Type 0 where
 pub record IsInStrip (M : Pairs) (bars : List Bar) (from until a n : ℕ) : Type 0 where
   pub low : from * n ≤ a
   pub high : a ≤ until * n
-  pub first : a ≡ from * n → Fits M bars from
-  pub last : a ≡ until * n → Fits M bars until
+  pub first : a ≡ from * n → BarsFit M bars from
+  pub last : a ≡ until * n → BarsFit M bars until
 
 -- No strip of a run has this time.
 pub record IsAlone (M : Pairs) (time : ℕ) : Type 0 where
-  pub none : (bars : List Bar) (from until : ℕ) → IsRun M bars from until
+  pub none : (bars : List Bar) (from until : ℕ) → IsRunOfBars M bars from until
       → IsInStrip M bars from until time 1 → ⊥
 
 -- The pairs that begin in the strip of a run and end on one of its bars.

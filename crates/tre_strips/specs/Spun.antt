@@ -3,15 +3,15 @@ use Rattle.std.specs.Prelude.{◌≡◌, ℕ, ◌*◌, ◌<◌, ◌≤◌, ◌�
 use Rattle.tre_zone.specs.Zone.{IsCanonical, IsZoneOf}
 use Rattle.tre_zone.specs.ZoneList.{SetHolds, HoldExactly}
 use Rattle.tre_zone.specs.declared.zone_bounds.ZoneBounds.{ZoneBounds}
-use Rattle.tre_strips.specs.Profile.{IsProfile, Fits}
-use Rattle.tre_strips.specs.Runs.{IsRun, IsAlone, IsInBlock, IsInColumn}
+use Rattle.tre_strips.specs.Profile.{IsProfile, BarsFit}
+use Rattle.tre_strips.specs.Runs.{IsRunOfBars, IsAlone, IsInBlock, IsInColumn}
 use Rattle.tre_strips.specs.Strips.{IsStripZone}
 use Rattle.tre_strips.specs.Found.{Agree, Pushes}
 use Rattle.tre_strips.specs.declared.bar.Bar.{Bar}
 
 -- The run of the bars was closed at the time, and its strip found; `taken` says whether it takes
 -- that time, over which the profile is `there`.
-pub record Closes (bars there : List Bar) (from time : ℕ) (takes taken : Bool)
+pub record ClosesRun (bars there : List Bar) (from time : ℕ) (takes taken : Bool)
     (old new : List ZoneBounds) : Type 0 where
   pub fits : (taken ≡ true) ↔ Agree time bars there
   pub pushed : Pushes (record {
@@ -48,11 +48,11 @@ pub record IsSpun (zones : List ZoneBounds) (bars : List Bar) (from : ℕ) (take
   pub profile : IsProfile (SetHolds zones) bars from time
   pub first : (start : ℕ) → start ≤ from → IsProfile (SetHolds zones) bars start time
       → start ≡ from
-  pub takes : (takes_from ≡ true) ↔ Fits (SetHolds zones) bars from
+  pub takes : (takes_from ≡ true) ↔ BarsFit (SetHolds zones) bars from
   pub sound : (zone : ZoneBounds) → Contains found zone
       → IsCanonical zone × IsStripZone (SetHolds zones) zone
   pub runs : (others : List Bar) (start end : ℕ) (bar : Bar) (zone : ZoneBounds)
-      → IsRun (SetHolds zones) others start end → start < from → Contains others bar
+      → IsRunOfBars (SetHolds zones) others start end → start < from → Contains others bar
       → IsCanonical zone → IsZoneOf zone (IsInBlock (SetHolds zones) others start end bar)
       → Contains found zone
   pub alone : (others : List Bar) (moment : ℕ) (bar : Bar) (zone : ZoneBounds)

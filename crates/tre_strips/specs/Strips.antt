@@ -4,13 +4,13 @@ use Rattle.tre_pairs.specs.Pairs.{Pairs}
 use Rattle.tre_zone.specs.Zone.{IsTight, IsZoneOf}
 use Rattle.tre_zone.specs.declared.zone_bounds.ZoneBounds.{ZoneBounds}
 use Rattle.tre_strips.specs.Profile.{IsProfile}
-use Rattle.tre_strips.specs.Runs.{IsRun, IsAlone, IsInBlock, IsInColumn}
+use Rattle.tre_strips.specs.Runs.{IsRunOfBars, IsAlone, IsInBlock, IsInColumn}
 use Rattle.tre_strips.specs.declared.bar.Bar.{Bar}
 
 -- The zone is one of the strips of M: it is that of a bar of a run, or that of a bar over a time
 -- that is in no run's strip.
 pub data IsStripZone (M : Pairs) (zone : ZoneBounds) : Type 0 where
-  of_run : (bars : List Bar) (from until : ℕ) (bar : Bar) → IsRun M bars from until
+  of_run : (bars : List Bar) (from until : ℕ) (bar : Bar) → IsRunOfBars M bars from until
       → Contains bars bar → IsZoneOf zone (IsInBlock M bars from until bar) → IsStripZone M zone
   of_time : (bars : List Bar) (time : ℕ) (bar : Bar) → IsAlone M time
       → IsProfile M bars time time

@@ -18,7 +18,7 @@ unfoldable pub last_begin_of : ZoneBounds → ℕ
 last_begin_of zone = nat_abs (value_of zone.begin_high)
 
 -- The zones are in the order of their first begins.
-pub record AreInTurn (zones : List ZoneBounds) : Type 0 where
+pub record BeginInTurn (zones : List ZoneBounds) : Type 0 where
   pub order : IsNonDecreasingBy begin_of zones
   pub canonical : AreCanonical zones
 
@@ -30,7 +30,7 @@ pub record IsSwept (zones here : List ZoneBounds) (waiting time : ℕ) : Type 0 
       → SetHolds zones a b n ↔ (SetHolds here a b n ⊎ SetHolds (drop waiting zones) a b n)
 
 -- Pairs of the zones begin at the time or later.
-pub record BeginFrom (time : ℕ) (zones : List ZoneBounds) : Type 0 where
+pub record PairsBeginFrom (time : ℕ) (zones : List ZoneBounds) : Type 0 where
   pub begin : (a b n : ℕ) → 0 < n → SetHolds zones a b n → time * n ≤ a
 
 -- Whether pairs of the zone may begin behind the time.

@@ -2,7 +2,7 @@
 ghost use Rattle.std.specs.Prelude.{◌≡◌, ◌<◌, ◌≤◌, length, drop, slice_index_or};
 ghost use Rattle.tre_zone.specs.Zone.{IsCanonical};
 ghost use Rattle.tre_zone.specs.declared.zone_bounds.ZoneBounds.{ZoneBounds};
-ghost use Rattle.tre_strips.specs.Sweep.{begin_of, last_begin_of, AreInTurn, BeginFrom, BeginsBehind, SameBehind};
+ghost use Rattle.tre_strips.specs.Sweep.{begin_of, last_begin_of, BeginInTurn, PairsBeginFrom, BeginsBehind, SameBehind};
 
 use tre_pairs::TIME_MAX;
 use tre_zone::Zone;
@@ -33,13 +33,13 @@ pub(crate) fn first_waiting(zones: &[Zone], waiting: usize, time: u64) -> usize
 
 /// The first time at which a zone from the place on begins, or the first past all times.
 pub(crate) fn next_begin(zones: &[Zone], place: usize, time: u64) -> u64
-    requires turn { AreInTurn zones.now }
+    requires turn { BeginInTurn zones.now }
     requires limit { time ≤ TIME_MAX }
     requires count { place ≤ length zones.now }
     requires behind { (zone : ZoneBounds) → place < length zones.now
         → time < begin_of (slice_index_or zones.now place zone) }
     ensures later { time < result }
-    ensures first { BeginFrom result (drop place zones.now) }
+    ensures first { PairsBeginFrom result (drop place zones.now) }
 {
     if place < zones.len() {
         first_begin(&zones[place])

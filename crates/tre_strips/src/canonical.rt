@@ -8,7 +8,7 @@ ghost use Rattle.tre_zone.specs.declared.zone_bounds.ZoneBounds.{ZoneBounds};
 ghost use Rattle.tre_strips.specs.Listed.{line_key, compare_lines, AreListed};
 ghost use Rattle.tre_strips.specs.Strips.{AreStrips};
 ghost use Rattle.tre_strips.specs.Spun.{HaveSamePairs, AreFound};
-ghost use Rattle.tre_strips.specs.Sweep.{begin_of, AreInTurn};
+ghost use Rattle.tre_strips.specs.Sweep.{begin_of, BeginInTurn};
 
 use crate::begins::first_begin;
 use crate::column::{Column, Sweep};
@@ -36,7 +36,7 @@ pub fn strips(alloc: Global, set: &ZoneSet) -> Result<Vec<Zone>, AllocError>
 // The zones in the order of their first begins.
 fn in_turn(zones: Vec<Zone>) -> Vec<Zone>
     requires { AreCanonical zones.items }
-    ensures turn { AreInTurn result.items }
+    ensures turn { BeginInTurn result.items }
     ensures same { HaveSamePairs zones.items result.items }
 {
     let mut sorted = zones;
@@ -50,7 +50,7 @@ fn in_turn(zones: Vec<Zone>) -> Vec<Zone>
 
 // The strips of zones in the order of their first begins.
 fn strips_of(alloc: Global, zones: &[Zone]) -> Result<Vec<Zone>, AllocError>
-    requires { AreInTurn zones.now }
+    requires { BeginInTurn zones.now }
     ensures { IfOk result (λ found. (set : List ZoneBounds) → AreCanonical set
         → HaveSamePairs set zones.now → AreFound set found.items) }
 {

@@ -42,7 +42,7 @@ pub(crate) struct Sweep {
 }
 
 impl Sweep {
-    ghost use Rattle.tre_strips.specs.Sweep.{AreInTurn, IsSwept, IsColumn};
+    ghost use Rattle.tre_strips.specs.Sweep.{BeginInTurn, IsSwept, IsColumn};
 
     /// The pass before the first column.
     pub(crate) fn new(alloc: Global) -> Sweep
@@ -64,7 +64,7 @@ impl Sweep {
         zones: &[Zone],
         column: &mut Column,
     ) -> Result<(), AllocError>
-        requires turn { AreInTurn zones.now }
+        requires turn { BeginInTurn zones.now }
         requires limit { self.old.time ≤ TIME_MAX }
         requires swept { IsSwept zones.now self.old.open_zones.items self.old.waiting
             self.old.time }

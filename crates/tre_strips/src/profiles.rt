@@ -5,7 +5,7 @@ ghost use Rattle.tre_zone.specs.ZoneList.{SetHolds};
 ghost use Rattle.tre_strips.specs.Bar.{place_of};
 ghost use Rattle.tre_strips.specs.declared.bar.Bar.{Bar};
 ghost use Rattle.tre_strips.specs.Profile.{IsProfile};
-ghost use Rattle.tre_strips.specs.Profiles.{Begin, IsBarOf, AreFilledOver, AreBarsOf, IsUnion, IsJoined, Extends, low_of, high_of};
+ghost use Rattle.tre_strips.specs.Profiles.{Begin, IsBarOf, AreFilledOver, AreBarsOf, IsUnionOfBars, IsJoined, ExtendsBars, low_of, bar_end_of};
 ghost use Rattle.tre_strips.specs.Times.{Narrows, sample_of, IsLater, IsEarlier};
 
 use crate::bar::{Bar, BarEnd};
@@ -36,7 +36,7 @@ pub(crate) fn profile(
 fn unite(alloc: Global, bars: &mut Vec<Bar>, times: &mut Times) -> Result<(), AllocError>
     requires { AreFilledOver times.old bars.old.items }
     ensures narrowed { OnOk result (Narrows times.old times.new) }
-    ensures union { OnOk result (IsUnion times.new bars.old.items bars.new.items) }
+    ensures union { OnOk result (IsUnionOfBars times.new bars.old.items bars.new.items) }
 {
     // Mostly there is one bar, and no memory is asked for.
     if bars.len() < 2 {
@@ -56,7 +56,7 @@ pub(crate) fn united(
 ) -> Result<Vec<Bar>, AllocError>
     requires { AreFilledOver times.old bars.items }
     ensures narrowed { OnOk result (Narrows times.old times.new) }
-    ensures union { IfOk result (λ union. IsUnion times.new bars.items union.items) }
+    ensures union { IfOk result (λ union. IsUnionOfBars times.new bars.items union.items) }
 {
     let bars = in_order(bars, times);
     match bars.split_first() {
@@ -95,7 +95,7 @@ fn joined(
     requires filled { AreFilledOver times.old (first.now ∷ rest.now) }
     ensures narrowed { OnOk result (Narrows times.old times.new) }
     ensures union { IfOk result (λ union.
-        IsUnion times.new (first.now ∷ rest.now) union.items) }
+        IsUnionOfBars times.new (first.now ∷ rest.now) union.items) }
 {
     let mut joined = Vec::new(alloc);
     let mut last = *first;
@@ -118,7 +118,7 @@ fn extend(
         ≤ place_of bar.now.low (sample_of times.old) 2 }
     ensures narrowed { Narrows times.old times.new }
     ensures extended { IfOk result (λ next.
-        Extends times.new last.now bar.now joined.old.items joined.new.items next) }
+        ExtendsBars times.new last.now bar.now joined.old.items joined.new.items next) }
 {
     if times.is_before(&last.high, &bar.low) {
         joined.push(*last)?;
@@ -215,7 +215,7 @@ fn low_end(bound: &Bound, moves: bool) -> BarEnd
 }
 
 fn high_end(bound: &Bound, moves: bool) -> BarEnd
-    ensures { result ≡ high_of bound.now moves }
+    ensures { result ≡ bar_end_of bound.now moves }
 {
     BarEnd {
         ticks: bound.value().unsigned_abs(),

@@ -3,10 +3,10 @@ ghost use Rattle.std.specs.Prelude.{◌≡◌, ◌*◌, ◌<◌, ◌↔◌, List
 ghost use Rattle.tre_zone.specs.ZoneList.{SetHolds, AreCanonical};
 ghost use Rattle.tre_zone.specs.declared.zone_bounds.ZoneBounds.{ZoneBounds};
 ghost use Rattle.tre_strips.specs.Bar.{place_of, AreFilled};
-ghost use Rattle.tre_strips.specs.Spun.{Closes, FindsAlone, Begun, IsSpun};
+ghost use Rattle.tre_strips.specs.Spun.{ClosesRun, FindsAlone, Begun, IsSpun};
 ghost use Rattle.tre_strips.specs.Sweep.{IsColumn};
 ghost use Rattle.tre_strips.specs.Times.{sample_of};
-ghost use Rattle.tre_strips.specs.Found.{StandAlike, AreSamePlaces, GoesOn, Agree, RiseAt};
+ghost use Rattle.tre_strips.specs.Found.{StandAlike, AreSamePlaces, ProfileGoesOn, Agree, RiseAt};
 
 use crate::bar::Bar;
 use crate::column::Column;
@@ -102,7 +102,7 @@ impl Run {
     fn goes_on(&self, column: &Column) -> bool
         requires { column.now.time < column.now.until }
         ensures { IsTrue result
-            ↔ GoesOn self.now.bars.items column.now.there.items column.now.behind.items
+            ↔ ProfileGoesOn self.now.bars.items column.now.there.items column.now.behind.items
             column.now.time }
     {
         let behind = Times {
@@ -123,7 +123,7 @@ impl Run {
     ) -> Result<bool, AllocError>
         requires { RiseAt column.now.time column.now.there.items }
         ensures { IfOk result (λ taken.
-            Closes self.now.bars.items column.now.there.items self.now.from column.now.time
+            ClosesRun self.now.bars.items column.now.there.items self.now.from column.now.time
             self.now.takes_from taken found.old.items found.new.items) }
     {
         let fits = fit(alloc, column.time, &self.bars, &column.there)?;

@@ -6,7 +6,7 @@ use Rattle.tre_trace.specs.declared.segment.Segment.{Segment}
 use Rattle.tre_trace.specs.Literal.{HoldsBetween, LiteralMatches}
 use Rattle.tre_trace.specs.Trace.{Timeline, end_of, AreLong}
 use Rattle.tre_trace.proofs.Segments.{end_of-append}
-use Rattle.tre_syntax.specs.Neighbours.{MeetAt, BeginsWith, IsBetweenNeighbours, IsThroughout, IsWhereHappens}
+use Rattle.tre_syntax.specs.Neighbours.{MeetAt, HasEventAt, IsBetweenNeighbours, IsThroughout, IsWhereHappens}
 use Rattle.tre_syntax.specs.Rest.{HasEdge, HasEvent, EdgeMatches, EventMatches, whole}
 use Rattle.tre_syntax.proofs.Atoms.{end_of-le}
 
@@ -112,7 +112,7 @@ module _ (number : ℕ) where
   -- an event is one of a segment that begins there, or of the end
   event_in : (start : ℕ) (segments : List Segment) (last t : ℕ)
       → HasEvent number start segments last t
-      → BeginsWith number start segments t
+      → HasEventAt number start segments t
       ⊎ ((t ≡ end_of start segments) × (bit_at last number ≡ 1))
   event_in start [] last t h = inr h
   event_in start (s ∷ rest) last t h =
@@ -151,7 +151,7 @@ module _ (number : ℕ) where
   event_last start [] last happens = (refl, happens)
   event_last start (s ∷ rest) last happens = inr (event_last (start + s.len) rest last happens)
 
-  event_of : (segments : List Segment) (last t : ℕ) → BeginsWith number 0 segments t
+  event_of : (segments : List Segment) (last t : ℕ) → HasEventAt number 0 segments t
       ⊎ ((t ≡ end_of 0 segments) × (bit_at last number ≡ 1))
       → HasEvent number 0 segments last t
   event_of segments last t h =

@@ -28,7 +28,7 @@ pub record IsBetweenNeighbours (P Q : ℕ → Type 0) (segments : List Segment)
 
 -- A segment among whose events is the one of this number begins at the time t. The first of all
 -- segments begins at `start`.
-pub record BeginsWith (number start : ℕ) (segments : List Segment) (t : ℕ) : Type 0 where
+pub record HasEventAt (number start : ℕ) (segments : List Segment) (t : ℕ) : Type 0 where
   pub front : List Segment
   pub segment : Segment
   pub back : List Segment
@@ -42,7 +42,7 @@ pub record IsWhereHappens (number : ℕ) (trace : Timeline) (a b n : ℕ) : Type
   pub time : ℕ
   pub begin : a ≡ time * n
   pub end : b ≡ time * n
-  pub there : BeginsWith number 0 trace.segments time
+  pub there : HasEventAt number 0 trace.segments time
       ⊎ ((time ≡ end_of 0 trace.segments) × (bit_at trace.last number ≡ 1))
 
 -- Some time passes between a/n and b/n, all of it within the trace, and P holds of each segment

@@ -17,7 +17,7 @@ use Rattle.tre_trace.specs.Reading.{Grows, Recording, Stretch, Vocabulary, event
 use Rattle.tre_trace.specs.Trace.{IsTrace}
 use Rattle.tre_trace.specs.declared.segment.Segment.{Segment}
 use Rattle.tre_tell.specs.Ends.{EndsTelling}
-use Rattle.tre_feed.specs.Turn.{EndsTurn, HasRead, IsFed, StopsTurn}
+use Rattle.tre_feed.specs.Turn.{EndsTurn, HasRead, TurnIsFed, StopsTurn}
 use Rattle.tre_tell.specs.Outputs.{OutputTold, NothingWritten}
 use Rattle.tre_tell.specs.Sought.{Sought, all_names, sought_by}
 use Rattle.tre_tell.specs.Standing.{FirstBlocksStand}
@@ -76,7 +76,7 @@ pub record IsTelling (watched : Watched) (were_fed : List ℕ → Type 0)
     (file left found : Option (List ℕ)) (count : ℕ) (watch : Watch) (labels : List (List ℕ))
     (before now : Option (List ℕ)) : Type 0 where
   pub bytes : List ℕ
-  pub fed : IsFed were_fed watched.limit file left found count bytes
+  pub fed : TurnIsFed were_fed watched.limit file left found count bytes
   pub told : HasTold watch labels watched.scale watched.patterns
       (rows_for (all_names watched.patterns)
       (watched.recording false (take watched.limit bytes)).stretches) before now

@@ -9,7 +9,7 @@ use Rattle.tre_trace.specs.Reading.{Stretch, Vocabulary, segment_for, segments_f
 use Rattle.tre_trace.specs.Trace.{end_of, AreLong, IsTrace, Fits}
 use Rattle.tre_trace.specs.declared.segment.Segment.{Segment}
 use Rattle.tre_trace.proofs.Segments.{end_of-append, end_of-le}
-use Rattle.tre_feed.specs.Standing.{no_stretch}
+use Rattle.tre_feed.specs.Standing.{stretch_behind}
 use Rattle.tre_tell.specs.Telling.{rows_for, column_for, FirstFits, CanTell, CanTellAll}
 use Rattle.tre_tell.proofs.Stretches.{pushed_for}
 
@@ -86,15 +86,15 @@ CanTell-at watch then asked waiting can front next rest split stands = record {
 pub pushed_at : (asked : List Vocabulary) (told waiting : List Stretch) (place : ℕ)
     → place < length waiting
     → pushed_each (rows_for asked (told ++ take place waiting))
-    (column_for asked (get_or waiting place no_stretch))
+    (column_for asked (get_or waiting place stretch_behind))
     ≡ rows_for asked (told ++ take (suc place) waiting)
 pushed_at asked told waiting place below =
-    pushed_for asked (told ++ take place waiting) (get_or waiting place no_stretch)
+    pushed_for asked (told ++ take place waiting) (get_or waiting place stretch_behind)
     ∙ ap (rows_for asked) (append_assoc told (take place waiting) _
     ∙ ap (λ front. told ++ front) (sym (take_suc waiting place below)))
   where
     take_suc : (xs : List Stretch) (i : ℕ) → i < length xs
-        → take (suc i) xs ≡ take i xs ++ get_or xs i no_stretch ∷ []
+        → take (suc i) xs ≡ take i xs ++ get_or xs i stretch_behind ∷ []
     take_suc [] i below = absurd (omega (arith, below))
     take_suc (x ∷ xs) zero below = refl
     take_suc (x ∷ xs) (suc i) below =

@@ -3,8 +3,8 @@ use Rattle.std.specs.Prelude.{◌≡◌, ◌≢◌, ◌⊎◌, ℕ, false, List,
 use Rattle.std.specs.Io.KnownBytes.{Appends}
 use Rattle.tre_feed.specs.Input.{InputTold, AllReadsGood, OfAllBytes}
 use Rattle.tre_feed.specs.Outcome.{IsInputKind}
-use Rattle.tre_feed.specs.Comes.{ComesTo, MayGoOn, Outcome, refuses, exceeds, recording_within}
-use Rattle.tre_io.specs.Faults.{counted}
+use Rattle.tre_feed.specs.Comes.{InputComesTo, MayGoOn, Outcome, refuses, exceeds, recording_within}
+use Rattle.tre_io.specs.Faults.{count_after}
 use Rattle.tre_tell.specs.Outputs.{OutputTold, AllWritesGood}
 use Rattle.tre_tell.specs.Standing.{BlocksStand, FirstBlocksStand, BlockIsCut, IsOnlineAnswer, EndIsCut}
 use Rattle.tre_tell.specs.Watched.{Watched}
@@ -23,7 +23,7 @@ pub record IsTold (watched : Watched) (input : InputTold) (output : OutputTold) 
 pub record IsToldToFault (watched : Watched) (input : InputTold) (output : OutputTold)
     (outcome : Outcome) : Type 0 where
   pub opened : IsTrue input.now.opened
-  pub cause : ComesTo watched.recording watched.limit input.before.file input.now.left outcome
+  pub cause : InputComesTo watched.recording watched.limit input.before.file input.now.left outcome
   pub reads : AllReadsGood input
   pub stands : BlocksStand watched
       (recording_within watched.recording watched.limit cause.bytes).stretches output
@@ -32,7 +32,7 @@ pub record IsToldToFault (watched : Watched) (input : InputTold) (output : Outpu
 -- counted, and a source that is sound under the name has none. All that was complete was told.
 pub record IsToldToFailedRead (watched : Watched) (name : List ℕ) (input : InputTold)
     (output : OutputTold) : Type 0 where
-  pub cause : input.now.faults ≡ counted input.before.faults
+  pub cause : input.now.faults ≡ count_after input.before.faults
   pub unsound : IsTrue input.before.sound → input.before.name ≢ Some name
   pub goes_on : MayGoOn watched.recording watched.limit input
   pub stands : BlocksStand watched (watched.recording false goes_on.bytes).stretches output
@@ -40,7 +40,7 @@ pub record IsToldToFailedRead (watched : Watched) (name : List ℕ) (input : Inp
 -- A write failed, within the block of a segment or behind all blocks: one failure was counted.
 pub record IsToldToFailedWrite (watched : Watched) (input : InputTold) (output : OutputTold)
     : Type 0 where
-  pub cause : output.now.faults ≡ counted output.before.faults
+  pub cause : output.now.faults ≡ count_after output.before.faults
   pub reads : AllReadsGood input
   pub stands : BlockIsCut watched input output ⊎ EndIsCut watched input output
 

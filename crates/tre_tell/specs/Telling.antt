@@ -5,7 +5,7 @@ use Rattle.std.specs.List.{AllZip}
 use Rattle.std.specs.Io.KnownBytes.{Appends}
 use Rattle.tre_feed.specs.Standing.{Asks, Wait}
 use Rattle.tre_feed.specs.declared.input.Input.{Input}
-use Rattle.tre_io.specs.Faults.{counted}
+use Rattle.tre_io.specs.Faults.{count_after}
 use Rattle.tre_online.specs.Watch.{trees_of, ended_of_each, Watches, AreAlike, pushed_each}
 use Rattle.tre_online.specs.declared.watch.Watch.{Watch}
 use Rattle.tre_trace.specs.Reading.{Stretch, Vocabulary, segment_for, segments_for}
@@ -133,7 +133,7 @@ pub record StopsWithin (scale : ℕ) (patterns : List Sought) (told waiting : Li
 -- A failed write is one that was counted, and nothing else raises the count.
 abbrev pub HasWriteCause : {T : Type 0} → ℕ → ℕ → Result T Fault → Type 0
 HasWriteCause before now (Ok value) = now ≡ before
-HasWriteCause before now (Err Write) = now ≡ counted before
+HasWriteCause before now (Err Write) = now ≡ count_after before
 HasWriteCause before now (Err fault) = now ≡ before
 
 -- The blocks of traces were written, and what their ends complete, and where they end.

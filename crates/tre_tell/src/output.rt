@@ -1,7 +1,7 @@
 // What is written.
 ghost use Rattle.std.specs.Prelude.{◌≡◌, IfErr, OnOk, OnErr};
 ghost use Rattle.std.specs.Io.KnownBytes.{Appends};
-ghost use Rattle.tre_io.specs.Faults.{counted};
+ghost use Rattle.tre_io.specs.Faults.{count_after};
 ghost use Rattle.tre_io.specs.Written.{AppendsPart};
 
 use tre_feed::Fault;
@@ -13,7 +13,7 @@ pub fn write_text<O: Sink>(text: &str, out: &mut O) -> Result<(), Fault>
     ensures good { OnOk result ((O.told out.new).faults ≡ (O.told out.old).faults) }
     ensures part { OnErr result (AppendsPart (O.told out.old).written (O.told out.new).written
         text.now) }
-    ensures cause { OnErr result ((O.told out.new).faults ≡ counted (O.told out.old).faults) }
+    ensures cause { OnErr result ((O.told out.new).faults ≡ count_after (O.told out.old).faults) }
     ensures fault { IfErr result (λ fault. fault ≡ Fault.Write) }
 {
     match put_all(out, text.as_bytes()) {

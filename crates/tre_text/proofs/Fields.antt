@@ -9,7 +9,7 @@ use Rattle.std.proofs.lemmas.List.{get_or-take, length-drop, length_push, take-t
 use Rattle.std.proofs.lemmas.List.Elements.{All-from_get_or}
 use Rattle.std.proofs.lemmas.List.Splits.{slice_split-cons_yes, slice_split_none, slice_split_first}
 use Rattle.std.proofs.lemmas.List.Sums.{fails_before_first}
-use Rattle.tre_parts.specs.Walk.{IsInside, EndsAt}
+use Rattle.tre_parts.specs.Walk.{HasNoSeparator, SeparatedAt}
 use Rattle.tre_parts.specs.Joins.{join_parts, HasFirst, slice_split-has, slice_split-append}
 use Rattle.tre_text.specs.TraceLines.{IsField}
 use Rattle.tre_text.specs.TextReading.{is_blank, fields_among}
@@ -144,14 +144,14 @@ fields-field bytes field = ap with_bytes (slice_split_none is_blank bytes field.
 
 -- the first separator among the first bytes is the first of all
 pub ends-in_front : (separates : ℕ → Bool) (bytes : List ℕ) (count place : ℕ) → count ≤ length bytes
-    → EndsAt separates (take count bytes) place → EndsAt separates bytes place
+    → SeparatedAt separates (take count bytes) place → SeparatedAt separates bytes place
 ends-in_front separates bytes count place short ends =
     let long = length-take count bytes in
     let before : place < count = omega (arith, long, ends.within, short) in
     record {
       within = omega (arith, before, short);
       inside =
-          subst (IsInside separates) (take-take place count bytes (omega (arith, before)))
+          subst (HasNoSeparator separates) (take-take place count bytes (omega (arith, before)))
           ends.inside;
       ends =
           subst (λ byte. separates byte ≡ true) (get_or-take count bytes place 0 before) ends.ends;

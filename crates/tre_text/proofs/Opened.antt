@@ -3,7 +3,7 @@ use Rattle.std.proofs.Common.{◌≡◌, ◌≢◌, ℕ, ◌+◌, ◌≤◌, All
 use Rattle.tre_pairs.specs.declared.TheConstants.{TIME_MAX}
 use Rattle.tre_parts.specs.Walk.{AddsPart}
 use Rattle.tre_text.specs.Lines.{Knows}
-use Rattle.tre_text.specs.Plain.{asked_of, IsEntered, IsOpened}
+use Rattle.tre_text.specs.Plain.{asked_of, FieldsAreEntered, IsOpened}
 use Rattle.tre_text.specs.TextReading.{Past, entry_says, fields_say, one_stretch, past_at, stretch_with}
 use Rattle.tre_text.specs.declared.known.Known.{Known}
 use Rattle.tre_text.specs.declared.open_line.OpenLine.{OpenLine}
@@ -26,7 +26,7 @@ module _ (names events : List (List ℕ)) (scale : ℕ) (past : Past) (line : Op
   }
   blank-adds none (inr entered) segments = absurd (entered.length.some none)
 
-  entered-says : (entered : IsEntered names scale known.end fields line)
+  entered-says : (entered : FieldsAreEntered names scale known.end fields line)
       → fields_say scale past fields ≡ Ok (one_stretch past line.len entered.others)
   entered-says entered =
       let len = entered.length in

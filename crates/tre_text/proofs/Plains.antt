@@ -9,7 +9,7 @@ use Rattle.std.specs.List.{All, list_all}
 use Rattle.std.specs.Char.{is_newline}
 use Rattle.std.specs.Str.Lines.{strip_carriage_return}
 use Rattle.tre_parts.specs.Bytes.{between}
-use Rattle.tre_parts.specs.Walk.{IsInside}
+use Rattle.tre_parts.specs.Walk.{HasNoSeparator}
 use Rattle.tre_state.specs.Name.{continues_name}
 use Rattle.tre_text.specs.Plain.{IsFront, IsBehindWord}
 use Rattle.tre_text.specs.declared.skim.BehindWord.TheVariants.{End}
@@ -53,17 +53,17 @@ blank_no_return : (byte : ℕ) → is_blank byte ≡ true → (byte == 13) ≡ f
 blank_no_return byte is = grind (arith, nat_tests)
 
 -- a word between two stops
-pub word-whole : (word : List ℕ) → IsInside stops_name word → list_all continues_name word ≡ true
+pub word-whole : (word : List ℕ) → HasNoSeparator stops_name word → list_all continues_name word ≡ true
 word-whole [] inside = refl
 word-whole (byte ∷ rest) inside =
     and_from (continues_name byte) (list_all continues_name rest)
     (plain_byte byte (All-head (λ b. stops_name b ≡ false) byte rest inside))
     (word-whole rest (All-tail (λ b. stops_name b ≡ false) byte rest inside))
 
-word-unbroken : (word : List ℕ) → IsInside stops_name word → IsInside is_newline word
+word-unbroken : (word : List ℕ) → HasNoSeparator stops_name word → HasNoSeparator is_newline word
 word-unbroken word inside = All-weaker _ _ (λ b is. unbroken_byte b (plain_byte b is)) word inside
 
-word-no_return : (word : List ℕ) → IsInside stops_name word → IsInside (λ b. b == 13) word
+word-no_return : (word : List ℕ) → HasNoSeparator stops_name word → HasNoSeparator (λ b. b == 13) word
 word-no_return word inside = All-weaker _ _ (λ b is. return_byte b (plain_byte b is)) word inside
 
 word-no_blank : (word : List ℕ) → list_all continues_name word ≡ true
@@ -96,7 +96,7 @@ front-none = record {
 
 -- a word and a blank more
 pub front-blank : (front word : List ℕ) (fields : List (List ℕ)) (blank : ℕ)
-    → IsFront front fields → IsInside stops_name word → is_blank blank ≡ true
+    → IsFront front fields → HasNoSeparator stops_name word → is_blank blank ≡ true
     → IsFront (front ++ (word ++ blank ∷ [])) (fields ++ fields_among word)
 front-blank front word fields blank is inside parts = record {
   unbroken = All-append (λ byte. is_newline byte ≡ false) front (word ++ blank ∷ [])
@@ -111,7 +111,7 @@ front-blank front word fields blank is inside parts = record {
       ∙ sym (append_assoc fields (fields_among word) (fields_among back));
 }
 
-no_return-strips : (line : List ℕ) → IsInside (λ byte. byte == 13) line
+no_return-strips : (line : List ℕ) → HasNoSeparator (λ byte. byte == 13) line
     → strip_carriage_return line ≡ line
 no_return-strips line no_return = elim (cases_lt 0 (length line)) [
   | inl some ↦
@@ -123,7 +123,7 @@ no_return-strips line no_return = elim (cases_lt 0 (length line)) [
 
 -- the line ends behind a word, or behind the carriage return there
 pub front-ends : (front word : List ℕ) (fields : List (List ℕ)) → IsFront front fields
-    → IsInside stops_name word → fields_of (front ++ word) ≡ fields ++ fields_among word
+    → HasNoSeparator stops_name word → fields_of (front ++ word) ≡ fields ++ fields_among word
 front-ends front word fields is inside =
     ap fields_among (no_return-strips (front ++ word)
     (All-append (λ byte. (byte == 13) ≡ false) front word is.no_return (word-no_return word inside)))
@@ -150,7 +150,7 @@ between-same xs place =
 -- a blank behind the word at this place
 pub open-blank : (bytes : List ℕ) (from start place : ℕ) (fields : List (List ℕ)) → from ≤ start
     → start ≤ place → place < length bytes
-    → IsFront (between bytes from start) fields → IsInside stops_name (between bytes start place)
+    → IsFront (between bytes from start) fields → HasNoSeparator stops_name (between bytes start place)
     → is_blank (get_or bytes place 0) ≡ true
     → IsFront (between bytes from (place + 1)) (fields ++ fields_among (between bytes start place))
 open-blank bytes from start place fields early late within is inside blank =
@@ -165,12 +165,12 @@ open-blank bytes from start place fields early late within is inside blank =
 
 -- What a line is that ends behind the word at this place.
 pub record IsWhole (part : List ℕ) (fields : List (List ℕ)) : Type 0 where
-  pub unbroken : IsInside is_newline part
+  pub unbroken : HasNoSeparator is_newline part
   pub are : fields_of part ≡ fields
 
 pub open-ends : (bytes : List ℕ) (from start place end : ℕ) (fields : List (List ℕ))
     → from ≤ start → start ≤ place → place < length bytes
-    → IsFront (between bytes from start) fields → IsInside stops_name (between bytes start place)
+    → IsFront (between bytes from start) fields → HasNoSeparator stops_name (between bytes start place)
     → IsBehindWord bytes place (End end)
     → IsWhole (between bytes from end) (fields ++ fields_among (between bytes start place))
 open-ends bytes from start place end fields early late within is inside ends =
@@ -178,7 +178,7 @@ open-ends bytes from start place end fields early late within is inside ends =
     let word = between bytes start place in
     let whole : between bytes from place ≡ front ++ word =
     between-split bytes from start place early late in
-    let unbroken : IsInside is_newline (front ++ word) =
+    let unbroken : HasNoSeparator is_newline (front ++ word) =
     All-append (λ byte. is_newline byte ≡ false) front word is.unbroken (word-unbroken word inside) in
     elim ends.1.1 [
       | inl same ↦ rw (same, whole) (record {

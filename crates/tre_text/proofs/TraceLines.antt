@@ -11,7 +11,7 @@ use Rattle.tre_parts.specs.declared.TheConstants.{PART_MAX}
 use Rattle.tre_parts.specs.declared.spot.Spot.{Spot}
 use Rattle.tre_text.proofs.Entries.{BeginWithDigits, IsEntryOf, number-no_comment, number-no_events, sign-no_comment, within, fields-events, fields-no_event, says-fields, says-nothing, says-marked, says-no_number, says-zero, says-late, says-no_name, says-stretch}
 use Rattle.tre_text.specs.TextReading.{Past, is_among, past_at, no_stretch, fields_of, line_says, text_format, text_recording}
-use Rattle.tre_text.specs.TraceLines.{IsLine, IsOverlong, AreLines, ended, HasFields, IsSilent, SaysEvents, IsEntry, Say, HasNoName, HasNoEvent, HasFault}
+use Rattle.tre_text.specs.TraceLines.{IsLine, IsOverlong, AreLines, with_line_ends, HasFields, IsSilent, SaysEvents, IsEntry, Say, HasNoName, HasNoEvent, LineHasFault}
 use Rattle.tre_trace.proofs.Segments.{end_of-le}
 use Rattle.tre_trace.specs.Reading.{Recording, Stretch, no_names, segment_for}
 use Rattle.tre_trace.specs.Trace.{end_of, AreLong, IsTrace}
@@ -113,7 +113,7 @@ read_through : BeginWithDigits → (scale : ℕ) (closed : Bool) (past : Past) (
     (lines : List (List ℕ)) (stretches : List Stretch) (last : List (List ℕ)) (rest : List ℕ)
     → AreLines lines → Say scale past.said lines stretches last → AreLong (bare stretches)
     → end_of past.end (bare stretches) ≤ TIME_MAX
-    → recording_from (text_format scale) closed past spot (ended lines ++ rest)
+    → recording_from (text_format scale) closed past spot (with_line_ends lines ++ rest)
     ≡ behind stretches (recording_from (text_format scale) closed
     (past_at (end_of past.end (bare stretches)) last) (spot_after spot lines) rest)
 read_through digits scale closed past spot [] stretches last rest are say long fits =
@@ -121,8 +121,8 @@ read_through digits scale closed past spot [] stretches last rest are say long f
 read_through digits scale closed past spot (line ∷ lines) stretches last rest are say long fits =
     let next = after_part spot (length line) in
     ap (recording_from (text_format scale) closed past spot)
-    (append_assoc line (10 ∷ ended lines) rest)
-    ∙ one_line scale closed past spot line (ended lines ++ rest) are.0
+    (append_assoc line (10 ∷ with_line_ends lines) rest)
+    ∙ one_line scale closed past spot line (with_line_ends lines ++ rest) are.0
     ∙ elim say [
       | inl silent ↦
           rw (silent_says scale past line silent.0)
@@ -168,18 +168,18 @@ read_all : BeginWithDigits → (scale : ℕ) (closed : Bool) (lines : List (List
     (stretches : List Stretch) (last : List (List ℕ)) → AreLines lines
     → Say scale [] lines stretches last
     → IsTrace (bare stretches)
-    → text_recording scale closed (ended lines) ≡ behind stretches
+    → text_recording scale closed (with_line_ends lines) ≡ behind stretches
     (recording_from (text_format scale) closed (past_at (end_of 0 (bare stretches)) last)
     (spot_after first_spot lines) [])
 read_all digits scale closed lines stretches last are say trace =
-    ap (text_recording scale closed) (sym (append-nil (ended lines)))
+    ap (text_recording scale closed) (sym (append-nil (with_line_ends lines)))
     ∙ read_through digits scale closed (past_at 0 []) first_spot lines stretches last [] are say
     trace.long trace.in_time
 
 pub read_trace : BeginWithDigits → (scale : ℕ) (lines : List (List ℕ)) (stretches : List Stretch)
     (last : List (List ℕ)) → AreLines lines → Say scale [] lines stretches last
     → IsTrace (bare stretches)
-    → text_recording scale true (ended lines)
+    → text_recording scale true (with_line_ends lines)
     ≡ record { stretches = stretches; last = is_among last; fault = None }
 read_trace digits scale lines stretches last are say trace =
     read_all digits scale true lines stretches last are say trace
@@ -191,7 +191,7 @@ read_trace digits scale lines stretches last are say trace =
 pub read_part : BeginWithDigits → (scale : ℕ) (lines : List (List ℕ)) (stretches : List Stretch)
     (last : List (List ℕ)) → AreLines lines → Say scale [] lines stretches last
     → IsTrace (bare stretches)
-    → text_recording scale false (ended lines)
+    → text_recording scale false (with_line_ends lines)
     ≡ record { stretches = stretches; last = λ name. false; fault = None }
 read_part digits scale lines stretches last are say trace =
     read_all digits scale false lines stretches last are say trace
@@ -216,7 +216,7 @@ no_event_says scale past line has =
     (sign-no_comment has.first has.holds.sign) has.holds.sign has.holds.no_words
 
 fault_says : BeginWithDigits → (scale : ℕ) (past : Past) (line : List ℕ) (kind : TraceKind)
-    → HasFault scale past.end line kind → line_says scale past line ≡ Err kind
+    → LineHasFault scale past.end line kind → line_says scale past line ≡ Err kind
 fault_says digits scale past line BadNumber has =
     says-no_number scale past line has.first has.others (record {
       is = has.fields;
@@ -253,8 +253,8 @@ fault_behind stretches lines kind = record {
 pub read_fault : BeginWithDigits → (scale : ℕ) (closed : Bool) (front : List (List ℕ))
     (line back : List ℕ) (stretches : List Stretch) (last : List (List ℕ)) (kind : TraceKind)
     → AreLines front → IsLine line → Say scale [] front stretches last → IsTrace (bare stretches)
-    → HasFault scale (end_of 0 (bare stretches)) line kind
-    → text_recording scale closed (ended front ++ (line ++ 10 ∷ back))
+    → LineHasFault scale (end_of 0 (bare stretches)) line kind
+    → text_recording scale closed (with_line_ends front ++ (line ++ 10 ∷ back))
     ≡ fault_behind stretches (length front) kind
 read_fault digits scale closed front line back stretches last kind are is say trace has =
     let spot = spot_after first_spot front in
@@ -283,7 +283,7 @@ read_open : BeginWithDigits → (scale : ℕ) (front : List (List ℕ)) (line : 
     (stretches : List Stretch) (last : List (List ℕ))
     → AreLines front → IsOverlong line → Say scale [] front stretches last
     → IsTrace (bare stretches)
-    → text_recording scale false (ended front ++ line)
+    → text_recording scale false (with_line_ends front ++ line)
     ≡ fault_behind stretches (length front) LineTooLong
 read_open digits scale front line stretches last are is say trace =
     let spot = spot_after first_spot front in
@@ -300,11 +300,11 @@ pub read_overlong : BeginWithDigits → (scale : ℕ) (closed : Bool) (front : L
     (line more : List ℕ) (stretches : List Stretch) (last : List (List ℕ))
     → AreLines front → IsOverlong line → Say scale [] front stretches last
     → IsTrace (bare stretches)
-    → text_recording scale closed ((ended front ++ line) ++ more)
+    → text_recording scale closed ((with_line_ends front ++ line) ++ more)
     ≡ fault_behind stretches (length front) LineTooLong
 read_overlong digits scale closed front line more stretches last are is say trace =
     let open_one = read_open digits scale front line stretches last are is say trace in
-    (reading-grows (text_format scale) closed (ended front ++ line) more).fault
+    (reading-grows (text_format scale) closed (with_line_ends front ++ line) more).fault
     (record { place = length front + 1; kind = LineTooLong })
     (ap (λ (r : Recording). r.fault) open_one) ∙ open_one
 
@@ -319,8 +319,8 @@ at_end past = record { stretches = []; last = is_among past.said; fault = None }
 
 last_from : (scale : ℕ) (past : Past) (spot : Spot) (lines : List (List ℕ))
     (last : List ℕ) → AreLines lines → IsLine last
-    → recording_from (text_format scale) true past spot (ended lines ++ last) ≡ recording_from
-    (text_format scale) true past spot (ended lines ++ (last ++ 10 ∷ []))
+    → recording_from (text_format scale) true past spot (with_line_ends lines ++ last) ≡ recording_from
+    (text_format scale) true past spot (with_line_ends lines ++ (last ++ 10 ∷ []))
 last_from scale past spot [] last are is =
     reading-last (text_format scale) true past spot last is.unbroken
     ∙ ap (λ (said : Result (Step Past) TraceKind). read_on spot.number said at_end)
@@ -332,20 +332,20 @@ last_from scale past spot [] last are is =
 last_from scale past spot (line ∷ lines) last are is =
     let next = after_part spot (length line) in
     ap (recording_from (text_format scale) true past spot)
-    (append_assoc line (10 ∷ ended lines) last)
-    ∙ one_line scale true past spot line (ended lines ++ last) are.0
+    (append_assoc line (10 ∷ with_line_ends lines) last)
+    ∙ one_line scale true past spot line (with_line_ends lines ++ last) are.0
     ∙ read_on-same spot.number (line_says scale past line)
-    (λ now. recording_from (text_format scale) true now next (ended lines ++ last))
+    (λ now. recording_from (text_format scale) true now next (with_line_ends lines ++ last))
     (λ now. recording_from (text_format scale) true now next
-    (ended lines ++ (last ++ 10 ∷ [])))
+    (with_line_ends lines ++ (last ++ 10 ∷ [])))
     (λ now. last_from scale now next lines last are.1 is)
-    ∙ sym (one_line scale true past spot line (ended lines ++ (last ++ 10 ∷ [])) are.0)
+    ∙ sym (one_line scale true past spot line (with_line_ends lines ++ (last ++ 10 ∷ [])) are.0)
     ∙ ap (recording_from (text_format scale) true past spot)
-    (sym (append_assoc line (10 ∷ ended lines) (last ++ 10 ∷ [])))
+    (sym (append_assoc line (10 ∷ with_line_ends lines) (last ++ 10 ∷ [])))
 
 pub read_last : (scale : ℕ) (lines : List (List ℕ)) (last : List ℕ)
     → AreLines lines → IsLine last
-    → text_recording scale true (ended lines ++ last) ≡ text_recording scale true
-    (ended lines ++ (last ++ 10 ∷ []))
+    → text_recording scale true (with_line_ends lines ++ last) ≡ text_recording scale true
+    (with_line_ends lines ++ (last ++ 10 ∷ []))
 read_last scale lines last are is =
     last_from scale (past_at 0 []) first_spot lines last are is

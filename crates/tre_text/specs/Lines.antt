@@ -47,11 +47,11 @@ pub record FindsEntry (said : Result (Step Past) TraceKind) (past : Past)
   pub fits : past.end + len ≤ TIME_MAX
 
 -- A line behind the past says what was found on it.
-abbrev pub Finds : Result (Step Past) TraceKind → Past → Vocabulary → ℕ → Found → Type 0
-Finds said past asked pending Nothing = said ≡ Ok (no_stretch past)
-Finds said past asked pending (Events bits) = FindsEvents said past asked.events pending bits
-Finds said past asked pending (Entry len val) = FindsEntry said past asked.names len val
-Finds said past asked pending (Wrong kind) = (said ≡ Err kind) × (kind ≢ Spent)
+abbrev pub LineFinds : Result (Step Past) TraceKind → Past → Vocabulary → ℕ → Found → Type 0
+LineFinds said past asked pending Nothing = said ≡ Ok (no_stretch past)
+LineFinds said past asked pending (Events bits) = FindsEvents said past asked.events pending bits
+LineFinds said past asked pending (Entry len val) = FindsEntry said past asked.names len val
+LineFinds said past asked pending (Wrong kind) = (said ≡ Err kind) × (kind ≢ Spent)
 
 -- The first field is a number of units, for which there is time, and so no sign of events.
 pub record IsLength (scale end : ℕ) (first : List ℕ) (len : ℕ) : Type 0 where

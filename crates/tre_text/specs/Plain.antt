@@ -2,7 +2,7 @@
 use Rattle.std.specs.Prelude.{◌≡◌, ◌⊎◌, ℕ, ◌+◌, ◌<◌, true, false, ◌==◌, List, [], ◌∷◌, ◌++◌, length, slice_index_or}
 use Rattle.std.specs.Char.{is_newline}
 use Rattle.std.specs.List.{list_all}
-use Rattle.tre_parts.specs.Walk.{IsInside}
+use Rattle.tre_parts.specs.Walk.{HasNoSeparator}
 use Rattle.tre_text.specs.Lines.{IsLength, bits_after}
 use Rattle.tre_text.specs.TextReading.{is_blank, begins_comment, spells_word, fields_among}
 use Rattle.tre_text.specs.declared.open_line.OpenLine.{OpenLine}
@@ -21,7 +21,7 @@ pub record IsBlankLine (fields : List (List ℕ)) (line : OpenLine) : Type 0 whe
 
 -- The first field is a duration behind a trace that ends there, and the others are names: those of
 -- what is true.
-pub record IsEntered (names : List (List ℕ)) (scale end : ℕ) (fields : List (List ℕ))
+pub record FieldsAreEntered (names : List (List ℕ)) (scale end : ℕ) (fields : List (List ℕ))
     (line : OpenLine) : Type 0 where
   pub first : List ℕ
   pub others : List (List ℕ)
@@ -34,7 +34,7 @@ pub record IsEntered (names : List (List ℕ)) (scale end : ℕ) (fields : List 
 -- what the fields of a line said so far, behind a trace that ends there
 abbrev pub IsOpened : List (List ℕ) → ℕ → ℕ → List (List ℕ) → OpenLine → Type 0
 IsOpened names scale end fields line =
-    IsBlankLine fields line ⊎ IsEntered names scale end fields line
+    IsBlankLine fields line ⊎ FieldsAreEntered names scale end fields line
 
 -- What stands at the place behind a word: a blank; a line end, with a carriage return in front of
 -- it or not; or anything else.
@@ -49,12 +49,12 @@ IsBehindWord bytes place Other = Unit {0}
 -- What stands in front of a place on a line that was read so far: neither a line end nor a carriage
 -- return, and these fields, whatever stands behind it.
 pub record IsFront (front : List ℕ) (fields : List (List ℕ)) : Type 0 where
-  pub unbroken : IsInside is_newline front
-  pub no_return : IsInside (λ byte. byte == 13) front
+  pub unbroken : HasNoSeparator is_newline front
+  pub no_return : HasNoSeparator (λ byte. byte == 13) front
   pub cut : (back : List ℕ) → fields_among (front ++ back) ≡ fields ++ fields_among back
 
 -- The line so far is open, and its fields said this.
-pub record IsOpen (names : List (List ℕ)) (scale end : ℕ) (front : List ℕ) (line : OpenLine)
+pub record LineIsOpen (names : List (List ℕ)) (scale end : ℕ) (front : List ℕ) (line : OpenLine)
     : Type 0 where
   pub fields : List (List ℕ)
   pub front_is : IsFront front fields

@@ -25,9 +25,9 @@ AreLines [] = Unit {0}
 AreLines (line ∷ lines) = IsLine line × AreLines lines
 
 -- The lines, one after the other, each with a line end behind it.
-abbrev pub ended : List (List ℕ) → List ℕ
-ended [] = []
-ended (line ∷ lines) = line ++ 10 ∷ ended lines
+abbrev pub with_line_ends : List (List ℕ) → List ℕ
+with_line_ends [] = []
+with_line_ends (line ∷ lines) = line ++ 10 ∷ with_line_ends lines
 
 -- neither a space nor a tab stands in the bytes, and there are some
 pub record IsField (bytes : List ℕ) : Type 0 where
@@ -110,9 +110,10 @@ pub record HasNoEvent (first : List ℕ) (others : List (List ℕ)) : Type 0 whe
   pub no_words : list_all spells_word others ≡ false
 
 -- The fault of a line at this scale, behind a trace that ends at `end`.
-abbrev pub HasFault : ℕ → ℕ → List ℕ → TraceKind → Type 0
-HasFault scale end line BadNumber = HasFields line (IsNoNumber scale)
-HasFault scale end line Zero = HasFields line (IsNoTime scale)
-HasFault scale end line TooLate = HasFields line (IsTooLong scale end)
-HasFault scale end line BadName = HasFields line (HasNoName scale end) ⊎ HasFields line HasNoEvent
-HasFault scale end line _ = ⊥
+abbrev pub LineHasFault : ℕ → ℕ → List ℕ → TraceKind → Type 0
+LineHasFault scale end line BadNumber = HasFields line (IsNoNumber scale)
+LineHasFault scale end line Zero = HasFields line (IsNoTime scale)
+LineHasFault scale end line TooLate = HasFields line (IsTooLong scale end)
+LineHasFault scale end line BadName = HasFields line (HasNoName scale end) ⊎ HasFields line
+    HasNoEvent
+LineHasFault scale end line _ = ⊥

@@ -2,7 +2,7 @@
 
 ghost use Rattle.std.specs.Prelude.{◌≡◌, ◌↔◌, ℕ, ◌+◌, Bool, true, false, None, Some, List, [], ◌∷◌, ◌++◌, length, Contains};
 ghost use Rattle.tre_text.specs.TextReading.{is_among, is_blank, fields_among, fields_of, text_recording};
-ghost use Rattle.tre_text.specs.TraceLines.{IsLine, IsOverlong, AreLines, ended, IsField, Say, HasFault};
+ghost use Rattle.tre_text.specs.TraceLines.{IsLine, IsOverlong, AreLines, with_line_ends, IsField, Say, LineHasFault};
 ghost use Rattle.tre_trace.specs.Reading.{Stretch, no_names, segments_for};
 ghost use Rattle.tre_trace.specs.Trace.{end_of, IsTrace};
 ghost use Rattle.tre_trace.specs.declared.fault.TraceKind.{TraceKind};
@@ -17,19 +17,19 @@ pub fn reading()
     ensures trace { (scale : ℕ) (lines : List (List ℕ)) (stretches : List Stretch)
         (last : List (List ℕ)) → AreLines lines → Say scale [] lines stretches last →
         IsTrace (segments_for no_names stretches) →
-        text_recording scale true (ended lines)
+        text_recording scale true (with_line_ends lines)
         ≡ record { stretches = stretches; last = is_among last; fault = None } }
     ensures part { (scale : ℕ) (lines : List (List ℕ)) (stretches : List Stretch)
         (last : List (List ℕ)) → AreLines lines → Say scale [] lines stretches last →
         IsTrace (segments_for no_names stretches) →
-        text_recording scale false (ended lines)
+        text_recording scale false (with_line_ends lines)
         ≡ record { stretches = stretches; last = λ name. false; fault = None } }
     ensures fault { (scale : ℕ) (closed : Bool) (front : List (List ℕ))
         (line back : List ℕ) (stretches : List Stretch) (last : List (List ℕ)) (kind : TraceKind) →
         AreLines front → IsLine line → Say scale [] front stretches last →
         IsTrace (segments_for no_names stretches) →
-        HasFault scale (end_of 0 (segments_for no_names stretches)) line kind →
-        text_recording scale closed (ended front ++ (line ++ 10 ∷ back))
+        LineHasFault scale (end_of 0 (segments_for no_names stretches)) line kind →
+        text_recording scale closed (with_line_ends front ++ (line ++ 10 ∷ back))
         ≡ record {
           stretches = stretches;
           last = λ name. false;
@@ -40,7 +40,7 @@ pub fn reading()
         (line more : List ℕ) (stretches : List Stretch) (last : List (List ℕ)) → AreLines front →
         IsOverlong line → Say scale [] front stretches last →
         IsTrace (segments_for no_names stretches) →
-        text_recording scale closed ((ended front ++ line) ++ more)
+        text_recording scale closed ((with_line_ends front ++ line) ++ more)
         ≡ record {
           stretches = stretches;
           last = λ name. false;
@@ -55,8 +55,8 @@ pub fn reading()
 pub fn last_line()
     ensures { (scale : ℕ) (lines : List (List ℕ)) (last : List ℕ) → AreLines lines →
         IsLine last →
-        text_recording scale true (ended lines ++ last) ≡ text_recording scale true
-        (ended lines ++ (last ++ 10 ∷ [])) }
+        text_recording scale true (with_line_ends lines ++ last) ≡ text_recording scale true
+        (with_line_ends lines ++ (last ++ 10 ∷ [])) }
 {}
 
 /// Blanks part fields, however many there are, and a carriage return at the end of a line is

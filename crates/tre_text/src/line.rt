@@ -5,7 +5,7 @@ ghost use Rattle.std.specs.Option.{option_map};
 ghost use Rattle.tre_decimal.specs.Decimal.{units_of};
 ghost use Rattle.tre_decimal.specs.declared.TheConstants.{SCALE_MAX};
 ghost use Rattle.tre_text.specs.TextReading.{Past, begins_comment, begins_events, fields_among, spells_word, line_says};
-ghost use Rattle.tre_text.specs.Lines.{Finds, Heads, bits_after, list_of, said_of, with_name};
+ghost use Rattle.tre_text.specs.Lines.{LineFinds, Heads, bits_after, list_of, said_of, with_name};
 
 use crate::field::{next_field, skip_blanks, without_return};
 use crate::found::{Found, Head};
@@ -130,7 +130,7 @@ fn said_of(head: Head, known: Known) -> u64
 pub fn read_line(names: &Names, events: &Names, scale: u8, known: Known, line: &[u8]) -> Found
     requires { scale ≤ SCALE_MAX }
     ensures { (past : Past) → past.end ≡ known.end →
-        Finds (line_says scale past line.now) past
+        LineFinds (line_says scale past line.now) past
         (record { names = names.now; events = events.now }) known.pending result }
 {
     let Some((first, fields)) = next_field(without_return(line)) else {

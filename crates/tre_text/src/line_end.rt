@@ -1,7 +1,7 @@
 // Where a line ends.
 ghost use Rattle.std.specs.Prelude.{◌≤◌, length, IfNone, IfSome};
 ghost use Rattle.std.specs.Char.{is_newline};
-ghost use Rattle.tre_parts.specs.Walk.{IsInside, EndsAt};
+ghost use Rattle.tre_parts.specs.Walk.{HasNoSeparator, SeparatedAt};
 
 use memchr::memchr;
 use std::simd::prelude::*;
@@ -28,8 +28,8 @@ impl ByteClass for LineEnd {
 /// The place of the first line end, where there is one.
 #[inline(always)]
 pub fn line_end_in(bytes: &[u8]) -> Option<usize>
-    ensures none { IfNone result (IsInside is_newline bytes.now) }
-    ensures first { IfSome result (EndsAt is_newline bytes.now) }
+    ensures none { IfNone result (HasNoSeparator is_newline bytes.now) }
+    ensures first { IfSome result (SeparatedAt is_newline bytes.now) }
 {
     if bytes.len() >= NEAR {
         if let Some(place) = near_line_end(bytes, NEAR) {
@@ -43,7 +43,7 @@ pub fn line_end_in(bytes: &[u8]) -> Option<usize>
 #[inline(always)]
 fn near_line_end(bytes: &[u8], count: usize) -> Option<usize>
     requires { count ≤ length bytes.now }
-    ensures { IfSome result (EndsAt is_newline bytes.now) }
+    ensures { IfSome result (SeparatedAt is_newline bytes.now) }
 {
     match first_of::<LineEnd>(&bytes[..count]) {
         Some(place) => Some(place),

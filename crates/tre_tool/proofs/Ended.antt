@@ -8,7 +8,7 @@ use Rattle.tre_feed.specs.Input.{InputTold}
 use Rattle.tre_tell.specs.Outputs.{OutputTold}
 use Rattle.tre_words.specs.declared.job.Job.{Job}
 use Rattle.tre_tool.specs.Checks.{ChecksWereRead}
-use Rattle.tre_tool.specs.Request.{IsRefused, GiveNone}
+use Rattle.tre_tool.specs.Request.{JobIsRefused, GiveNone}
 use Rattle.tre_tool.specs.Run.{EndsUnread, EndsMemory, AsksAs, EndsAs}
 use Rattle.tre_tool.specs.Status.{fault_status}
 use Rattle.tre_tool.specs.declared.status.Status.{Status}
@@ -26,7 +26,7 @@ answered_status (Err fault) = fault_status fault
 module _ (Gives : Job → Type 0) (checks input : InputTold) (output : OutputTold) where
   pub data Ended (status : Status) : Type 0 where
     by_usage : status ≡ Usage → GiveNone Gives → Ended status
-    by_refusal : IsRefused Gives (ChecksWereRead checks) status → Ended status
+    by_refusal : JobIsRefused Gives (ChecksWereRead checks) status → Ended status
     by_unread : status ≡ ReadFault → EndsUnread Gives checks input output → Ended status
     by_memory : status ≡ Memory → EndsMemory Gives checks input output → Ended status
     by_answer : (answer : Answer) → status ≡ answered_status answer

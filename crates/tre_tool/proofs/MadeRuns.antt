@@ -16,7 +16,7 @@ use Rattle.tre_words.specs.declared.job.Job.{Job}
 use Rattle.tre_words.specs.declared.job.Mode.{Mode}
 use Rattle.tre_words.specs.declared.job.Mode.TheVariants.{Offline, Generate, Watch as WatchMode}
 use Rattle.tre_tool.specs.Checks.{ChecksWereRead}
-use Rattle.tre_tool.specs.Request.{alone, ArePatterns, IsRefusalIn, AsksFor, IsRefused}
+use Rattle.tre_tool.specs.Request.{alone, ArePatterns, IsRefusalIn, AsksFor, JobIsRefused}
 use Rattle.tre_tool.specs.MadeRun.{AsksForMadeRun, EndsMadeRun}
 use Rattle.tre_tool.specs.Run.{EndsAs}
 use Rattle.tre_tool.specs.declared.status.Status.{Status}
@@ -60,7 +60,7 @@ module _ (words : List (List ℕ)) (count : ℕ) (asks : AsksForMadeRun words co
         all 0 (record { label = []; tree = fixed_tree; names = fixed_vocabulary })
         (omega arith)
 
-    never_refused : (refusal : Status) → IsRefused (GivesJob words) Says refusal → ⊥
+    never_refused : (refusal : Status) → JobIsRefused (GivesJob words) Says refusal → ⊥
     never_refused refusal told =
         subst (λ (mode : Mode). IsRefusalIn mode Says told.job refusal)
         (mode_given told.job told.gives) told.refuses

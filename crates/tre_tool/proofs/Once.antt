@@ -12,7 +12,7 @@ use Rattle.tre_words.specs.declared.job.Job.{Job}
 use Rattle.tre_words.specs.declared.job.Mode.{Mode}
 use Rattle.tre_words.specs.declared.job.Mode.TheVariants.{Offline, Online, Show, Generate, Watch as WatchMode}
 use Rattle.tre_tool.specs.Checks.{SayPatterns, labelled}
-use Rattle.tre_tool.specs.Request.{texts_with, ArePatterns, AreDefinitions, AreRefusedDefinitions, IsRefusalOfWatch, IsRefusalIn, AsksFor, IsRefused, AsksForNothing}
+use Rattle.tre_tool.specs.Request.{texts_with, ArePatterns, AreDefinitions, AreRefusedDefinitions, IsRefusalOfWatch, IsRefusalIn, AsksFor, JobIsRefused, AsksForNothing}
 use Rattle.tre_tool.specs.declared.status.Status.{Status}
 use Rattle.tre_tool.specs.declared.status.Status.TheVariants.{Done, Usage, Expression, Minus, Definitions, Watch, Trace, InputTooLong, TooManyZones, ReadFault, WriteFault, Memory}
 use Rattle.tre_tool.proofs.Texts.{spell_once, definitions_once, defined_or_refused, lets_once, texts_or_refused, text_refusal_once}
@@ -177,7 +177,7 @@ module _ (Gives : Job → Type 0) (once : GiveOne Gives) (Says Tells : Meaning)
 
   -- it isn't refused
   pub asked_or_refused : (request : Request) (refusal : Status) → AsksFor Gives Says request
-      → IsRefused Gives Tells refusal → ⊥
+      → JobIsRefused Gives Tells refusal → ⊥
   asked_or_refused request refusal asks told =
       let same_job = once told.job request.job told.gives asks.gives in
       patterns_or_refused Says Tells same request.job.mode request.job refusal request.patterns
@@ -185,8 +185,8 @@ module _ (Gives : Job → Type 0) (once : GiveOne Gives) (Says Tells : Meaning)
       (subst (λ (j : Job). IsRefusalIn j.mode Tells j refusal) same_job told.refuses)
 
   -- they are refused in one way
-  pub refused_once : (refusal other : Status) → IsRefused Gives Says refusal
-      → IsRefused Gives Tells other → refusal ≡ other
+  pub refused_once : (refusal other : Status) → JobIsRefused Gives Says refusal
+      → JobIsRefused Gives Tells other → refusal ≡ other
   refused_once refusal other told told' =
       let same_job = once told.job told'.job told.gives told'.gives in
       refusal_once Says Tells same told'.job.mode told'.job refusal other

@@ -22,7 +22,7 @@ use Rattle.tre_words.specs.declared.job.WordsFault.{WordsFault}
 use Rattle.tre_words.specs.declared.job.WordsFault.TheVariants.{Usage as WordsUsage, Memory as WordsMemory}
 use Rattle.tre_words.proofs.Jobs.{job_unique}
 use Rattle.tre_tool.specs.Checks.{ChecksWereRead}
-use Rattle.tre_tool.specs.Request.{ArePatterns, AreDefinitions, IsRefusalOf, IsRefusalOfWatch, IsRefusalIn, AsksFor, IsRefused, GiveNone}
+use Rattle.tre_tool.specs.Request.{ArePatterns, AreDefinitions, IsRefusalOf, IsRefusalOfWatch, IsRefusalIn, AsksFor, JobIsRefused, GiveNone}
 use Rattle.tre_tool.specs.Run.{ReadsChecks, ComesFirst, NothingDone, EndsAs, IsLineTold}
 use Rattle.tre_tool.specs.Status.{words_status, fault_status}
 use Rattle.tre_tool.specs.declared.status.Status.{Status}
@@ -70,7 +70,7 @@ IsUnreadIn job checks = (file : List ℕ) × (job.mode ≡ WatchMode file) × Is
 module _ (Gives : Job → Type 0) (checks input : InputTold) (output : OutputTold) (job : Job)
     (gives : Gives job) (nothing : NothingDone input output) where
   refused_by : (refusal : Status) → IsRefusalIn job.mode (ChecksWereRead checks) job refusal
-      → IsRefused Gives (ChecksWereRead checks) refusal × NothingDone input output
+      → JobIsRefused Gives (ChecksWereRead checks) refusal × NothingDone input output
   refused_by refusal is = (record { job = job; gives = gives; refuses = is }, nothing)
 
   -- what a job asks for wasn't found

@@ -7,7 +7,7 @@ use Rattle.std.proofs.lemmas.Option.{get_or_from_slice_get, slice_get_within}
 use Rattle.std.specs.Io.KnownBytes.{Consumes, IsAtEnd}
 use Rattle.std.specs.Char.{is_newline}
 use Rattle.std.specs.List.{slice_split}
-use Rattle.tre_feed.specs.Front.{IsFront, StopsFront}
+use Rattle.tre_feed.specs.Front.{IsFrontRead, StopsFront}
 use Rattle.tre_feed.specs.Input.{InputTold, AllReadsGood}
 use Rattle.tre_feed.specs.declared.fault.Fault.{Fault}
 use Rattle.tre_feed.specs.declared.fault.Fault.TheVariants.{Trace as FaultTrace, TooLong as FaultTooLong, TooManyZones as FaultTooMany, Read as FaultRead, Write as FaultWrite, Memory as FaultMemory}
@@ -70,7 +70,7 @@ below_next : (n : ℕ) → n ≤ FILE_MAX → n < FILE_MAX + 1
 below_next n few = omega (arith, few)
 
 pub ChecksWereRead-of : (checks : InputTold) (scale : ℕ) (bytes : List ℕ) (outcome : Outcome)
-    → IsFront (FILE_MAX + 1) checks bytes → IsOutcome scale bytes outcome
+    → IsFrontRead (FILE_MAX + 1) checks bytes → IsOutcome scale bytes outcome
     → ChecksWereRead checks scale outcome
 ChecksWereRead-of checks scale bytes outcome front comes = record {
   comes = record {
@@ -198,7 +198,7 @@ watch_faults Empty = inr (λ e. cc, refl)
 
 -- the refusal of the file, from what `read_plan` answers to its front
 pub IsRefusalOfFile-read : (checks : InputTold) (scale : ℕ) (bytes : List ℕ) (fault : WatchFault)
-    → IsFront (FILE_MAX + 1) checks bytes
+    → IsFrontRead (FILE_MAX + 1) checks bytes
     → (fault ≡ WatchMemory) ⊎ IsOutcome scale bytes (faulty fault)
     → watch_status fault ≢ Memory → IsRefusalOfFile (ChecksWereRead checks) scale
     (watch_status fault)

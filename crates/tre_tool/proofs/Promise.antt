@@ -8,7 +8,7 @@ use Rattle.tre_feed.specs.Input.{InputTold}
 use Rattle.tre_feed.specs.Comes.{Outcome, completes, refuses, exceeds}
 use Rattle.tre_feed.proofs.Cuts.{take-over}
 use Rattle.tre_feed.proofs.Outcomes.{within}
-use Rattle.tre_io.specs.Faults.{counted, Rises}
+use Rattle.tre_io.specs.Faults.{count_after, CountRises}
 use Rattle.tre_tell.specs.Outputs.{OutputTold}
 use Rattle.tre_trace.specs.Trace.{Timeline}
 use Rattle.tre_watch.specs.Outcome.{Outcome as ChecksOutcome, IsOutcome}
@@ -17,8 +17,8 @@ use Rattle.tre_words.specs.declared.job.Job.{Job}
 use Rattle.tre_words.specs.declared.job.Mode.{Mode}
 use Rattle.tre_words.specs.declared.job.Mode.TheVariants.{Offline, Online, Show, Generate, Watch as WatchMode}
 use Rattle.tre_tool.specs.Checks.{ChecksWereRead, ChecksAreTold}
-use Rattle.tre_tool.specs.Request.{AsksFor, IsRefused, GiveNone}
-use Rattle.tre_tool.specs.Run.{ChecksFailed, EndsAs, IsStatusFor, IsUnlessMemory, IsComplete}
+use Rattle.tre_tool.specs.Request.{AsksFor, JobIsRefused, GiveNone}
+use Rattle.tre_tool.specs.Run.{ChecksFailed, EndsAs, IsStatusFor, IsUnlessMemory, RunIsComplete}
 use Rattle.tre_tool.specs.declared.status.Status.{Status}
 use Rattle.tre_tool.specs.declared.status.Status.TheVariants.{Done, Usage, TooManyZones, Memory}
 use Rattle.tre_tool.proofs.Ended.{Answer, answered_status, Ended, by_usage, by_refusal, by_unread, by_memory, by_answer, ended_of}
@@ -63,7 +63,7 @@ memory_is_free (refuses fault) = inr refl
 memory_is_free exceeds = inr refl
 
 -- a count to which one fault was added rose
-one_more : (before now : ℕ) → now ≡ counted before → Rises before now
+one_more : (before now : ℕ) → now ≡ count_after before → CountRises before now
 one_more before now e = rw e (omega arith)
 
 -- traces that were read complete, whether their answer was written or has too many zones
@@ -103,8 +103,8 @@ done_in (Generate count) request input front text right reads = absurd reads
 module _ (request : Request) (input : InputTold) (output : OutputTold) where
   -- what must come of a request whose input is read
   answered_read : (answer : Answer) → EndsOver request input output answer
-      → ReadsInput request.job.mode → ¬ Rises input.before.faults input.now.faults
-      → ¬ Rises output.before.faults output.now.faults
+      → ReadsInput request.job.mode → ¬ CountRises input.before.faults input.now.faults
+      → ¬ CountRises output.before.faults output.now.faults
       → IfSome input.before.file (λ bytes.
       IsStatusFor (outcome_for request bytes) (answered_status answer))
   answered_read (Ok value) done reads read written =
@@ -125,7 +125,7 @@ module _ (request : Request) (input : InputTold) (output : OutputTold) where
 
   -- what must come of one whose input isn't
   answered_unread : (answer : Answer) → EndsOver request input output answer
-      → ¬ ReadsInput request.job.mode → ¬ Rises output.before.faults output.now.faults
+      → ¬ ReadsInput request.job.mode → ¬ CountRises output.before.faults output.now.faults
       → IsUnlessMemory Done (answered_status answer)
   answered_unread (Ok value) done unread written = inl refl
   answered_unread (Err (FaultTrace fault)) found unread written =
@@ -151,7 +151,7 @@ module _ (Gives : Job → Type 0) (once : GiveOne Gives) (checks input : InputTo
 
   -- a file that couldn't be read is that of the job
   failed : (job other : Job) (file : List ℕ) → Gives job → Gives other
-      → job.mode ≡ WatchMode file → checks.now.faults ≡ counted checks.before.faults
+      → job.mode ≡ WatchMode file → checks.now.faults ≡ count_after checks.before.faults
       → ChecksFailed other.mode checks
   failed job other file gives gives' watches cause =
       subst (λ (j : Job). ChecksFailed j.mode checks) (once job other gives gives')
@@ -160,8 +160,8 @@ module _ (Gives : Job → Type 0) (once : GiveOne Gives) (checks input : InputTo
   read_as : (request : Request) (status : Status) → AsksFor Gives (ChecksAreTold checks) request
       → Ended Gives checks input output status → ReadsInput request.job.mode
       → ¬ ChecksFailed request.job.mode checks
-      → ¬ Rises input.before.faults input.now.faults
-      → ¬ Rises output.before.faults output.now.faults
+      → ¬ CountRises input.before.faults input.now.faults
+      → ¬ CountRises output.before.faults output.now.faults
       → IfSome input.before.file (λ bytes. IsStatusFor (outcome_for request bytes) status)
   read_as request status asks (by_usage is ends) reads known read written =
       absurd (ends request.job asks.gives)
@@ -181,7 +181,7 @@ module _ (Gives : Job → Type 0) (once : GiveOne Gives) (checks input : InputTo
 
   unread_as : (request : Request) (status : Status)
       → AsksFor Gives (ChecksAreTold checks) request → Ended Gives checks input output status
-      → ¬ ReadsInput request.job.mode → ¬ Rises output.before.faults output.now.faults
+      → ¬ ReadsInput request.job.mode → ¬ CountRises output.before.faults output.now.faults
       → IsUnlessMemory Done status
   unread_as request status asks (by_usage is ends) unread written =
       absurd (ends request.job asks.gives)
@@ -200,7 +200,7 @@ module _ (Gives : Job → Type 0) (once : GiveOne Gives) (checks input : InputTo
 
   -- what must come of a refusal
   refused_as : (status refusal : Status) → Ended Gives checks input output status
-      → (told : IsRefused Gives (ChecksAreTold checks) refusal)
+      → (told : JobIsRefused Gives (ChecksAreTold checks) refusal)
       → ¬ ChecksFailed told.job.mode checks → IsUnlessMemory refusal status
   refused_as status refusal (by_usage is ends) told known =
       absurd (ends told.job told.gives)
@@ -226,7 +226,7 @@ module _ (Gives : Job → Type 0) (once : GiveOne Gives) (checks input : InputTo
       absurd (none some.request.job some.asks.gives)
 
   complete_by : (status : Status) → Ended Gives checks input output status
-      → IsComplete Gives checks input output status
+      → RunIsComplete Gives checks input output status
   complete_by status ended = record {
     no_job = λ none. no_job_as status ended none;
     refused = λ refusal told known. refused_as status refusal ended told known;
@@ -238,6 +238,6 @@ module _ (Gives : Job → Type 0) (once : GiveOne Gives) (checks input : InputTo
 
   -- a run that ends so is complete
   pub IsComplete-ends : (status : Status) → EndsAs Gives checks input output status
-      → IsComplete Gives checks input output status
+      → RunIsComplete Gives checks input output status
   IsComplete-ends status ends =
       complete_by status (ended_of Gives checks input output status ends)

@@ -3,7 +3,7 @@ use Rattle.std.specs.Prelude.{◌≡◌, ℕ, List, Some, true, codes}
 use Rattle.std.specs.Io.KnownBytes.{Appends}
 use Rattle.tre_generate.specs.FixedPattern.{fixed_tree}
 use Rattle.tre_generate.specs.Summary.{IsSummary}
-use Rattle.tre_io.specs.Faults.{counted}
+use Rattle.tre_io.specs.Faults.{count_after}
 use Rattle.tre_io.specs.Written.{AppendsPart}
 use Rattle.tre_tell.specs.Outputs.{OutputTold, AllWritesGood, NothingWritten}
 use Rattle.tre_words.specs.Job.{begins_with, made_count}
@@ -26,7 +26,7 @@ pub record SummaryWritten (count : ℕ) (output : OutputTold) : Type 0 where
 pub record SummaryIsCut (count : ℕ) (output : OutputTold) : Type 0 where
   pub text : List ℕ
   pub right : IsSummary fixed_tree count text
-  pub cause : output.now.faults ≡ counted output.before.faults
+  pub cause : output.now.faults ≡ count_after output.before.faults
   pub written : AppendsPart output.before.written output.now.written text
 
 -- The end of a made run of so many segments, status by status. No other status comes.

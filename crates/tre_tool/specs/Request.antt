@@ -8,7 +8,7 @@ use Rattle.tre_define.specs.Texts.{parts_of}
 use Rattle.tre_define.specs.declared.let_fault.LetFault.{LetFault}
 use Rattle.tre_generate.specs.FixedPattern.{fixed_tree, fixed_vocabulary}
 use Rattle.tre_num.specs.Defined.{Defined}
-use Rattle.tre_num.specs.Definitions.{Define, IsRefused as IsRefusedAt}
+use Rattle.tre_num.specs.Definitions.{Define, LetsAreRefused as IsRefusedAt}
 use Rattle.tre_parse.specs.Outcome.{IsOutcome, spelt, refused}
 use Rattle.tre_parse.specs.declared.fault.ParseFault.{ParseFault}
 use Rattle.tre_syntax.specs.PatternTree.{PatternTree}
@@ -115,7 +115,7 @@ pub record AsksFor (Gives : Job → Type 0) (Says : ℕ → Outcome → Type 0) 
   pub definitions : AreDefinitions request.job request.lets request.signals
 
 -- They give a job that is refused so.
-pub record IsRefused (Gives : Job → Type 0) (Says : ℕ → Outcome → Type 0) (refusal : Status)
+pub record JobIsRefused (Gives : Job → Type 0) (Says : ℕ → Outcome → Type 0) (refusal : Status)
     : Type 0 where
   pub job : Job
   pub gives : Gives job
@@ -127,4 +127,4 @@ GiveNone Gives = (job : Job) → Gives job → ⊥
 -- They ask for nothing: they give no job, or one that is refused.
 abbrev pub AsksForNothing : (Job → Type 0) → (ℕ → Outcome → Type 0) → Type 0
 AsksForNothing Gives Says =
-    GiveNone Gives ⊎ ((refusal : Status) × IsRefused Gives Says refusal)
+    GiveNone Gives ⊎ ((refusal : Status) × JobIsRefused Gives Says refusal)

@@ -10,14 +10,14 @@ use Rattle.tre_feed.specs.Front.{IsUnreadable}
 use Rattle.tre_feed.specs.Input.{InputTold, AllReadsGood}
 use Rattle.tre_feed.specs.Comes.{Outcome, completes, refuses, exceeds}
 use Rattle.tre_feed.specs.Outcome.{IsInputKind}
-use Rattle.tre_io.specs.Faults.{Rises}
+use Rattle.tre_io.specs.Faults.{CountRises}
 use Rattle.tre_tell.specs.Outputs.{OutputTold, NothingWritten}
 use Rattle.tre_words.specs.Job.{GivesJob}
 use Rattle.tre_words.specs.declared.job.Job.{Job}
 use Rattle.tre_words.specs.declared.job.Mode.{Mode}
 use Rattle.tre_words.specs.declared.job.Mode.TheVariants.{Watch}
 use Rattle.tre_tool.specs.Checks.{ChecksWereRead, ChecksAreTold}
-use Rattle.tre_tool.specs.Request.{AsksFor, IsRefused, GiveNone}
+use Rattle.tre_tool.specs.Request.{AsksFor, JobIsRefused, GiveNone}
 use Rattle.tre_tool.specs.declared.status.Status.{Status}
 use Rattle.tre_tool.specs.declared.status.Status.TheVariants.{Done, Usage, Expression, Minus, Definitions, Watch as WatchStatus, Trace, InputTooLong, TooManyZones, ReadFault, WriteFault, Memory}
 
@@ -36,7 +36,7 @@ ReadsChecks mode = ⊥
 
 -- One failure to read the file of checks was counted, where one is read.
 abbrev pub ChecksFailed : Mode → InputTold → Type 0
-ChecksFailed mode checks = ReadsChecks mode × Rises checks.before.faults checks.now.faults
+ChecksFailed mode checks = ReadsChecks mode × CountRises checks.before.faults checks.now.faults
 
 -- The statuses of words that give no job, and of those whose job is refused.
 abbrev pub ComesFirst : Status → Type 0
@@ -99,7 +99,7 @@ EndsAs Gives checks input output WriteFault =
     AsksAs Gives checks (λ request. EndsWriteFault request input output)
 EndsAs Gives checks input output Memory = EndsMemory Gives checks input output
 EndsAs Gives checks input output refusal =
-    IsRefused Gives (ChecksWereRead checks) refusal × NothingDone input output
+    JobIsRefused Gives (ChecksWereRead checks) refusal × NothingDone input output
 
 abbrev pub IsUnlessMemory : Status → Status → Type 0
 IsUnlessMemory wanted status = (status ≡ wanted) ⊎ (status ≡ Memory)
@@ -118,16 +118,16 @@ IsStatusFor exceeds status = IsUnlessMemory InputTooLong status
 
 -- What the words ask for decides the status, where no fault was counted: no job, a refusal, or what
 -- the input comes to, where its bytes are told and those of the file of checks, if there is one.
-pub record IsComplete (Gives : Job → Type 0) (checks input : InputTold) (output : OutputTold)
+pub record RunIsComplete (Gives : Job → Type 0) (checks input : InputTold) (output : OutputTold)
     (status : Status) : Type 0 where
   pub no_job : GiveNone Gives → IsUnlessMemory Usage status
-  pub refused : (refusal : Status) (told : IsRefused Gives (ChecksAreTold checks) refusal) →
+  pub refused : (refusal : Status) (told : JobIsRefused Gives (ChecksAreTold checks) refusal) →
       ¬ ChecksFailed told.job.mode checks → IsUnlessMemory refusal status
   pub read : (request : Request) → AsksFor Gives (ChecksAreTold checks) request →
       ReadsInput request.job.mode → ¬ ChecksFailed request.job.mode checks →
-      ¬ Rises input.before.faults input.now.faults →
-      ¬ Rises output.before.faults output.now.faults →
+      ¬ CountRises input.before.faults input.now.faults →
+      ¬ CountRises output.before.faults output.now.faults →
       IfSome input.before.file (λ bytes. IsStatusFor (outcome_for request bytes) status)
   pub unread : (request : Request) → AsksFor Gives (ChecksAreTold checks) request →
-      ¬ ReadsInput request.job.mode → ¬ Rises output.before.faults output.now.faults →
+      ¬ ReadsInput request.job.mode → ¬ CountRises output.before.faults output.now.faults →
       IsUnlessMemory Done status

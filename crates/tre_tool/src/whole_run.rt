@@ -5,7 +5,7 @@ ghost use Rattle.tre_tell.specs.Outputs.{output_told};
 ghost use Rattle.tre_tool.specs.Checks.{ChecksAreTold};
 ghost use Rattle.tre_tool.specs.Parts.{status_of};
 ghost use Rattle.tre_tool.specs.Request.{AsksForNothing};
-ghost use Rattle.tre_tool.specs.Run.{Gives, ReadsChecks, ComesFirst, EndsAs, IsComplete, IsLineTold, IsFrontOf};
+ghost use Rattle.tre_tool.specs.Run.{Gives, ReadsChecks, ComesFirst, EndsAs, RunIsComplete, IsLineTold, IsFrontOf};
 ghost use Rattle.tre_tool.specs.Status.{error_line};
 ghost use Rattle.tre_watch.specs.declared.reader.TheConstants.{FILE_MAX};
 ghost use Rattle.tre_words.specs.declared.job.Job.{Job};
@@ -95,7 +95,7 @@ pub fn run_all<P: Source, S: Source, O: Sink, E: Sink>(
         (output_told (O.told out.old) (O.told out.new)) result }
 
     // Where no fault was counted, what the words ask for and the input comes to decides it.
-    ensures complete { IsComplete (Gives words.now)
+    ensures complete { RunIsComplete (Gives words.now)
         (input_told (P.told checks.old) (P.told checks.new))
         (input_told (S.told input.old) (S.told input.new))
         (output_told (O.told out.old) (O.told out.new)) result }

@@ -2,7 +2,7 @@
 use Rattle.std.proofs.Common.{◌≡◌, ℕ, ◌==◌, ◌||◌, ◌&&◌, Bool, true, false, List, [], ◌∷◌, length, map, take, refl, sym, ap, ◌∙◌, arith}
 use Rattle.std.proofs.lemmas.Bool.Decides.{nat_tests}
 use Rattle.tre_vcd.specs.VcdReading.{Terms, Statement, scalar, Place, Open, change, is_scalar, is_defined, nothing, section, comment, vector, number, goes_to, command_says, value_says, token_at, token_says}
-use Rattle.tre_vcd.specs.Sections.{Holds, inside_of, is_nothing, tokens_of}
+use Rattle.tre_vcd.specs.Sections.{Holds, inside_of, is_nothing, tokens_of_open}
 use Rattle.tre_vcd.specs.declared.inside.Inside.{Inside}
 use Rattle.tre_vcd.specs.declared.inside.Inside.TheVariants.{Nothing, Section, Comment, Vector, Number}
 use Rattle.tre_vcd.specs.declared.token_reader.TheConstants.{KEPT_MAX}
@@ -73,7 +73,7 @@ values-read reader place holds reads =
       defined = sym holds.knows.past.defined ∙ parts.0;
       open_none = shut;
       stays = holds.inside ∙ ap inside_of shut;
-      tokens = holds.tokens ∙ ap (λ (o : Open). take KEPT_MAX (tokens_of o)) shut;
+      tokens = holds.tokens ∙ ap (λ (o : Open). take KEPT_MAX (tokens_of_open o)) shut;
     }
 
 not_defined : (a b : Bool) → (a && b) ≡ false → b ≡ true → a ≡ false

@@ -1,7 +1,7 @@
 -- What is known behind a change.
 use Rattle.std.proofs.Common.{◌≡◌, ℕ, List, ◌∷◌, refl, sym, ap, subst}
 use Rattle.tre_vcd.specs.VcdReading.{Form, Statement, change}
-use Rattle.tre_vcd.specs.Kept.{Knows}
+use Rattle.tre_vcd.specs.Kept.{KnowsOfPast}
 use Rattle.tre_vcd.specs.Offers.{KnowOffers}
 use Rattle.tre_vcd.specs.Sections.{KnowsPast}
 use Rattle.tre_vcd.specs.Signals.{KnowsSignals}
@@ -14,7 +14,7 @@ use Rattle.tre_vcd.proofs.Staying.{offers-stay}
 
 pub past-changed : (reader : TokenReader) (past : List Statement) (form : Form)
     (identifier letters : List ℕ) (kept : Past) (signals : Signals)
-    → Knows reader.names reader.events kept (change form identifier letters ∷ past)
+    → KnowsOfPast reader.names reader.events kept (change form identifier letters ∷ past)
     → KnowsSignals reader.names reader.events signals (change form identifier letters ∷ past)
     → signals.definitions ≡ reader.signals.definitions → KnowsPast reader past
     → KnowsPast (record reader { past = kept; signals = signals })

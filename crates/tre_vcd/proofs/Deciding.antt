@@ -11,9 +11,9 @@ use Rattle.tre_define.specs.Signals.{SignalDefined, signal_definition_of}
 use Rattle.tre_define.specs.Values.{differ}
 use Rattle.tre_define.specs.Values as values
 use Rattle.tre_define.specs.declared.part.Part.{Part}
-use Rattle.tre_vcd.specs.VcdReading.{Form, scalar, wide, Statement, scope, upscope, var, definitions, time, change, dump, dump_end, time_at, scopes_at, in_dump, letters_at, happened_at, before_now, Occasion, scalar_said, bits_changed, signal_in, event_in, of_changes, first_read, is_passed, is_come, has_come, differs, true_at, happens_at}
+use Rattle.tre_vcd.specs.VcdReading.{Form, scalar, wide, Statement, scope, upscope, var, definitions, time, change, dump, dump_end, time_at, scopes_at, in_dump, letters_at, happened_at, before_now, Occasion, scalar_said, bits_changed, signal_in, event_read_by, of_changes, first_read, is_passed, is_come, has_come, differs, true_at, happens_at}
 use Rattle.tre_vcd.specs.Kept.{mask_from}
-use Rattle.tre_vcd.specs.Deciding.{Keeps, LastChange, StaysInTime, Happened, HasChanged, HasCome, Leaves, FirstRead, IsHigh, HasHappened}
+use Rattle.tre_vcd.specs.Deciding.{KeepsValue, LastChange, ReachNoTime, Happened, HasChanged, HasCome, Leaves, FirstRead, IsHigh, HasHappened}
 
 eq-same : (bytes : List ℕ) → bytes_eq bytes bytes ≡ true
 eq-same bytes = (bytes_eq-Decides bytes bytes).1 refl
@@ -25,7 +25,7 @@ eq-other one other false e apart = refl
 
 -- ---- changes
 
-letters-behind : (later earlier : List Statement) (identifier : List ℕ) → Keeps identifier later
+letters-behind : (later earlier : List Statement) (identifier : List ℕ) → KeepsValue identifier later
     → letters_at (later ++ earlier) identifier ≡ letters_at earlier identifier
 letters-behind [] earlier identifier keeps = refl
 letters-behind (scope name ∷ later) earlier identifier keeps =
@@ -57,7 +57,7 @@ letters-last past identifier letters change_last =
     ∙ ap (λ (b : Bool). if b then Some letters else letters_at change_last.earlier identifier)
     (eq-same identifier)
 
-pub letters-none : (past : List Statement) (identifier : List ℕ) → Keeps identifier past
+pub letters-none : (past : List Statement) (identifier : List ℕ) → KeepsValue identifier past
     → letters_at past identifier ≡ None
 letters-none [] identifier keeps = refl
 letters-none (scope name ∷ past) identifier keeps = letters-none past identifier keeps
@@ -74,7 +74,7 @@ letters-none (dump_end ∷ past) identifier keeps = letters-none past identifier
 
 -- a statement in front that doesn't change the identifier
 last-later : (statement : Statement) (past : List Statement) (identifier letters : List ℕ)
-    → ((later : List Statement) → Keeps identifier later → Keeps identifier (statement ∷ later))
+    → ((later : List Statement) → KeepsValue identifier later → KeepsValue identifier (statement ∷ later))
     → LastChange past identifier letters → LastChange (statement ∷ past) identifier letters
 last-later statement past identifier letters stays found = record {
   later = statement ∷ found.later;
@@ -151,7 +151,7 @@ happened-time false before is more = is
 same-time : (one other : ℕ) → one ≡ other → (one == other) ≡ true
 same-time one other same = grind (arith, nat_tests)
 
-happened-behind : (later earlier : List Statement) (identifier : List ℕ) → StaysInTime later earlier
+happened-behind : (later earlier : List Statement) (identifier : List ℕ) → ReachNoTime later earlier
     → happened_at earlier identifier ≡ true → happened_at (later ++ earlier) identifier ≡ true
 happened-behind [] earlier identifier stays is = is
 happened-behind (scope name ∷ later) earlier identifier stays is =
@@ -193,8 +193,8 @@ happened-is past identifier found =
 
 -- one more statement, which reaches no other time
 happened-later : (statement : Statement) (past : List Statement) (identifier : List ℕ)
-    → ((later earlier : List Statement) → past ≡ later ++ earlier → StaysInTime later earlier
-    → StaysInTime (statement ∷ later) earlier)
+    → ((later earlier : List Statement) → past ≡ later ++ earlier → ReachNoTime later earlier
+    → ReachNoTime (statement ∷ later) earlier)
     → Happened past identifier → Happened (statement ∷ past) identifier
 happened-later statement past identifier stays found = record {
   later = statement ∷ found.later;
@@ -502,7 +502,7 @@ true-is defined past name =
 pub happens-is : (defined : List SignalDefined) (past : List Statement) (name : List ℕ)
     → HasHappened defined past name ↔ (happens_at defined past name ≡ true)
 happens-is defined past name =
-    let reads = event_in (signal_definition_of (of_changes defined) name) name in (
+    let reads = event_read_by (signal_definition_of (of_changes defined) name) name in (
       λ has.
           ap (λ own. option_map_or (is_come past) own false)
           (read-first reads past has.asked has.declared)

@@ -1,7 +1,7 @@
 -- What is known behind a declaration.
 use Rattle.std.proofs.Common.{◌≡◌, ℕ, List, [], ◌∷◌, take, refl, sym, subst}
 use Rattle.tre_vcd.specs.VcdReading.{Statement, var, offer_in}
-use Rattle.tre_vcd.specs.Kept.{IsQuiet, Knows}
+use Rattle.tre_vcd.specs.Kept.{IsQuiet, KnowsOfPast}
 use Rattle.tre_vcd.specs.Signals.{KnowsSignals}
 use Rattle.tre_vcd.specs.declared.past.Past.{Past}
 use Rattle.tre_vcd.specs.declared.signals.Signals.{Signals}
@@ -16,11 +16,11 @@ signals-moved names own_names events own_events kept own past n e k knows =
 
 pub knows-moved : (names own_names events own_events : List (List ℕ)) (kept own : Past)
     (past : List Statement) → own_names ≡ names → own_events ≡ events → own ≡ kept
-    → Knows names events kept past → Knows own_names own_events own past
+    → KnowsOfPast names events kept past → KnowsOfPast own_names own_events own past
 knows-moved names own_names events own_events kept own past n e k knows =
-    subst (λ all. Knows all own_events own past) (sym n)
-    (subst (λ all. Knows names all own past) (sym e)
-    (subst (λ all. Knows names events all past) (sym k) knows))
+    subst (λ all. KnowsOfPast all own_events own past) (sym n)
+    (subst (λ all. KnowsOfPast names all own past) (sym e)
+    (subst (λ all. KnowsOfPast names events all past) (sym k) knows))
 
 pub quiet-before : (past : List Statement) (tokens : List (List ℕ)) → IsQuiet (var tokens ∷ past)
     → IsQuiet past

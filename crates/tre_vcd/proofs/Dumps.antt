@@ -5,7 +5,7 @@ use Rattle.tre_parts.proofs.Walks.{reading-last}
 use Rattle.tre_parts.specs.Format.{faulty, behind, read_on, after_part, recording_from, first_spot}
 use Rattle.tre_parts.specs.declared.spot.Spot.{Spot}
 use Rattle.tre_trace.specs.declared.fault.TraceKind.{TraceKind}
-use Rattle.tre_vcd.specs.Dumps.{IsToken, Spaced, Say, tokens_in, IsComplete, CompletesWith, HasFault}
+use Rattle.tre_vcd.specs.Dumps.{IsToken, Spaced, GroupsSay, tokens_of_groups, IsComplete, CompletesWith, TokenHasFault}
 use Rattle.tre_vcd.specs.VcdReading as vcd
 use Rattle.tre_vcd.specs.VcdReading.{is_white, Terms, Statement, Place, token_says, end_says, vcd_format, vcd_recording, happens_at}
 use Rattle.tre_trace.specs.Reading.{Stretch}
@@ -24,13 +24,13 @@ end_none terms past spot complete =
     ∙ rw (complete.defined, complete.closed) refl
 
 pub read_trace : (terms : Terms) (groups : List (List (List ℕ))) (bytes : List ℕ)
-    (stretches : List Stretch) (last : List ℕ → Bool) → Spaced (tokens_in groups) bytes
-    → Say terms [] groups stretches (CompletesWith terms.definitions last)
+    (stretches : List Stretch) (last : List ℕ → Bool) → Spaced (tokens_of_groups groups) bytes
+    → GroupsSay terms [] groups stretches (CompletesWith terms.definitions last)
     → vcd_recording terms true bytes ≡ record { stretches = stretches; last = last; fault = None }
 read_trace terms groups bytes stretches last spaced say =
     let leads = groups_run terms [] groups stretches _ say in
     let read =
-    tokens_read terms true (at [] vcd.nothing) first_spot (tokens_in groups) bytes []
+    tokens_read terms true (at [] vcd.nothing) first_spot (tokens_of_groups groups) bytes []
     (record { stretches = stretches; state = at leads.now vcd.nothing }) spaced leads.runs in
     ap (vcd_recording terms true) (sym (append-nil bytes))
     ∙ read.reads
@@ -43,8 +43,8 @@ read_trace terms groups bytes stretches last spaced say =
     ∙ ap (λ n. record { stretches = stretches; last = n; fault = None }) (sym leads.ends.happened)
 
 pub read_part : (terms : Terms) (groups : List (List (List ℕ))) (bytes : List ℕ)
-    (stretches : List Stretch) → Spaced (tokens_in groups) bytes
-    → Say terms [] groups stretches (λ past. Unit {0})
+    (stretches : List Stretch) → Spaced (tokens_of_groups groups) bytes
+    → GroupsSay terms [] groups stretches (λ past. Unit {0})
     → vcd_recording terms false bytes ≡ record {
       stretches = stretches;
       last = λ name. false;
@@ -53,7 +53,7 @@ pub read_part : (terms : Terms) (groups : List (List (List ℕ))) (bytes : List 
 read_part terms groups bytes stretches spaced say =
     let leads = groups_run terms [] groups stretches _ say in
     let read =
-    tokens_read terms false (at [] vcd.nothing) first_spot (tokens_in groups) bytes []
+    tokens_read terms false (at [] vcd.nothing) first_spot (tokens_of_groups groups) bytes []
     (record { stretches = stretches; state = at leads.now vcd.nothing }) spaced leads.runs in
     ap (vcd_recording terms false) (sym (append-nil bytes))
     ∙ read.reads
@@ -66,8 +66,8 @@ read_part terms groups bytes stretches spaced say =
 pub read_fault : (terms : Terms) (closed : Bool) (groups : List (List (List ℕ)))
     (begun : List (List ℕ)) (front token back : List ℕ) (separator : ℕ)
     (stretches : List Stretch) (kind : TraceKind)
-    → Spaced (tokens_in groups ++ begun) front → IsToken token → is_white separator ≡ true
-    → Say terms [] groups stretches (λ past. HasFault terms past begun token kind)
+    → Spaced (tokens_of_groups groups ++ begun) front → IsToken token → is_white separator ≡ true
+    → GroupsSay terms [] groups stretches (λ past. TokenHasFault terms past begun token kind)
     → vcd_recording terms closed (front ++ (token ++ separator ∷ back))
     ≡ record {
       stretches = stretches;
@@ -79,14 +79,14 @@ read_fault terms closed groups begun front token back separator stretches kind s
     let leads = groups_run terms [] groups stretches _ say in
     let stops = fault_stops terms leads.now begun token kind is.some leads.ends in
     let place = at leads.now stops.inside in
-    let runs : run terms (at [] vcd.nothing) (tokens_in groups ++ begun)
+    let runs : run terms (at [] vcd.nothing) (tokens_of_groups groups ++ begun)
     ≡ Ok (record { stretches = stretches; state = place }) =
-    run-append terms (at [] vcd.nothing) (tokens_in groups) begun
+    run-append terms (at [] vcd.nothing) (tokens_of_groups groups) begun
     ∙ ap (λ said. then_run said (λ now. run terms now begun)) leads.runs
     ∙ ap (with_front stretches) stops.runs
     ∙ ap (λ all. Ok (record { stretches = all; state = place })) (append-nil stretches) in
     let read =
-    tokens_read terms closed (at [] vcd.nothing) first_spot (tokens_in groups ++ begun) front
+    tokens_read terms closed (at [] vcd.nothing) first_spot (tokens_of_groups groups ++ begun) front
     (token ++ separator ∷ back) (record { stretches = stretches; state = place }) spaced runs in
     read.reads
     ∙ ap (behind stretches)

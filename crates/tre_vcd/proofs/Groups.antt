@@ -10,7 +10,7 @@ use Rattle.tre_parts.specs.Format.{Step}
 use Rattle.tre_trace.specs.Reading.{Stretch}
 use Rattle.tre_trace.specs.declared.fault.TraceKind.{TraceKind}
 use Rattle.tre_define.specs.Signals.{SignalDefined}
-use Rattle.tre_vcd.specs.Dumps.{AreInner, section_of, IsScalar, is_vector, is_number, IsVector, Write, AreSilent, Belongs, Fits, Bring, SayNext, Say, tokens_in}
+use Rattle.tre_vcd.specs.Dumps.{AreInner, section_of, IsScalar, is_vector, is_number, IsVector, Write, AreSilent, Belongs, StatementFits, Bring, SayNext, GroupsSay, tokens_of_groups}
 use Rattle.tre_vcd.specs.VcdReading.{is_end, is_dump, is_scalar, is_defined, scopes_at, time_at, stretch_until, Terms, scalar, wide, Statement, scope, upscope, var, definitions, time, change, dump, dump_end, Open, nothing, section, comment, vector, number, Place, goes_to, scope_says, section_says, command_says, time_says, scalar_says, vector_says, value_says, happens_at, true_at}
 use Rattle.tre_vcd.specs.Sections.{dump_says}
 use Rattle.tre_vcd.proofs.TokenRuns.{with_front, with_front-none, then_run, stay, run, run-append}
@@ -240,7 +240,7 @@ vector_run terms past identifier letters tokens one defined =
 -- what says something goes on behind it
 pub writes_run : (terms : Terms) (past : List Statement) (statement : Statement)
     (tokens : List (List ℕ)) → Write terms.scale statement tokens → Belongs past statement
-    → Fits terms past statement
+    → StatementFits terms past statement
     → run terms (at past nothing) tokens ≡ tells (brought terms.definitions past statement) (statement ∷ past)
 writes_run terms past (scope name) tokens writes belongs fits =
     rw writes.is
@@ -341,10 +341,10 @@ pub record LeadsTo (terms : Terms) (past : List Statement) (groups : List (List 
     (stretches : List Stretch) (End : List Statement → Type 0) : Type 0 where
   pub now : List Statement
   pub ends : End now
-  pub runs : run terms (at past nothing) (tokens_in groups) ≡ tells stretches now
+  pub runs : run terms (at past nothing) (tokens_of_groups groups) ≡ tells stretches now
 
 pub groups_run : (terms : Terms) (past : List Statement) (groups : List (List (List ℕ)))
-    (stretches : List Stretch) (End : List Statement → Type 0) → Say terms past groups stretches End
+    (stretches : List Stretch) (End : List Statement → Type 0) → GroupsSay terms past groups stretches End
     → LeadsTo terms past groups stretches End
 groups_run terms past [] stretches End say = record {
   now = past;
@@ -353,24 +353,24 @@ groups_run terms past [] stretches End say = record {
 }
 groups_run terms past (tokens ∷ groups) stretches End say =
     ⊎_elim
-    (λ (silent : AreSilent (is_defined past) tokens × Say terms past groups stretches End).
+    (λ (silent : AreSilent (is_defined past) tokens × GroupsSay terms past groups stretches End).
     let later = groups_run terms past groups stretches End silent.1 in record {
       now = later.now;
       ends = later.ends;
       runs =
-          run-append terms (at past nothing) tokens (tokens_in groups)
-          ∙ ap (λ said. then_run said (λ place. run terms place (tokens_in groups)))
+          run-append terms (at past nothing) tokens (tokens_of_groups groups)
+          ∙ ap (λ said. then_run said (λ place. run terms place (tokens_of_groups groups)))
           (silent_run terms past tokens (is_defined past) refl silent.0)
-          ∙ with_front-none (run terms (at past nothing) (tokens_in groups))
+          ∙ with_front-none (run terms (at past nothing) (tokens_of_groups groups))
           ∙ later.runs;
     })
-    (λ (next : SayNext terms past tokens stretches (λ now rest. Say terms now groups rest End)).
+    (λ (next : SayNext terms past tokens stretches (λ now rest. GroupsSay terms now groups rest End)).
     let later = groups_run terms (next.statement ∷ past) groups next.rest End next.later in record {
       now = later.now;
       ends = later.ends;
       runs =
-          run-append terms (at past nothing) tokens (tokens_in groups)
-          ∙ ap (λ said. then_run said (λ place. run terms place (tokens_in groups)))
+          run-append terms (at past nothing) tokens (tokens_of_groups groups)
+          ∙ ap (λ said. then_run said (λ place. run terms place (tokens_of_groups groups)))
           (writes_run terms past next.statement tokens next.writes next.belongs next.fits)
           ∙ ap (with_front (brought terms.definitions past next.statement)) later.runs
           ∙ ap (λ all. tells all later.now)

@@ -5,7 +5,7 @@ use Rattle.std.proofs.Math.Seq.{take-append_seam}
 use Rattle.std.proofs.lemmas.List.{map-append}
 use Rattle.tre_trace.specs.Reading.{Vocabulary}
 use Rattle.tre_vcd.specs.VcdReading.{Statement, var, scopes_at, is_signal, is_event}
-use Rattle.tre_vcd.specs.Kept.{identifier_of, KnowsNeeded, KnowsAll, IsWithin, AreWithin, DeclaresNoneWithin, plain_of, vocabulary_of}
+use Rattle.tre_vcd.specs.Kept.{identifier_of, KnowsNeeded, KnowsAll, AreNoLonger, AreWithin, DeclaresNoneWithin, plain_of, vocabulary_of}
 use Rattle.tre_define.specs.Signals.{SignalDefined}
 use Rattle.tre_vcd.specs.Offers.{KnowsOffers, KnowOffers}
 use Rattle.tre_vcd.specs.declared.found.Found.{Found}
@@ -85,7 +85,7 @@ longer : (a b : ℕ) (names : List (List ℕ)) → a ≤ b → All (λ name. len
     → All (λ name. length name ≤ b) names
 longer a b names more all = λ k d below. omega (arith, all k d below, more)
 
-pub within-more : (a b : ℕ) (asked : Vocabulary) → a ≤ b → IsWithin a asked → IsWithin b asked
+pub within-more : (a b : ℕ) (asked : Vocabulary) → a ≤ b → AreNoLonger a asked → AreNoLonger b asked
 within-more a b asked more is = record {
   names = longer a b asked.names more is.names;
   events = longer a b asked.events more is.events;
@@ -93,7 +93,7 @@ within-more a b asked more is = record {
 
 -- with one list of names more, and where longer names are let in
 pub all-within : (a b : ℕ) (all : List Vocabulary) (asked : Vocabulary) → a ≤ b
-    → AreWithin a all → IsWithin b asked → AreWithin b (all ++ asked ∷ [])
+    → AreWithin a all → AreNoLonger b asked → AreWithin b (all ++ asked ∷ [])
 all-within a b [] asked more are is = (is, tt)
 all-within a b (first ∷ others) asked more are is =
     (within-more a b first more are.0, all-within a b others asked more are.1 is)
@@ -108,7 +108,7 @@ within-same longest now asked own all others same names needed is =
 
 pub within-push : (a b : ℕ) (all new : List Found) (found : Found) → a ≤ b
     → new ≡ all ++ found ∷ [] → AreWithin a (map plain_of all)
-    → IsWithin b (plain_of found) → AreWithin b (map plain_of new)
+    → AreNoLonger b (plain_of found) → AreWithin b (map plain_of new)
 within-push a b all new found more is are also =
     subst (AreWithin b)
     (sym (ap (map plain_of) is ∙ map-append plain_of all (found ∷ [])))
@@ -117,7 +117,7 @@ within-push a b all new found more is are also =
 -- the longer of two is the longest of all
 pub within-both : (names events : List (List ℕ)) (a b n : ℕ) → a ≤ n → b ≤ n
     → All (λ name. length name ≤ a) names → All (λ name. length name ≤ b) events
-    → IsWithin n (record { names = names; events = events })
+    → AreNoLonger n (record { names = names; events = events })
 within-both names events a b n one two first second = record {
   names = longer a n names one first;
   events = longer b n events two second;

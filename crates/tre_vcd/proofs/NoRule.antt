@@ -10,7 +10,7 @@ use Rattle.tre_parts.specs.Format.{Step}
 use Rattle.tre_decimal.specs.Decimal.{is_numeral}
 use Rattle.tre_trace.specs.declared.fault.TraceKind.{TraceKind}
 use Rattle.tre_trace.specs.declared.fault.TraceKind.TheVariants.{LineTooLong, BadNumber, Zero, TooLate, BadName, BadToken, UnknownName, TimeBack, CutShort, Spent, Memory}
-use Rattle.tre_vcd.specs.Dumps.{AreInner, IsTime, is_vector, is_number, AreSilent, FitsNoRule, EndsEarly, LacksName, HasFault}
+use Rattle.tre_vcd.specs.Dumps.{AreInner, IsTimeToken, is_vector, is_number, AreSilent, FitsNoRule, EndsEarly, LacksName, TokenHasFault}
 use Rattle.tre_vcd.specs.VcdReading.{is_end, is_dump, is_command, is_scalar, is_defined, in_dump, scopes_at, time_at, Terms, scalar, wide, Statement, scope, upscope, var, definitions, time, change, dump, dump_end, Open, nothing, section, Place, goes_to, scope_says, section_says, command_says, time_says, ticks_say, keyword_says, scalar_says, vector_says, value_says, token_at}
 use Rattle.tre_vcd.specs.Sections.{dump_says, dump_end_says}
 use Rattle.tre_vcd.proofs.Groups.{at, is_word}
@@ -311,14 +311,14 @@ not_below a b le = grind (arith, nat_tests)
 
 timed : (terms : Terms) (past : List Statement) (token : List ℕ) (ticks : ℕ)
     (said : Result (Step Place) TraceKind) → is_defined past ≡ true
-    → IsTime terms.scale ticks (token ∷ [])
+    → IsTimeToken terms.scale ticks (token ∷ [])
     → time_says terms.definitions past ticks ≡ said → token_at terms past nothing token ≡ said
 timed terms past token ticks said defined one says =
     let token_is : token ≡ 35 ∷ one.digits = cc (one.is) in
     rw (defined, token_is, one.numeral, ← one.value) says
 
 pub fault_stops : (terms : Terms) (past : List Statement) (begun : List (List ℕ))
-    (token : List ℕ) (kind : TraceKind) → 0 < length token → HasFault terms past begun token kind
+    (token : List ℕ) (kind : TraceKind) → 0 < length token → TokenHasFault terms past begun token kind
     → Stops terms past begun token kind
 fault_stops terms past begun token BadToken some (inl none) =
     first_stops terms past begun token BadToken none.0

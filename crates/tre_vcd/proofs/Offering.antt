@@ -6,7 +6,7 @@ use Rattle.std.specs.List.{list_all}
 use Rattle.std.specs.Option.{is_some, option_map, option_or}
 use Rattle.std.proofs.lemmas.List.Elements.{All-head, All-tail}
 use Rattle.tre_define.specs.Signals.{SignalDefined, signal_definition_of, changes_in, test_in}
-use Rattle.tre_vcd.specs.VcdReading.{Statement, var, scopes_at, is_signal, is_event, Offer, offer_in, asked_in, occasion_in, signal_in, event_in, first_read, of_changes, signal_of, event_of}
+use Rattle.tre_vcd.specs.VcdReading.{Statement, var, scopes_at, is_signal, is_event, Offer, offer_in, asked_in, occasion_in, signal_in, event_read_by, first_read, of_changes, signal_of, event_asked}
 use Rattle.tre_vcd.specs.Kept.{identifier_of, flags_of}
 use Rattle.tre_vcd.specs.Signals.{test_read, part_read}
 use Rattle.tre_vcd.specs.Sorted.{AreSorted, is_undefined, wanted}
@@ -160,11 +160,11 @@ signal-plain all past name none =
 
 event-plain : (all : List SignalDefined) (past : List Statement) (name : List ℕ)
     → signal_definition_of (of_changes all) name ≡ None
-    → is_some (identifier_of is_event past name) ≡ is_some (event_of all past name)
+    → is_some (identifier_of is_event past name) ≡ is_some (event_asked all past name)
 event-plain all past name none =
     map-some _ (identifier_of is_event past name)
     ∙ ap is_some (sym (plain-event past name))
-    ∙ ap (λ (d : Option SignalDefined). is_some (first_read (event_in d name) past)) (sym none)
+    ∙ ap (λ (d : Option SignalDefined). is_some (first_read (event_read_by d name) past)) (sym none)
 
 signal-own : (all : List SignalDefined) (past : List Statement) (one : SignalDefined)
     → signal_definition_of all one.name ≡ Some one
@@ -174,9 +174,9 @@ signal-own all past one some =
 
 event-own : (all : List SignalDefined) (past : List Statement) (one : SignalDefined)
     → signal_definition_of (of_changes all) one.name ≡ Some one
-    → is_some (part_read past (Some one)) ≡ is_some (event_of all past one.name)
+    → is_some (part_read past (Some one)) ≡ is_some (event_asked all past one.name)
 event-own all past one some =
-    ap (λ (d : Option SignalDefined). is_some (first_read (event_in d one.name) past)) (sym some)
+    ap (λ (d : Option SignalDefined). is_some (first_read (event_read_by d one.name) past)) (sym some)
 
 both-true : (a b : Bool) → (a && b) ≡ true → (a ≡ true) × (b ≡ true)
 both-true true true is = (refl, refl)
@@ -234,13 +234,13 @@ pub events-declared : (all : List SignalDefined) (past : List Statement)
     → AreSorted (of_changes all) names defined → flags ≡ flags_of is_event past names
     → tests ≡ map (λ one. is_some (part_read past (Some one))) defined
     → (list_all (λ flag. flag) flags && list_all (λ flag. flag) tests)
-    ≡ list_all (λ name. is_some (event_of all past name)) (wanted names defined)
+    ≡ list_all (λ name. is_some (event_asked all past name)) (wanted names defined)
 events-declared all past names defined flags tests sorted is own =
     ap₂ (λ a b. a && b) (all-flags is_event past names flags is)
     (all-flagged (λ one. is_some (part_read past (Some one))) defined tests own)
     ∙ both-declared (λ name. is_some (identifier_of is_event past name))
     (λ one. is_some (part_read past (Some one)))
-    (λ name. is_some (event_of all past name)) names defined
+    (λ name. is_some (event_asked all past name)) names defined
     (all-guarded _ _ (is_undefined (of_changes all)) names sorted.plain
     (λ name none. event-plain all past name
     (none-of (signal_definition_of (of_changes all) name) none)))

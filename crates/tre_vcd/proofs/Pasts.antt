@@ -10,7 +10,7 @@ use Rattle.tre_trace.specs.Reading.{Vocabulary}
 use Rattle.tre_vcd.specs.VcdReading.{Form, Statement, var, time, change, scalar, is_defined, time_at, scopes_at, in_dump, letters_at, happened_at, is_signal, is_event, path}
 use Rattle.tre_vcd.specs.Brief.{IsBriefOf}
 use Rattle.tre_vcd.specs.declared.brief.Brief.{Brief}
-use Rattle.tre_vcd.specs.Kept.{ends_true, identifier_at, identifier_of, value_at, Knows, IsQuiet, AreScopes, AreKnown, KeepsNames, AreHaving, IsWithin, Declares, DeclaresNone, DeclaresNoneWithin, and_declared, valuation_at, events_at}
+use Rattle.tre_vcd.specs.Kept.{ends_true, identifier_at, identifier_of, value_at, KnowsOfPast, IsQuiet, AreScopes, AreKnown, KeepsNames, AreHaving, AreNoLonger, Declares, DeclaresNone, DeclaresNoneWithin, and_declared, valuation_behind, events_at}
 use Rattle.tre_vcd.specs.declared.scopes.Scopes.{Scopes}
 use Rattle.tre_vcd.specs.declared.past.Past.{Past}
 use Rattle.tre_vcd.specs.declared.variables.Variables.{Variables}
@@ -28,7 +28,7 @@ pub record LooksSame (past now : List Statement) : Type 0 where
   pub events : (identifier : List ℕ) → happened_at now identifier ≡ happened_at past identifier
 
 values-same : (past now : List Statement) (names : List (List ℕ)) → LooksSame past now
-    → valuation_at past names ≡ valuation_at now names
+    → valuation_behind past names ≡ valuation_behind now names
 values-same past now names same =
     mask-same (identifier_of is_signal past) (identifier_of is_signal now) (value_at past)
     (value_at now) 0 names (same.identifiers is_signal)
@@ -49,8 +49,8 @@ quiet-same past now same quiet = record {
 -- where it is told anew which identifiers are short
 pub knows-brief : (names event_names : List (List ℕ)) (kept : Past) (past : List Statement)
     (brief : Brief) → IsBriefOf (identifier_at kept.propositions.list.items) brief
-    → Knows names event_names kept past
-    → Knows names event_names (record kept { brief = brief }) past
+    → KnowsOfPast names event_names kept past
+    → KnowsOfPast names event_names (record kept { brief = brief }) past
 knows-brief names event_names kept past brief told known = record {
   defined = known.defined;
   dump = known.dump;
@@ -74,8 +74,8 @@ pub knows-later : (names event_names : List (List ℕ)) (kept : Past) (past : Li
     → (is_defined (statement ∷ past) ≡ true → IsBriefOf (identifier_at kept.propositions.list.items)
     kept.brief)
     → AreScopes (scopes_at (statement ∷ past)) scopes.prefix.items scopes.lens.items
-    → Knows names event_names kept past
-    → Knows names event_names (record kept {
+    → KnowsOfPast names event_names kept past
+    → KnowsOfPast names event_names (record kept {
       is_defined = defined;
       in_dump = dumps;
       scopes = scopes;
@@ -105,7 +105,7 @@ pub knows-begins : (names event_names : List (List ℕ)) (kept : Past) → kept.
     → AreScopes [] kept.scopes.prefix.items kept.scopes.lens.items
     → KeepsNames (λ name. None) names kept.propositions
     → KeepsNames (λ name. None) event_names kept.events → kept.values ≡ 0 → kept.happened ≡ 0
-    → Knows names event_names kept []
+    → KnowsOfPast names event_names kept []
 knows-begins names event_names kept defined dumps ticks scopes propositions events values happened =
     record {
       defined = defined;
@@ -152,8 +152,8 @@ same_time ticks before same = grind (arith, nat_tests)
 -- another time
 pub knows-time : (names event_names : List (List ℕ)) (kept : Past) (past : List Statement)
     (ticks : ℕ)
-    → ticks ≢ kept.time → Knows names event_names kept past
-    → Knows names event_names (record kept { time = ticks; happened = 0 }) (time ticks ∷ past)
+    → ticks ≢ kept.time → KnowsOfPast names event_names kept past
+    → KnowsOfPast names event_names (record kept { time = ticks; happened = 0 }) (time ticks ∷ past)
 knows-time names event_names kept past ticks other known =
     let later : (ticks == time_at past) ≡ false =
     other_time ticks (time_at past) (λ e. other (e ∙ sym known.time)) in
@@ -185,8 +185,8 @@ knows-time names event_names kept past ticks other known =
 -- the same time again
 pub knows-same_time : (names event_names : List (List ℕ)) (kept : Past) (past : List Statement)
     (ticks : ℕ)
-    → ticks ≡ kept.time → Knows names event_names kept past
-    → Knows names event_names kept (time ticks ∷ past)
+    → ticks ≡ kept.time → KnowsOfPast names event_names kept past
+    → KnowsOfPast names event_names kept (time ticks ∷ past)
 knows-same_time names event_names kept past ticks is known =
     let again : (ticks == time_at past) ≡ true =
     same_time ticks (time_at past) (is ∙ known.time) in
@@ -237,8 +237,8 @@ pub knows-change : (names event_names : List (List ℕ)) (kept : Past) (past : L
     → ((k : ℕ) → bit_at bits k ≡ 1 → bit_at values k ≡ (if value then 1 else 0))
     → ((k : ℕ) → bit_at bits k ≢ 1 → bit_at values k ≡ bit_at kept.values k)
     → happened ≡ events_at (change form identifier letters ∷ past) event_names
-    → Knows names event_names kept past
-    → Knows names event_names (record kept { values = values; happened = happened })
+    → KnowsOfPast names event_names kept past
+    → KnowsOfPast names event_names (record kept { values = values; happened = happened })
     (change form identifier letters ∷ past)
 knows-change names event_names kept past form identifier letters value values
     happened bits defined value_is having changed
@@ -276,7 +276,7 @@ pub events-stay : (names event_names : List (List ℕ)) (kept : Past) (past : Li
     (identifier letters : List ℕ)
     → ((other : List ℕ) → happened_at (change form identifier letters ∷ past) other
     ≡ happened_at past other)
-    → Knows names event_names kept past
+    → KnowsOfPast names event_names kept past
     → kept.happened ≡ events_at (change form identifier letters ∷ past) event_names
 events-stay names event_names kept past form identifier letters same known =
     known.happened
@@ -309,7 +309,7 @@ said-others past identifier letters outside other apart =
 
 -- in a dump section
 pub events-inside : (names event_names : List (List ℕ)) (kept : Past) (past : List Statement)
-    (identifier letters : List ℕ) → in_dump past ≡ true → Knows names event_names kept past
+    (identifier letters : List ℕ) → in_dump past ≡ true → KnowsOfPast names event_names kept past
     → kept.happened ≡ events_at (change scalar identifier letters ∷ past) event_names
 events-inside names event_names kept past identifier letters inside known =
     events-stay names event_names kept past scalar identifier letters
@@ -322,7 +322,7 @@ no_items (item ∷ items) is = absurd (grind (arith, nat_tests))
 -- where no event is declared
 pub events-none : (names event_names : List (List ℕ)) (kept : Past) (past : List Statement)
     (identifier letters : List ℕ) → kept.events.list.items ≡ []
-    → Knows names event_names kept past
+    → KnowsOfPast names event_names kept past
     → kept.happened ≡ events_at (change scalar identifier letters ∷ past) event_names
 events-none names event_names kept past identifier letters empty known =
     let now : List Statement = change scalar identifier letters ∷ past in
@@ -338,7 +338,7 @@ events-none names event_names kept past identifier letters empty known =
 pub events-unread : (names event_names : List (List ℕ)) (kept : Past) (past : List Statement)
     (identifier letters : List ℕ) (inside none : Bool) → kept.in_dump ≡ inside
     → (length kept.events.list.items == 0) ≡ none → (not inside && not none) ≡ false
-    → Knows names event_names kept past
+    → KnowsOfPast names event_names kept past
     → kept.happened ≡ events_at (change scalar identifier letters ∷ past) event_names
 events-unread names event_names kept past identifier letters true none is e unread known =
     events-inside names event_names kept past identifier letters (sym known.dump ∙ is) known
@@ -363,7 +363,7 @@ pub events-said : (names event_names : List (List ℕ)) (kept : Past) (past : Li
     → AreHaving kept.events.list.items identifier bits
     → ((k : ℕ) → bit_at bits k ≡ 1 → bit_at happened k ≡ 1)
     → ((k : ℕ) → bit_at bits k ≢ 1 → bit_at happened k ≡ bit_at kept.happened k)
-    → Knows names event_names kept past
+    → KnowsOfPast names event_names kept past
     → happened ≡ events_at (change scalar identifier letters ∷ past) event_names
 events-said names event_names kept past identifier letters happened bits outside having changed stays
     known =
@@ -401,8 +401,8 @@ pub knows-declared : (names event_names : List (List ℕ)) (kept : Past) (past :
     (tokens : List (List ℕ)) (propositions events : Variables) → is_defined past ≡ false
     → KeepsNames (identifier_of is_signal (var tokens ∷ past)) names propositions
     → KeepsNames (identifier_of is_event (var tokens ∷ past)) event_names events
-    → Knows names event_names kept past
-    → Knows names event_names (record kept { propositions = propositions; events = events })
+    → KnowsOfPast names event_names kept past
+    → KnowsOfPast names event_names (record kept { propositions = propositions; events = events })
     (var tokens ∷ past)
 knows-declared names event_names kept past tokens propositions events before signals said known =
     let quiet = known.quiet before in
@@ -449,9 +449,9 @@ keeps-within longest test past tokens names kept none within keeps =
 pub knows-within : (longest : ℕ) (asked : Vocabulary) (kept : Past) (past : List Statement)
     (tokens : List (List ℕ)) → is_defined past ≡ false
     → DeclaresNoneWithin longest is_signal (scopes_at past) tokens
-    → DeclaresNoneWithin longest is_event (scopes_at past) tokens → IsWithin longest asked
-    → Knows asked.names asked.events kept past
-    → Knows asked.names asked.events kept (var tokens ∷ past)
+    → DeclaresNoneWithin longest is_event (scopes_at past) tokens → AreNoLonger longest asked
+    → KnowsOfPast asked.names asked.events kept past
+    → KnowsOfPast asked.names asked.events kept (var tokens ∷ past)
 knows-within longest asked kept past tokens before signals said within known =
     knows-declared asked.names asked.events kept past tokens kept.propositions kept.events before
     (keeps-within longest is_signal past tokens asked.names kept.propositions signals within.names

@@ -9,7 +9,7 @@ use Rattle.tre_parts.specs.declared.skimmed.Skimmed.{Skimmed}
 use Rattle.tre_parts.proofs.Skimming.{skims-next, skims-kept}
 use Rattle.tre_trace.specs.Reading.{Vocabulary}
 use Rattle.tre_trace.specs.declared.segment.Segment.{Segment}
-use Rattle.tre_vcd.specs.Kept.{Knows}
+use Rattle.tre_vcd.specs.Kept.{KnowsOfPast}
 use Rattle.tre_vcd.specs.Offers.{KnowOffers}
 use Rattle.tre_vcd.specs.Sections.{Holds}
 use Rattle.tre_vcd.specs.Signals.{KnowsSignals}
@@ -43,7 +43,7 @@ token_identifier terms past letters (byte ∷ bytes) some = refl
 -- behind a change
 pub holds-changed : (reader : TokenReader) (past : List Statement) (form : Form)
     (identifier letters : List ℕ) (kept : Past) (signals : Signals)
-    → Knows reader.names reader.events kept (change form identifier letters ∷ past)
+    → KnowsOfPast reader.names reader.events kept (change form identifier letters ∷ past)
     → KnowsSignals reader.names reader.events signals (change form identifier letters ∷ past)
     → signals.definitions ≡ reader.signals.definitions
     → Holds reader (record { past = past; inside = nothing })

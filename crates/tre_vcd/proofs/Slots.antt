@@ -8,7 +8,7 @@ use Rattle.std.proofs.lemmas.Bool.{cases_eq, cases_lt}
 use Rattle.std.proofs.lemmas.Bool.Decides.{nat_tests}
 use Rattle.std.proofs.lemmas.List.{get_or-replicate, get_or_past, get_or-set_same, get_or-set_other, length-replicate}
 use Rattle.std.proofs.lemmas.Nat.Bits.{bit_at_set_same, bit_at_set_other, bit_at_and, bit_at-lt, bit_at-zero}
-use Rattle.tre_vcd.specs.Brief.{first_slot, second_slot, Tells, IsBriefOf, and_told}
+use Rattle.tre_vcd.specs.Brief.{first_slot, second_slot, TellsSlots, IsBriefOf, and_told}
 use Rattle.tre_vcd.specs.Kept.{AreHaving, identifier_at}
 use Rattle.tre_vcd.specs.declared.brief.Brief.{Brief}
 use Rattle.tre_vcd.specs.declared.variable.Variable.{Variable}
@@ -26,7 +26,7 @@ zeros count slot = elim (cases_lt slot count) [
 
 -- where there is no identifier
 pub tells-none : (slot_of : List ℕ → ℕ) (count : ℕ)
-    → Tells slot_of (λ k. None) (clear count)
+    → TellsSlots slot_of (λ k. None) (clear count)
 tells-none slot_of count = record {
   each = λ slot k. (
     λ set.
@@ -38,7 +38,7 @@ tells-none slot_of count = record {
 }
 
 pub tells-same : (slot_of : List ℕ → ℕ) (one other : ℕ → Option (List ℕ)) (masks : List ℕ)
-    → ((k : ℕ) → one k ≡ other k) → Tells slot_of one masks → Tells slot_of other masks
+    → ((k : ℕ) → one k ≡ other k) → TellsSlots slot_of one masks → TellsSlots slot_of other masks
 tells-same slot_of one other masks same tells = record {
   each = λ slot k.
       let is : option_map slot_of (one k) ≡ option_map slot_of (other k) =
@@ -80,7 +80,7 @@ module _ (slot_of : List ℕ → ℕ) (identified : ℕ → Option (List ℕ)) (
       ap (λ n. bit_at n number) (get_or-set_same masks place _ 0 within)
       ∙ bit_at_set_same w64 (get_or masks place 0) number small
 
-  own-slot : Tells slot_of identified masks → (slot : ℕ)
+  own-slot : TellsSlots slot_of identified masks → (slot : ℕ)
       → (bit_at (get_or now slot 0) number ≡ 1) ↔ (Some (slot_of identifier) ≡ Some slot)
   own-slot tells slot = elim (cases_eq slot place) [
     | inl same ↦ (
@@ -100,8 +100,8 @@ module _ (slot_of : List ℕ → ℕ) (identified : ℕ → Option (List ℕ)) (
     )
   ]
 
-  pub tells-added : Tells slot_of identified masks
-      → Tells slot_of (and_told identified number identifier) now
+  pub tells-added : TellsSlots slot_of identified masks
+      → TellsSlots slot_of (and_told identified number identifier) now
   tells-added tells = record {
     each = λ slot k. elim (cases_eq k number) [
       | inl same ↦
@@ -194,8 +194,8 @@ own-of (Some own) identifier first second some =
 
 -- Where the bits of both slots of an identifier are.
 module _ (variables : List Variable) (identifier firsts seconds : List ℕ)
-    (first : Tells first_slot (identifier_at variables) firsts)
-    (second : Tells second_slot (identifier_at variables) seconds) where
+    (first : TellsSlots first_slot (identifier_at variables) firsts)
+    (second : TellsSlots second_slot (identifier_at variables) seconds) where
   abbrev pub begin : List ℕ → ℕ
   begin bytes = get_or firsts (first_slot bytes) 0
 

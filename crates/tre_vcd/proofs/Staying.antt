@@ -8,10 +8,10 @@ use Rattle.tre_define.specs.Signals.{SignalDefined}
 use Rattle.tre_define.specs.declared.test.Test.{Test}
 use Rattle.tre_define.specs.declared.part.Part.{Part}
 use Rattle.tre_vcd.specs.VcdReading.{Statement, time, is_defined, letters_at, before_now, Asked, is_passed}
-use Rattle.tre_vcd.specs.Kept.{Knows, identifier_of}
+use Rattle.tre_vcd.specs.Kept.{KnowsOfPast, identifier_of}
 use Rattle.tre_vcd.specs.Offers.{KnowOffers}
 use Rattle.tre_vcd.specs.Sections.{KnowsPast}
-use Rattle.tre_vcd.specs.Signals.{AreWatched, KnowsAt, KnowsChanges, KnowsSignals, KnowsTests, bit_of, has_changed, part_kept, part_read, test_at, test_read, watched_at}
+use Rattle.tre_vcd.specs.Signals.{SignalsAreWatched, KnowsAt, KnowsChanges, KnowsSignals, KnowsTests, bit_of, has_changed, part_kept, part_read, test_at, test_read, watched_at}
 use Rattle.tre_vcd.specs.declared.changes.Changes.{Changes}
 use Rattle.tre_vcd.specs.declared.changes.Watched.{Watched}
 use Rattle.tre_vcd.specs.declared.found.Found.{Found}
@@ -82,7 +82,7 @@ tests-stay-time past ticks all names kept knows = record {
 
 pub watched-same : (past now : List Statement) (list : List Watched)
     → ((definition : Option SignalDefined) → part_read now definition ≡ part_read past definition)
-    → AreWatched past list → AreWatched now list
+    → SignalsAreWatched past list → SignalsAreWatched now list
 watched-same past now [] same are = tt
 watched-same past now (watched ∷ list) same are =
     (are.0 ∙ sym (same watched.definition), watched-same past now list same are.1)
@@ -151,7 +151,7 @@ offers-stay all past now (found ∷ others) same knows = (
 pub past-stays : (reader : TokenReader) (past now : List Statement) (kept : Past)
     → ((test : List ℕ → List ℕ → Bool) (name : List ℕ) → identifier_of test now name
     ≡ identifier_of test past name)
-    → StaysSame past now → Knows reader.names reader.events kept now → KnowsPast reader past
+    → StaysSame past now → KnowsOfPast reader.names reader.events kept now → KnowsPast reader past
     → KnowsPast (record reader { past = kept }) now
 past-stays reader past now kept identifiers same known knows = record {
   past = known;

@@ -8,7 +8,7 @@ use Rattle.tre_parts.specs.Format.{Step, behind, read_on, after_part, part_says,
 use Rattle.tre_parts.specs.declared.TheConstants.{PART_MAX}
 use Rattle.tre_parts.specs.declared.spot.Spot.{Spot}
 use Rattle.tre_trace.specs.declared.fault.TraceKind.{TraceKind}
-use Rattle.tre_vcd.specs.Dumps.{IsToken, AreWhite, BeginsWith, Spaced}
+use Rattle.tre_vcd.specs.Dumps.{IsToken, AreWhite, TokenBegins, Spaced}
 use Rattle.tre_vcd.specs.VcdReading.{is_white, Terms, Place, token_at, token_says, vcd_format}
 use Rattle.tre_trace.specs.Reading.{Stretch}
 use Rattle.tre_vcd.proofs.Reading.{says-token}
@@ -129,7 +129,7 @@ token_reads terms closed place spot token separator rest is ends =
 -- One token, and what is known of the tokens behind it.
 module _ (terms : Terms) (closed : Bool) (place : Place) (spot : Spot) (token : List ℕ)
     (tokens : List (List ℕ)) (bytes rest : List ℕ)
-    (spaced : BeginsWith token (Spaced tokens) bytes)
+    (spaced : TokenBegins token (Spaced tokens) bytes)
     (later : (now : Place) (from : Spot) (more : Step Place) → run terms now tokens ≡ Ok more
     → ReadsTo terms closed now from spaced.back rest more) where
   white : ReadsTo terms closed place spot spaced.front

@@ -9,7 +9,7 @@ use Rattle.tre_define.specs.Signals.{SignalDefined, signal_definition_of}
 use Rattle.tre_define.specs.declared.part.Part.{Part}
 use Rattle.tre_vcd.specs.VcdReading.{Statement, Asked, of_changes}
 use Rattle.tre_vcd.specs.Offers.{KnowOffers}
-use Rattle.tre_vcd.specs.Signals.{AreDefined, AreTested, AreWatched, KnowsAt, KnowsChanges, KnowsSignals, KnowsTests, bit_of, has_at, has_changed, part_at, part_kept, part_read, test_at, test_read, watched_at}
+use Rattle.tre_vcd.specs.Signals.{AreDefined, AreTested, SignalsAreWatched, KnowsAt, KnowsChanges, KnowsSignals, KnowsTests, bit_of, has_at, has_changed, part_at, part_kept, part_read, test_at, test_read, watched_at}
 use Rattle.tre_vcd.specs.declared.changes.Changes.{Changes}
 use Rattle.tre_vcd.specs.declared.changes.Watched.{Watched}
 use Rattle.tre_vcd.specs.declared.found.Found.{Found}
@@ -62,8 +62,8 @@ tests-undefined past now names kept knows =
     }
 
 watched-none : (past now : List Statement) (names : List (List ℕ)) (list : List Watched)
-    → AreDefined [] names (map (λ watched. watched.definition) list) → AreWatched past list
-    → AreWatched now list
+    → AreDefined [] names (map (λ watched. watched.definition) list) → SignalsAreWatched past list
+    → SignalsAreWatched now list
 watched-none past now names [] defined are = tt
 watched-none past now [] (watched ∷ list) defined are = absurd (cc (defined))
 watched-none past now (name ∷ names) (watched ∷ list) defined are = (

@@ -15,9 +15,9 @@ use Rattle.tre_define.specs.Values.{differ_from, letter_at}
 use Rattle.tre_define.specs.declared.part.Part.{Part}
 use Rattle.tre_state.specs.Sieve.{MayBe}
 use Rattle.tre_trace.specs.Reading.{bits_of}
-use Rattle.tre_vcd.specs.VcdReading.{Form, Statement, scope, upscope, var, definitions, time, change, dump, dump_end, is_defined, time_at, scopes_at, Offer, offer_in, Asked, Occasion, scalar_said, asking, asked_in, occasion_in, event_in, is_event, identifier_in, first_read, letters_at, before_now, happened_at, differs, is_come, of_changes, happens_at}
+use Rattle.tre_vcd.specs.VcdReading.{Form, Statement, scope, upscope, var, definitions, time, change, dump, dump_end, is_defined, time_at, scopes_at, Offer, offer_in, Asked, Occasion, scalar_said, asking, asked_in, occasion_in, event_read_by, is_event, identifier_in, first_read, letters_at, before_now, happened_at, differs, is_come, of_changes, happens_at}
 use Rattle.tre_vcd.specs.Kept.{IsQuiet, identifier_of, mask_from}
-use Rattle.tre_vcd.specs.Signals.{AreDefined, AreWatched, KnowsAt, KnowsChanges, KnowsPart, KnowsWatched, SameAsked, asked_of_part, bit_of, has_at, has_changed, has_part_at, letters_kept, occasion_of, part_at, part_kept, part_read, reads_part, watched_at}
+use Rattle.tre_vcd.specs.Signals.{AreDefined, SignalsAreWatched, KnowsAt, KnowsChanges, KnowsPart, KnowsWatched, SameAsked, asked_of_part, bit_of, has_at, has_changed, has_part_at, letters_kept, occasion_of, part_at, part_kept, part_read, reads_part, watched_at}
 use Rattle.tre_vcd.specs.declared.changes.AskedPart.{AskedPart}
 use Rattle.tre_vcd.specs.declared.changes.Changes.{Changes}
 use Rattle.tre_vcd.specs.declared.changes.Watched.{Watched}
@@ -222,7 +222,7 @@ asking-or asks None other = refl
 asking-or asks (Some own) other = refl
 
 pub plain-event : (past : List Statement) (name : List ℕ)
-    → first_read (event_in None name) past
+    → first_read (event_read_by None name) past
     ≡ asking scalar_said (identifier_of is_event past name)
 plain-event [] name = refl
 plain-event (scope other ∷ past) name = plain-event past name
@@ -254,7 +254,7 @@ plain-happens all past name none =
     ∙ ap (λ (o : Option (Asked Occasion)). option_map_or (is_come past) o false)
     (sym (plain-event past name))
     ∙ ap (λ (d : Option SignalDefined). option_map_or (is_come past)
-    (first_read (event_in d name) past) false) (sym none)
+    (first_read (event_read_by d name) past) false) (sym none)
 
 -- it has come where its bits have changed
 come-changed : (past : List Statement) (asked : Option (Asked Part))
@@ -272,7 +272,7 @@ defined-happens all past name one asked some is =
     come-changed past asked
     ∙ ap (λ (o : Option (Asked Occasion)). option_map_or (is_come past) o false) is
     ∙ ap (λ (d : Option SignalDefined). option_map_or (is_come past)
-    (first_read (event_in d name) past) false) some
+    (first_read (event_read_by d name) past) false) some
 
 chosen-one : (all : List SignalDefined) (past : List Statement) (name : List ℕ)
     (watched : Watched) (definition : Option SignalDefined)
@@ -288,7 +288,7 @@ chosen-one all past name watched (Some one) is kept =
 chosen : (all : List SignalDefined) (past : List Statement) (names : List (List ℕ))
     (list : List Watched) (k : ℕ)
     → AreDefined (of_changes all) names (map (λ watched. watched.definition) list)
-    → AreWatched past list
+    → SignalsAreWatched past list
     → either (has_part_at list k) (option_map_or (has_changed past) (part_at list k) false)
     (passes_at (identifier_of is_event past) (happened_at past) names k)
     ≡ passes_at Some (happens_at all past) names k
@@ -313,7 +313,7 @@ undefined-none : (past : List Statement) (watched : Watched) (definition : Optio
 undefined-none past watched None none is = none-asked (part_kept watched) is
 undefined-none past watched (Some one) none is = absurd (cc (none))
 
-pub unasked : (past : List Statement) (list : List Watched) (k : ℕ) → AreWatched past list
+pub unasked : (past : List Statement) (list : List Watched) (k : ℕ) → SignalsAreWatched past list
     → has_part_at list k ≡ false → part_at list k ≡ None
 unasked past [] k are none = refl
 unasked past (watched ∷ list) zero are none =
@@ -497,7 +497,7 @@ each-declared : (past : List Statement) (tokens : List (List ℕ)) (old new : Li
     → map (λ watched. watched.latest) new ≡ map (λ watched. watched.latest) old
     → map (λ watched. watched.earlier) new ≡ map (λ watched. watched.earlier) old
     → map (λ watched. watched.definition) new ≡ map (λ watched. watched.definition) old
-    → AreWatched past old → AreWatched (var tokens ∷ past) new → (k said happened : ℕ)
+    → SignalsAreWatched past old → SignalsAreWatched (var tokens ∷ past) new → (k said happened : ℕ)
     → KnowsAt (watched_at old k) said happened past
     → KnowsAt (watched_at new k) said happened (var tokens ∷ past)
 each-declared past tokens [] [] quiet latest earlier same was are k said happened knows = knows
@@ -525,7 +525,7 @@ pub changes-declared : (all : List SignalDefined) (names : List (List ℕ)) (kep
     ≡ map (λ watched. watched.earlier) kept.list.items
     → map (λ watched. watched.definition) list.items
     ≡ map (λ watched. watched.definition) kept.list.items
-    → AreWatched (var tokens ∷ past) list.items → KnowsChanges all names kept past
+    → SignalsAreWatched (var tokens ∷ past) list.items → KnowsChanges all names kept past
     → KnowsChanges all names (record kept { list = list }) (var tokens ∷ past)
 changes-declared all names kept past tokens list quiet before latest earlier same are knows =
     record {
@@ -585,7 +585,7 @@ changes-sifted all names kept past sieve sifted knows = record {
 }
 
 parts-same : (past : List Statement) (old new : List Watched) → SameAsked old new
-    → AreWatched past old → AreWatched past new
+    → SignalsAreWatched past old → SignalsAreWatched past new
 parts-same past [] [] same are = tt
 parts-same past [] (one ∷ new) same are = absurd (cc (same.0))
 parts-same past (first ∷ old) [] same are = tt
@@ -667,7 +667,7 @@ none-read None = refl
 none-read (Some one) = refl
 
 watched-push : (list : List Watched) (watched : Watched) → watched.asked ≡ None
-    → AreWatched [] list → AreWatched [] (list ++ watched ∷ [])
+    → SignalsAreWatched [] list → SignalsAreWatched [] (list ++ watched ∷ [])
 watched-push [] watched none are = (
   ap (λ (o : Option AskedPart). option_map occasion_of (option_map asked_of_part o)) none
       ∙ none-read watched.definition,
@@ -715,7 +715,7 @@ changes-pushed all names name kept list watched defined number is none silent sa
       definitions = subst (AreDefined all (names ++ name ∷ [])) (sym kept_is)
           (defined-push all names name (map f kept.list.items) watched.definition (long ∙ same) own
           knows.definitions);
-      parts = subst (AreWatched []) (sym is)
+      parts = subst (SignalsAreWatched []) (sym is)
           (watched-push kept.list.items watched none knows.parts);
       sieve = λ e. absurd (false≢true e);
       defined = λ k.
@@ -737,7 +737,7 @@ changes-none all names kept empty defined said happened none =
     record {
       few = rw empty (omega arith);
       definitions = subst (λ list. AreDefined all names (map f list)) (sym empty) none;
-      parts = subst (AreWatched []) (sym empty) tt;
+      parts = subst (SignalsAreWatched []) (sym empty) tt;
       sieve = λ e. absurd (false≢true e);
       defined = λ k. ap (λ n. bit_at n k) defined ∙ bit_at-zero k
           ∙ ap (λ list. bit_of (has_part_at list k)) (sym empty);

@@ -17,15 +17,16 @@ second_slot (first ∷ second ∷ []) = 2 + second
 second_slot (first ∷ second ∷ third ∷ rest) = 0
 
 -- Bit k of a slot is set just where the identifier with number k has that slot.
-pub record Tells (slot_of : List ℕ → ℕ) (identified : ℕ → Option (List ℕ)) (masks : List ℕ) : Type
+pub record TellsSlots (slot_of : List ℕ → ℕ) (identified : ℕ → Option (List ℕ)) (masks : List ℕ) :
+    Type
     0 where
   pub each : (slot k : ℕ) → (bit_at (slice_index_or masks slot 0) k ≡ 1)
       ↔ (option_map slot_of (identified k) ≡ Some slot)
 
 -- Both tables tell of the identifiers with these numbers.
 pub record IsBriefOf (identified : ℕ → Option (List ℕ)) (brief : Brief) : Type 0 where
-  pub firsts : Tells first_slot identified brief.firsts
-  pub seconds : Tells second_slot identified brief.seconds
+  pub firsts : TellsSlots first_slot identified brief.firsts
+  pub seconds : TellsSlots second_slot identified brief.seconds
 
 -- the identifiers, once a number has this one
 abbrev pub and_told : (ℕ → Option (List ℕ)) → ℕ → List ℕ → ℕ → Option (List ℕ)

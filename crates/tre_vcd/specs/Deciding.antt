@@ -4,13 +4,14 @@ use Rattle.tre_define.specs.Signals.{SignalDefined, signal_definition_of}
 use Rattle.tre_define.specs.Values.{differ, passes}
 use Rattle.tre_define.specs.declared.part.Part.{Part}
 use Rattle.tre_define.specs.declared.test.Test.{Test}
-use Rattle.tre_vcd.specs.VcdReading.{Form, scalar, Statement, var, time, change, time_at, scopes_at, in_dump, before_now, Asked, Occasion, scalar_said, bits_changed, signal_in, event_in, of_changes}
+use Rattle.tre_vcd.specs.VcdReading.{Form, scalar, Statement, var, time, change, time_at, scopes_at, in_dump, before_now, Asked, Occasion, scalar_said, bits_changed, signal_in, event_read_by, of_changes}
 
 -- none of the statements changes this identifier
-abbrev pub Keeps : List ℕ → List Statement → Type 0
-Keeps identifier [] = Unit {0}
-Keeps identifier (change form other letters ∷ past) = (identifier ≢ other) × Keeps identifier past
-Keeps identifier (_ ∷ past) = Keeps identifier past
+abbrev pub KeepsValue : List ℕ → List Statement → Type 0
+KeepsValue identifier [] = Unit {0}
+KeepsValue identifier (change form other letters ∷ past) = (identifier ≢ other) × KeepsValue
+    identifier past
+KeepsValue identifier (_ ∷ past) = KeepsValue identifier past
 
 -- The last change of the identifier is to these letters: what was read behind it changes others
 -- alone.
@@ -19,14 +20,14 @@ pub record LastChange (past : List Statement) (identifier letters : List ℕ) : 
   pub form : Form
   pub earlier : List Statement
   pub parts : past ≡ later ++ change form identifier letters ∷ earlier
-  pub last : Keeps identifier later
+  pub last : KeepsValue identifier later
 
 -- The statements reach no time that is another than the one before it, behind the earlier ones.
-abbrev pub StaysInTime : List Statement → List Statement → Type 0
-StaysInTime [] earlier = Unit {0}
-StaysInTime (time ticks ∷ later) earlier =
-    (ticks ≡ time_at (later ++ earlier)) × StaysInTime later earlier
-StaysInTime (_ ∷ later) earlier = StaysInTime later earlier
+abbrev pub ReachNoTime : List Statement → List Statement → Type 0
+ReachNoTime [] earlier = Unit {0}
+ReachNoTime (time ticks ∷ later) earlier =
+    (ticks ≡ time_at (later ++ earlier)) × ReachNoTime later earlier
+ReachNoTime (_ ∷ later) earlier = ReachNoTime later earlier
 
 -- A scalar change of the identifier was read at the last time, outside a dump section.
 pub record Happened (past : List Statement) (identifier : List ℕ) : Type 0 where
@@ -35,7 +36,7 @@ pub record Happened (past : List Statement) (identifier : List ℕ) : Type 0 whe
   pub earlier : List Statement
   pub parts : past ≡ later ++ change scalar identifier letters ∷ earlier
   pub outside : in_dump earlier ≡ false
-  pub now : StaysInTime later (change scalar identifier letters ∷ earlier)
+  pub now : ReachNoTime later (change scalar identifier letters ∷ earlier)
 
 -- Some of the bits of the identifier have other letters than before the last time.
 pub record HasChanged (past : List Statement) (identifier : List ℕ) (part : Part) : Type 0 where
@@ -82,5 +83,5 @@ pub record HasHappened (definitions : List SignalDefined) (past : List Statement
     (name : List ℕ) : Type 0 where
   pub asked : Asked Occasion
   pub declared :
-      FirstRead (event_in (signal_definition_of (of_changes definitions) name) name) past asked
+      FirstRead (event_read_by (signal_definition_of (of_changes definitions) name) name) past asked
   pub come : HasCome past asked.identifier asked.asks

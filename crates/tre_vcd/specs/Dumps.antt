@@ -25,7 +25,7 @@ abbrev pub AreWhite : List ℕ → Type 0
 AreWhite bytes = All (λ byte. is_white byte ≡ true) bytes
 
 -- White space or none, the token, a byte of white space, and bytes of which this holds.
-pub record BeginsWith (token : List ℕ) (Later : List ℕ → Type 0) (bytes : List ℕ) : Type 0 where
+pub record TokenBegins (token : List ℕ) (Later : List ℕ → Type 0) (bytes : List ℕ) : Type 0 where
   pub front : List ℕ
   pub separator : ℕ
   pub back : List ℕ
@@ -38,7 +38,7 @@ pub record BeginsWith (token : List ℕ) (Later : List ℕ → Type 0) (bytes : 
 -- The bytes are these tokens, with white space behind each of them, and as much as one likes.
 abbrev pub Spaced : List (List ℕ) → List ℕ → Type 0
 Spaced [] bytes = AreWhite bytes
-Spaced (token ∷ tokens) bytes = BeginsWith token (Spaced tokens) bytes
+Spaced (token ∷ tokens) bytes = TokenBegins token (Spaced tokens) bytes
 
 -- ---- what tokens say
 
@@ -73,7 +73,7 @@ pub record AreDeclaring (tokens inner : List (List ℕ)) : Type 0 where
   pub enough : 4 ≤ length inner
 
 -- One token: `#` (35) and decimal digits, whose value is 10^scale units each.
-pub record IsTime (scale ticks : ℕ) (tokens : List (List ℕ)) : Type 0 where
+pub record IsTimeToken (scale ticks : ℕ) (tokens : List (List ℕ)) : Type 0 where
   pub digits : List ℕ
   pub is : tokens ≡ (35 ∷ digits) ∷ []
   pub numeral : is_numeral digits ≡ true
@@ -122,7 +122,7 @@ Write scale (scope name) tokens = IsSection (codes "$scope") (HasName name) toke
 Write scale upscope tokens = IsSection (codes "$upscope") IsAnything tokens
 Write scale (var inner) tokens = IsSection (codes "$var") (AreDeclaring inner) tokens
 Write scale definitions tokens = IsSection (codes "$enddefinitions") IsAnything tokens
-Write scale (time ticks) tokens = IsTime scale ticks tokens
+Write scale (time ticks) tokens = IsTimeToken scale ticks tokens
 Write scale (change scalar identifier letters) tokens = IsScalar identifier letters tokens
 Write scale (change wide identifier letters) tokens = IsVector identifier letters tokens
 Write scale dump tokens = IsDump tokens
@@ -163,10 +163,11 @@ Belongs past dump = (is_defined past ≡ true) × (in_dump past ≡ false)
 Belongs past dump_end = (is_defined past ≡ true) × (in_dump past ≡ true)
 
 -- The declarations end once all names that are needed are declared, and time doesn't run back.
-abbrev pub Fits : Terms → List Statement → Statement → Type 0
-Fits terms past definitions = list_all (are_declared terms.definitions past) terms.declared ≡ true
-Fits terms past (time ticks) = (time_at past ≤ ticks) × (ticks ≤ TIME_MAX)
-Fits terms past _ = Unit {0}
+abbrev pub StatementFits : Terms → List Statement → Statement → Type 0
+StatementFits terms past definitions = list_all (are_declared terms.definitions past)
+    terms.declared ≡ true
+StatementFits terms past (time ticks) = (time_at past ≤ ticks) × (ticks ≤ TIME_MAX)
+StatementFits terms past _ = Unit {0}
 
 -- The first of the stretches reaches from the last time to this one, with the values held until
 -- then, and the events that happened at the last time.
@@ -193,24 +194,24 @@ pub record SayNext (terms : Terms) (past : List Statement) (tokens : List (List 
   pub statement : Statement
   pub writes : Write terms.scale statement tokens
   pub belongs : Belongs past statement
-  pub fits : Fits terms past statement
+  pub fits : StatementFits terms past statement
   pub rest : List Stretch
   pub brings : Bring terms.definitions past statement stretches rest
   pub later : Later (statement ∷ past) rest
 
 -- Each group of tokens says nothing, or something that belongs and fits where it stands, these are
 -- all stretches, and this holds of what was read then.
-abbrev pub Say : Terms → List Statement → List (List (List ℕ)) → List Stretch
+abbrev pub GroupsSay : Terms → List Statement → List (List (List ℕ)) → List Stretch
     → (List Statement → Type 0) → Type 0
-Say terms past [] stretches End = (stretches ≡ []) × End past
-Say terms past (tokens ∷ groups) stretches End =
-    (AreSilent (is_defined past) tokens × Say terms past groups stretches End)
-    ⊎ SayNext terms past tokens stretches (λ now rest. Say terms now groups rest End)
+GroupsSay terms past [] stretches End = (stretches ≡ []) × End past
+GroupsSay terms past (tokens ∷ groups) stretches End =
+    (AreSilent (is_defined past) tokens × GroupsSay terms past groups stretches End)
+    ⊎ SayNext terms past tokens stretches (λ now rest. GroupsSay terms now groups rest End)
 
 -- the tokens of all groups
-abbrev pub tokens_in : List (List (List ℕ)) → List (List ℕ)
-tokens_in [] = []
-tokens_in (tokens ∷ groups) = tokens ++ tokens_in groups
+abbrev pub tokens_of_groups : List (List (List ℕ)) → List (List ℕ)
+tokens_of_groups [] = []
+tokens_of_groups (tokens ∷ groups) = tokens ++ tokens_of_groups groups
 
 -- The declarations have ended, and no dump section is open.
 pub record IsComplete (past : List Statement) : Type 0 where
@@ -232,7 +233,7 @@ pub record FitsNoRule (scale : ℕ) (past : List Statement) (token : List ℕ) :
       → Write scale statement (token ∷ more) → ¬ Belongs past statement
 
 -- A section of this command was begun, and has fewer tokens than this so far.
-pub record IsShort (command : List ℕ) (least : ℕ) (tokens : List (List ℕ)) : Type 0 where
+pub record SectionIsShort (command : List ℕ) (least : ℕ) (tokens : List (List ℕ)) : Type 0 where
   pub inner : List (List ℕ)
   pub is : tokens ≡ command ∷ inner
   pub closed : AreInner inner
@@ -242,7 +243,7 @@ pub record IsShort (command : List ℕ) (least : ℕ) (tokens : List (List ℕ))
 pub record EndsEarly (past : List Statement) (begun : List (List ℕ)) (token : List ℕ) : Type 0 where
   pub defined : is_defined past ≡ false
   pub ends : token ≡ codes "$end"
-  pub short : IsShort (codes "$scope") 2 begun ⊎ IsShort (codes "$var") 4 begun
+  pub short : SectionIsShort (codes "$scope") 2 begun ⊎ SectionIsShort (codes "$var") 4 begun
 
 -- The declarations would end, and one of the names that are needed isn't declared.
 pub record LacksName (terms : Terms) (past : List Statement) (token : List ℕ) : Type 0 where
@@ -255,20 +256,20 @@ pub record HasTime (scale : ℕ) (past : List Statement) (token : List ℕ) (P :
   where
     pub defined : is_defined past ≡ true
     pub ticks : ℕ
-    pub time : IsTime scale ticks (token ∷ [])
+    pub time : IsTimeToken scale ticks (token ∷ [])
     pub holds : P ticks
 
 -- The fault of a token, behind the past and the tokens of a group that was begun.
-abbrev pub HasFault : Terms → List Statement → List (List ℕ) → List ℕ → TraceKind → Type 0
-HasFault terms past begun token BadToken =
+abbrev pub TokenHasFault : Terms → List Statement → List (List ℕ) → List ℕ → TraceKind → Type 0
+TokenHasFault terms past begun token BadToken =
     ((begun ≡ []) × FitsNoRule terms.scale past token) ⊎ EndsEarly past begun token
-HasFault terms past begun token UnknownName = (begun ≡ []) × LacksName terms past token
-HasFault terms past begun token TimeBack =
+TokenHasFault terms past begun token UnknownName = (begun ≡ []) × LacksName terms past token
+TokenHasFault terms past begun token TimeBack =
     (begun ≡ []) × HasTime terms.scale past token (λ ticks. ticks < time_at past)
-HasFault terms past begun token TooLate =
+TokenHasFault terms past begun token TooLate =
     (begun ≡ [])
     × HasTime terms.scale past token (λ ticks. (time_at past ≤ ticks) × (TIME_MAX < ticks))
-HasFault terms past begun token _ = ⊥
+TokenHasFault terms past begun token _ = ⊥
 
 -- ---- more white space
 

@@ -42,8 +42,8 @@ mask_from identified test i (name ∷ names) =
     + mask_from identified test (i + 1) names
 
 -- The valuation of the propositions of these names, the first of which has bit 0.
-abbrev pub valuation_at : List Statement → List (List ℕ) → ℕ
-valuation_at past names = mask_from (identifier_of is_signal past) (value_at past) 0 names
+abbrev pub valuation_behind : List Statement → List (List ℕ) → ℕ
+valuation_behind past names = mask_from (identifier_of is_signal past) (value_at past) 0 names
 
 -- The events of these names that happened at the last time, the first of which has bit 0.
 abbrev pub events_at : List Statement → List (List ℕ) → ℕ
@@ -119,7 +119,8 @@ pub record IsQuiet (past : List Statement) : Type 0 where
 
 -- Each field is its look-back, for propositions and events of these names. Before the declarations
 -- end it is quiet, and then it is told which identifiers are short.
-pub record Knows (names event_names : List (List ℕ)) (kept : Past) (past : List Statement) : Type 0
+pub record KnowsOfPast (names event_names : List (List ℕ)) (kept : Past) (past : List Statement) :
+    Type 0
   where
     pub defined : kept.is_defined ≡ is_defined past
     pub dump : kept.in_dump ≡ in_dump past
@@ -127,7 +128,7 @@ pub record Knows (names event_names : List (List ℕ)) (kept : Past) (past : Lis
     pub scopes : AreScopes (scopes_at past) kept.scopes.prefix.items kept.scopes.lens.items
     pub propositions : KeepsNames (identifier_of is_signal past) names kept.propositions
     pub events : KeepsNames (identifier_of is_event past) event_names kept.events
-    pub values : kept.values ≡ valuation_at past names
+    pub values : kept.values ≡ valuation_behind past names
     pub happened : kept.happened ≡ events_at past event_names
     pub quiet : is_defined past ≡ false → IsQuiet past
     pub brief : is_defined past ≡ true → IsBriefOf (identifier_at kept.propositions.list.items)
@@ -162,14 +163,14 @@ KnowsAll past (found ∷ others) = KnowsNeeded past found × KnowsAll past other
 -- ---- how long names are
 
 -- None of the names is longer.
-pub record IsWithin (longest : ℕ) (asked : Vocabulary) : Type 0 where
+pub record AreNoLonger (longest : ℕ) (asked : Vocabulary) : Type 0 where
   pub names : All (λ name. length name ≤ longest) asked.names
   pub events : All (λ name. length name ≤ longest) asked.events
 
 -- None of all these names is.
 abbrev pub AreWithin : ℕ → List Vocabulary → Type 0
 AreWithin longest [] = Unit {0}
-AreWithin longest (asked ∷ others) = IsWithin longest asked × AreWithin longest others
+AreWithin longest (asked ∷ others) = AreNoLonger longest asked × AreWithin longest others
 
 -- ---- what a declaration declares
 

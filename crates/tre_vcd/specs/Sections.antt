@@ -6,7 +6,7 @@ use Rattle.tre_trace.specs.Reading.{Vocabulary}
 use Rattle.tre_trace.specs.declared.fault.TraceKind.{TraceKind}
 use Rattle.tre_trace.specs.declared.fault.TraceKind.TheVariants.{BadToken}
 use Rattle.tre_vcd.specs.VcdReading.{Terms, Statement, dump, dump_end, Open, nothing, section, comment, vector, number, Place, is_defined, in_dump, goes_to}
-use Rattle.tre_vcd.specs.Kept.{Knows, KnowsAll, AreWithin, ends_true, plain_of, vocabulary_of}
+use Rattle.tre_vcd.specs.Kept.{KnowsOfPast, KnowsAll, AreWithin, ends_true, plain_of, vocabulary_of}
 use Rattle.tre_vcd.specs.Offers.{KnowOffers}
 use Rattle.tre_vcd.specs.Signals.{KnowsSignals}
 use Rattle.tre_vcd.specs.declared.command.Command.{Command}
@@ -45,9 +45,9 @@ is_nothing (Vector value) = false
 is_nothing Number = false
 
 -- the tokens of the open section
-abbrev pub tokens_of : Open → List (List ℕ)
-tokens_of (section command tokens) = tokens
-tokens_of _ = []
+abbrev pub tokens_of_open : Open → List (List ℕ)
+tokens_of_open (section command tokens) = tokens
+tokens_of_open _ = []
 
 -- Sections are open before the declarations end, and all else behind them.
 abbrev pub Suits : Open → Bool → Type 0
@@ -58,8 +58,8 @@ Suits (vector letters) defined = defined ≡ true
 Suits number defined = defined ≡ true
 
 -- what is asked of the reader
-abbrev pub asked_of : TokenReader → Vocabulary
-asked_of reader = record { names = reader.names; events = reader.events }
+abbrev pub asked_of_reader : TokenReader → Vocabulary
+asked_of_reader reader = record { names = reader.names; events = reader.events }
 
 abbrev pub terms_kept : TokenReader → Terms
 terms_kept reader = record {
@@ -76,11 +76,11 @@ KeepsLetters reader _ = Unit {0}
 
 -- The reader knows the past: for its names, for those that must be declared, and by definitions.
 pub record KnowsPast (reader : TokenReader) (read : List Statement) : Type 0 where
-  pub past : Knows reader.names reader.events reader.past read
+  pub past : KnowsOfPast reader.names reader.events reader.past read
   pub needed : KnowsAll read reader.needed.items
   pub signals : KnowsSignals reader.names reader.events reader.signals read
   pub offers : KnowOffers reader.signals.definitions.items read reader.needed.items
-  pub within : AreWithin reader.longest (asked_of reader ∷ map plain_of reader.needed.items)
+  pub within : AreWithin reader.longest (asked_of_reader reader ∷ map plain_of reader.needed.items)
 
 -- The reader is at this place: it knows the past, and of what is open it keeps what counts. Of a
 -- section the first `KEPT_MAX` tokens do.
@@ -88,6 +88,6 @@ pub record Holds (reader : TokenReader) (place : Place) : Type 0 where
   pub knows : KnowsPast reader place.past
   pub inside : reader.inside ≡ inside_of place.inside
   pub tokens : map (λ token. token.items) reader.tokens.items
-      ≡ take KEPT_MAX (tokens_of place.inside)
+      ≡ take KEPT_MAX (tokens_of_open place.inside)
   pub suits : Suits place.inside (is_defined place.past)
   pub letters : KeepsLetters reader place.inside

@@ -10,7 +10,7 @@ use Rattle.tre_define.specs.Values.{passes}
 use Rattle.tre_define.specs.declared.part.Part.{Part}
 use Rattle.tre_define.specs.declared.test.Test.{Test}
 use Rattle.tre_state.specs.Sieve.{MayBe}
-use Rattle.tre_vcd.specs.VcdReading.{Statement, is_defined, Offer, has_bits, Asked, Occasion, bits_changed, signal_in, event_in, first_read, of_changes, letters_at, before_now, is_passed, differs}
+use Rattle.tre_vcd.specs.VcdReading.{Statement, is_defined, Offer, has_bits, Asked, Occasion, bits_changed, signal_in, event_read_by, first_read, of_changes, letters_at, before_now, is_passed, differs}
 use Rattle.tre_vcd.specs.declared.changes.AskedPart.{AskedPart}
 use Rattle.tre_vcd.specs.declared.changes.Changes.{Changes}
 use Rattle.tre_vcd.specs.declared.changes.Watched.{Watched}
@@ -141,14 +141,14 @@ has_part_at list k = has_at (map (λ watched. watched.definition) list) k
 
 abbrev pub part_read : List Statement → Option SignalDefined → Option (Asked Occasion)
 part_read past None = None
-part_read past (Some one) = first_read (event_in (Some one) []) past
+part_read past (Some one) = first_read (event_read_by (Some one) []) past
 
 -- Each asks what its definition does.
-abbrev pub AreWatched : List Statement → List Watched → Type 0
-AreWatched past [] = Unit {0}
-AreWatched past (watched ∷ list) =
+abbrev pub SignalsAreWatched : List Statement → List Watched → Type 0
+SignalsAreWatched past [] = Unit {0}
+SignalsAreWatched past (watched ∷ list) =
     (option_map occasion_of (part_kept watched) ≡ part_read past watched.definition)
-    × AreWatched past list
+    × SignalsAreWatched past list
 
 abbrev pub has_changed : List Statement → Asked Part → Bool
 has_changed past asked = differs asked.asks (letters_at (before_now past) asked.identifier)
@@ -188,7 +188,7 @@ pub record KnowsChanges (all : List SignalDefined) (names : List (List ℕ)) (ke
   pub few : length kept.list.items ≤ 64
   pub definitions : AreDefined all names
       (map (λ watched. watched.definition) kept.list.items)
-  pub parts : AreWatched past kept.list.items
+  pub parts : SignalsAreWatched past kept.list.items
   pub sieve : is_defined past ≡ true → (k : ℕ) (asked : Asked Part)
       → part_at kept.list.items k ≡ Some asked → MayBe kept.sieve asked.identifier k
   pub defined : (k : ℕ) → bit_at kept.defined k ≡ bit_of (has_part_at kept.list.items k)

@@ -7,22 +7,23 @@ use Rattle.std.specs.Str.Parse.{digits_value}
 use Rattle.tre_pairs.specs.declared.TheConstants.{TIME_MAX}
 use Rattle.tre_decimal.specs.Decimal.{is_numeral}
 use Rattle.tre_define.specs.Signals.{SignalDefined}
-use Rattle.tre_parts.specs.Format.{Step, Leads, KeepsTime}
+use Rattle.tre_parts.specs.Format.{Step, LeadsInTime, KeepsTime}
 use Rattle.tre_trace.specs.declared.fault.TraceKind.{TraceKind}
 use Rattle.tre_trace.specs.declared.fault.TraceKind.TheVariants.{TooLate, BadToken, UnknownName, TimeBack}
 use Rattle.tre_trace.specs.Reading.{Vocabulary, Stretch, segment_for}
 use Rattle.tre_vcd.specs.VcdReading.{is_command, is_dump, is_scalar, are_declared, is_defined, in_dump, scopes_at, Terms, scalar, wide, Statement, scope, upscope, var, definitions, time, change, dump, dump_end, Open, nothing, section, comment, vector, number, Place, time_at, stretch_until, goes_to, is_end, is_whole, scope_says, section_says, command_says, ticks_say, keyword_says, scalar_says, vector_says, value_says, token_at, token_says, vcd_format}
 
 -- No segment is said, and no other time is reached.
-pub record IsSilent (past : List Statement) (said : Result (Step Place) TraceKind) : Type 0 where
-  pub silent : (step : Step Place) → said ≡ Ok step → (step.stretches ≡ []) × (time_at
-      step.state.past ≡ time_at past)
+pub record StatesNoTime (past : List Statement) (said : Result (Step Place) TraceKind) : Type 0
+  where
+    pub silent : (step : Step Place) → said ≡ Ok step → (step.stretches ≡ []) × (time_at
+        step.state.past ≡ time_at past)
 
-silent-err : (past : List Statement) (kind : TraceKind) → IsSilent past (Err kind)
+silent-err : (past : List Statement) (kind : TraceKind) → StatesNoTime past (Err kind)
 silent-err past kind = record { silent = λ step is. cc (is) }
 
 silent-goes : (past now : List Statement) (inside : Open) → time_at now ≡ time_at past
-    → IsSilent past (goes_to now inside)
+    → StatesNoTime past (goes_to now inside)
 silent-goes past now inside same = record {
   silent = λ step is.
       let e : record { stretches = []; state = record { past = now; inside = inside } } ≡ step =
@@ -32,18 +33,18 @@ silent-goes past now inside same = record {
 }
 
 silent-if : (past : List Statement) (test : Bool) (one two : Result (Step Place) TraceKind)
-    → IsSilent past one → IsSilent past two → IsSilent past (if test then one else two)
+    → StatesNoTime past one → StatesNoTime past two → StatesNoTime past (if test then one else two)
 silent-if past true one two silent other = silent
 silent-if past false one two silent other = other
 
-silent-scope : (past : List Statement) (tokens : List (List ℕ)) → IsSilent past
+silent-scope : (past : List Statement) (tokens : List (List ℕ)) → StatesNoTime past
     (scope_says past tokens)
 silent-scope past [] = silent-err past BadToken
 silent-scope past (kind ∷ []) = silent-err past BadToken
 silent-scope past (kind ∷ name ∷ tokens) = silent-goes past (scope name ∷ past) nothing refl
 
 silent-section : (past : List Statement) (command : List ℕ) (tokens : List (List ℕ))
-    → IsSilent past (section_says past command tokens)
+    → StatesNoTime past (section_says past command tokens)
 silent-section past command tokens =
     silent-if past (bytes_eq command (codes "$scope")) _ _ (silent-scope past tokens)
     (silent-if past (bytes_eq command (codes "$upscope")) _ _
@@ -54,7 +55,7 @@ silent-section past command tokens =
     (silent-if past (bytes_eq command (codes "$enddefinitions")) _ _
     (silent-goes past (definitions ∷ past) nothing refl) (silent-goes past past nothing refl))))
 
-pub silent-command : (terms : Terms) (past : List Statement) (token : List ℕ) → IsSilent past
+pub silent-command : (terms : Terms) (past : List Statement) (token : List ℕ) → StatesNoTime past
     (command_says terms past token)
 silent-command terms past token =
     silent-if past (not (is_command token) || is_end token || is_dump token) _ _
@@ -66,7 +67,8 @@ silent-command terms past token =
     && not (list_all (are_declared terms.definitions past) terms.declared))
     _ _ (silent-err past UnknownName) (silent-goes past past (section token []) refl)))
 
-silent-keyword : (past : List Statement) (token : List ℕ) → IsSilent past (keyword_says past token)
+silent-keyword : (past : List Statement) (token : List ℕ) → StatesNoTime past (keyword_says past
+    token)
 silent-keyword past token =
     silent-if past (is_dump token) _ _ (silent-if past (in_dump past) _ _ (silent-err past BadToken)
     (silent-goes past (dump ∷ past) nothing refl))
@@ -75,20 +77,21 @@ silent-keyword past token =
     (silent-if past (bytes_eq token (codes "$comment")) _ _ (silent-goes past past comment refl)
     (silent-err past BadToken)))
 
-silent-scalar : (past : List Statement) (letter : ℕ) (identifier : List ℕ) → IsSilent past
+silent-scalar : (past : List Statement) (letter : ℕ) (identifier : List ℕ) → StatesNoTime past
     (scalar_says past letter identifier)
 silent-scalar past letter [] = silent-err past BadToken
 silent-scalar past letter (byte ∷ bytes) =
     silent-goes past (change scalar (byte ∷ bytes) (letter ∷ []) ∷ past) nothing refl
 
-silent-vector : (past : List Statement) (value : List ℕ) → IsSilent past (vector_says past value)
+silent-vector : (past : List Statement) (value : List ℕ) → StatesNoTime past (vector_says past
+    value)
 silent-vector past [] = silent-err past BadToken
 silent-vector past (byte ∷ bytes) = silent-goes past past (vector (byte ∷ bytes)) refl
 
 -- a token where something is open
 pub silent-open : (terms : Terms) (past : List Statement) (inside : Open)
     → is_whole inside ≡ false → (token : List ℕ)
-    → IsSilent past (token_at terms past inside token)
+    → StatesNoTime past (token_at terms past inside token)
 silent-open terms past nothing is token = cc (is)
 silent-open terms past (section command tokens) is token =
     silent-if past (is_end token) _ _ (silent-section past command tokens)
@@ -100,7 +103,7 @@ silent-open terms past (vector letters) is token =
 silent-open terms past number is token = silent-goes past past nothing refl
 
 -- a token among the values that is no time
-pub silent-value : (past : List Statement) (byte : ℕ) (bytes : List ℕ) → IsSilent past
+pub silent-value : (past : List Statement) (byte : ℕ) (bytes : List ℕ) → StatesNoTime past
     (if byte == 36 then keyword_says past (byte ∷ bytes)
     else (if byte == 98 || byte == 66 then vector_says past bytes
     else (if list_any (λ letter. byte == letter) (codes "rRsS") then goes_to past number
@@ -118,14 +121,17 @@ silent-value past byte bytes =
 -- what is said leads from the time of the past to the one after it
 pub record KeepsOrder (past : List Statement) (said : Result (Step Place) TraceKind) : Type 0 where
   pub leads : (asked : Vocabulary) (step : Step Place) → said ≡ Ok step
-      → Leads (time_at past) (map (segment_for asked) step.stretches) (time_at step.state.past)
+      → LeadsInTime (time_at past) (map (segment_for asked) step.stretches) (time_at
+      step.state.past)
 
-keeps-silent : (past : List Statement) (said : Result (Step Place) TraceKind) → IsSilent past said
+keeps-silent : (past : List Statement) (said : Result (Step Place) TraceKind) → StatesNoTime past
+    said
     → KeepsOrder past said
 keeps-silent past said silent = record {
   leads = λ asked step is.
       let none = silent.silent step is in
-      subst (λ (stretches : List Stretch). Leads (time_at past) (map (segment_for asked) stretches)
+      subst (λ (stretches : List Stretch). LeadsInTime (time_at past) (map (segment_for asked)
+      stretches)
       (time_at step.state.past)) (sym none.0)
       (record { long = tt; ends = sym none.1; in_time = λ h. rw (none.1) h });
 }
@@ -149,7 +155,7 @@ keeps-later defined past ticks later fits = record {
         state = record { past = time ticks ∷ past; inside = nothing };
       } in
       let e : said ≡ step = cc (is) in
-      subst (λ (s : Step Place). Leads (time_at past)
+      subst (λ (s : Step Place). LeadsInTime (time_at past)
       (map (segment_for asked) s.stretches) (time_at s.state.past)) e
       (record { long = (omega arith, tt); ends = omega (arith, later); in_time = λ h. fits });
 }

@@ -235,11 +235,11 @@ abbrev pub occasion_in : SignalDefined → List ℕ → ℕ → Option Occasion
 occasion_in one full_name size = option_map bits_changed (changes_in one full_name size)
 
 -- What a name reads as an event: the changes that it is defined by, or else the event of this path.
-abbrev pub event_in : Option SignalDefined → List ℕ
+abbrev pub event_read_by : Option SignalDefined → List ℕ
     → (List (List ℕ) → List (List ℕ) → Option (Asked Occasion))
-event_in None name =
+event_read_by None name =
     λ scopes tokens. asking scalar_said (identifier_in is_event scopes name tokens)
-event_in (Some one) name =
+event_read_by (Some one) name =
     λ scopes tokens. option_and_then (asked_in (occasion_in one)) (offer_in scopes tokens)
 
 -- what is read of the first declaration of which something is, by its scopes and tokens
@@ -254,9 +254,9 @@ abbrev pub signal_of : List SignalDefined → List Statement → List ℕ → Op
 signal_of defined past name =
     first_read (signal_in (signal_definition_of defined name) name) past
 
-abbrev pub event_of : List SignalDefined → List Statement → List ℕ → Option (Asked Occasion)
-event_of defined past name =
-    first_read (event_in (signal_definition_of (of_changes defined) name) name) past
+abbrev pub event_asked : List SignalDefined → List Statement → List ℕ → Option (Asked Occasion)
+event_asked defined past name =
+    first_read (event_read_by (signal_definition_of (of_changes defined) name) name) past
 
 -- the last letters of the identifier pass the test; where there are none, they don't
 abbrev pub is_passed : List Statement → Asked Test → Bool
@@ -285,13 +285,13 @@ true_at defined past name =
 -- the event of this name happened at the last time
 abbrev pub happens_at : List SignalDefined → List Statement → List ℕ → Bool
 happens_at defined past name =
-    option_map_or (is_come past) (event_of defined past name) false
+    option_map_or (is_come past) (event_asked defined past name) false
 
 -- something is declared that each of the names reads, as a proposition or as an event
 abbrev pub are_declared : List SignalDefined → List Statement → Vocabulary → Bool
 are_declared defined past needed =
     list_all (λ name. is_some (signal_of defined past name)) needed.names
-    && list_all (λ name. is_some (event_of defined past name)) needed.events
+    && list_all (λ name. is_some (event_asked defined past name)) needed.events
 
 -- ---- what a token says
 

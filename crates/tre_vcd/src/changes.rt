@@ -8,7 +8,7 @@ ghost use Rattle.tre_state.specs.Sieve.{MayBe};
 ghost use Rattle.tre_trace.specs.Reading.{bits_of};
 ghost use Rattle.tre_vcd.specs.VcdReading.{Form, Statement, var, time, change, definitions, is_defined, time_at, scopes_at, offer_in, Asked, differs, of_changes, happens_at};
 ghost use Rattle.tre_vcd.specs.Kept.{IsQuiet, events_at};
-ghost use Rattle.tre_vcd.specs.Signals.{offer_kept, occasion_of, letters_kept, part_kept, part_read, reads_part, part_at, watched_at, AreDefined, AreWatched, KnowsAt, KnowsChanges, SameAsked};
+ghost use Rattle.tre_vcd.specs.Signals.{offer_kept, occasion_of, letters_kept, part_kept, part_read, reads_part, part_at, watched_at, AreDefined, SignalsAreWatched, KnowsAt, KnowsChanges, SameAsked};
 
 use crate::letters::Letters;
 use crate::offer::Offered;
@@ -253,7 +253,8 @@ fn declare_each(list: &mut [Watched], alloc: Global, offered: &Offered) -> Resul
         ≡ map (λ watched. watched.earlier) list.old) }
     ensures asks { (past : List Statement) (tokens : List (List ℕ)) →
         offer_in (scopes_at past) tokens ≡ Some (offer_kept offered.now) →
-        AreWatched past list.old → OnOk result (AreWatched (var tokens ∷ past) list.new) }
+        SignalsAreWatched past list.old → OnOk result (SignalsAreWatched (var tokens ∷ past)
+        list.new) }
 {
     let Some((first, others)) = list.split_first_mut() else {
         return Ok(());

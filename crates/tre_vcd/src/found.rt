@@ -7,7 +7,7 @@ ghost use Rattle.tre_state.specs.Names.{place_of};
 ghost use Rattle.tre_define.specs.Signals.{SignalDefined, changes_in, test_in};
 ghost use Rattle.tre_vcd.specs.VcdReading.{Statement, var, scopes_at, is_signal, is_event, offer_in, are_declared};
 ghost use Rattle.tre_vcd.specs.Needs.{definitions_of, needs};
-ghost use Rattle.tre_vcd.specs.Kept.{KnowsNeeded, KnowsAll, IsWithin, Declares, DeclaresNone, plain_of, vocabulary_of};
+ghost use Rattle.tre_vcd.specs.Kept.{KnowsNeeded, KnowsAll, AreNoLonger, Declares, DeclaresNone, plain_of, vocabulary_of};
 ghost use Rattle.tre_vcd.specs.Offers.{KnowsOffers, KnowOffers};
 ghost use Rattle.tre_vcd.specs.Signals.{offer_kept};
 
@@ -54,7 +54,7 @@ impl Found {
 
     // The length of the longest of the names.
     pub fn longest(&self) -> usize
-        ensures { IsWithin result (plain_of self.now) }
+        ensures { AreNoLonger result (plain_of self.now) }
     {
         let names = longest_in(self.needed.names.as_slice());
         let events = longest_in(self.needed.events.as_slice());

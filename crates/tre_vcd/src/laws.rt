@@ -7,8 +7,8 @@ ghost use Rattle.tre_define.specs.declared.test.Test.{Test};
 ghost use Rattle.tre_trace.specs.Reading.{Grows, Stretch, Vocabulary, reading_for};
 ghost use Rattle.tre_trace.specs.Trace.{IsTrace};
 ghost use Rattle.tre_trace.specs.declared.fault.TraceKind.{TraceKind};
-ghost use Rattle.tre_vcd.specs.Deciding.{Keeps, LastChange, Happened, Leaves, FirstRead, IsHigh, HasHappened};
-ghost use Rattle.tre_vcd.specs.Dumps.{IsToken, Spaced, Say, tokens_in, CompletesWith, HasFault, moved_recording};
+ghost use Rattle.tre_vcd.specs.Deciding.{KeepsValue, LastChange, Happened, Leaves, FirstRead, IsHigh, HasHappened};
+ghost use Rattle.tre_vcd.specs.Dumps.{IsToken, Spaced, GroupsSay, tokens_of_groups, CompletesWith, TokenHasFault, moved_recording};
 ghost use Rattle.tre_vcd.specs.VcdReading.{vcd_recording, Terms, is_white, path, Statement, letters_at, happened_at, Asked, Occasion, first_read, true_at, happens_at};
 
 /// What is read of a dump is a trace, and nothing is taken back when more bytes come.
@@ -30,7 +30,7 @@ pub fn changes()
     ensures last { (past : List Statement) (identifier letters : List ℕ) →
         LastChange past identifier letters ↔ (letters_at past identifier ≡ Some letters) }
     ensures none { (past : List Statement) (identifier : List ℕ) →
-        Keeps identifier past → letters_at past identifier ≡ None }
+        KeepsValue identifier past → letters_at past identifier ≡ None }
 {}
 
 /// An event happened exactly where a scalar change of its identifier was read at the last time,
@@ -77,13 +77,13 @@ pub fn lowest_bits()
 /// rule has its fault, told with its offset, whatever follows.
 pub fn dump()
     ensures trace { (terms : Terms) (groups : List (List (List ℕ))) (bytes : List ℕ)
-        (stretches : List Stretch) (last : List ℕ → Bool) → Spaced (tokens_in groups) bytes →
-        Say terms [] groups stretches (CompletesWith terms.definitions last) →
+        (stretches : List Stretch) (last : List ℕ → Bool) → Spaced (tokens_of_groups groups) bytes →
+        GroupsSay terms [] groups stretches (CompletesWith terms.definitions last) →
         vcd_recording terms true bytes
         ≡ record { stretches = stretches; last = last; fault = None } }
     ensures part { (terms : Terms) (groups : List (List (List ℕ))) (bytes : List ℕ)
-        (stretches : List Stretch) → Spaced (tokens_in groups) bytes →
-        Say terms [] groups stretches (λ past. Unit {0}) →
+        (stretches : List Stretch) → Spaced (tokens_of_groups groups) bytes →
+        GroupsSay terms [] groups stretches (λ past. Unit {0}) →
         vcd_recording terms false bytes ≡ record {
           stretches = stretches;
           last = λ name. false;
@@ -92,8 +92,9 @@ pub fn dump()
     ensures fault { (terms : Terms) (closed : Bool) (groups : List (List (List ℕ)))
         (begun : List (List ℕ)) (front token back : List ℕ) (separator : ℕ)
         (stretches : List Stretch) (kind : TraceKind) →
-        Spaced (tokens_in groups ++ begun) front → IsToken token → is_white separator ≡ true →
-        Say terms [] groups stretches (λ past. HasFault terms past begun token kind) →
+        Spaced (tokens_of_groups groups ++ begun) front → IsToken token → is_white separator ≡ true
+        →
+        GroupsSay terms [] groups stretches (λ past. TokenHasFault terms past begun token kind) →
         vcd_recording terms closed (front ++ (token ++ separator ∷ back))
         ≡ record {
           stretches = stretches;

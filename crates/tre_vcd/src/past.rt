@@ -1,7 +1,7 @@
 // What the reader keeps of the statements that it has read.
 ghost use Rattle.std.specs.Prelude.{◌≡◌, ◌==◌, ◌&&◌, not, length, ◌∷◌, ℕ, List, [], true, false, OnOk};
 ghost use Rattle.tre_vcd.specs.VcdReading.{Statement, scope, upscope, var, definitions, time, change, scalar, wide, dump, dump_end, is_defined, in_dump, scopes_at, is_signal, is_event};
-ghost use Rattle.tre_vcd.specs.Kept.{Knows, ends_true, Declares, DeclaresNone, valuation_at, events_at};
+ghost use Rattle.tre_vcd.specs.Kept.{KnowsOfPast, ends_true, Declares, DeclaresNone, valuation_behind, events_at};
 
 use crate::brief::Brief;
 use crate::scopes::Scopes;
@@ -31,7 +31,7 @@ pub struct Past {
 impl Past {
     // Nothing was read.
     pub fn new(alloc: Global) -> Past
-        ensures { (names event_names : List (List ℕ)) → Knows names event_names result [] }
+        ensures { (names event_names : List (List ℕ)) → KnowsOfPast names event_names result [] }
     {
         Past {
             alloc,
@@ -50,8 +50,8 @@ impl Past {
     // A scope opens.
     pub fn enter(&mut self, name: &[u8]) -> Result<(), AllocError>
         ensures { (names event_names : List (List ℕ)) (past : List Statement) →
-            Knows names event_names self.old past →
-            OnOk result (Knows names event_names self.new (scope name.now ∷ past)) }
+            KnowsOfPast names event_names self.old past →
+            OnOk result (KnowsOfPast names event_names self.new (scope name.now ∷ past)) }
     {
         self.scopes.enter(name)
     }
@@ -59,8 +59,8 @@ impl Past {
     // The innermost scope closes.
     pub fn leave(&mut self)
         ensures { (names event_names : List (List ℕ)) (past : List Statement) →
-            Knows names event_names self.old past →
-            Knows names event_names self.new (upscope ∷ past) }
+            KnowsOfPast names event_names self.old past →
+            KnowsOfPast names event_names self.new (upscope ∷ past) }
     {
         self.scopes.leave();
     }
@@ -73,10 +73,10 @@ impl Past {
         identifier: &[u8],
     ) -> Result<(), AllocError>
         ensures { (event_names : List (List ℕ)) (past : List Statement) (tokens : List (List ℕ)) →
-            Knows names.now event_names self.old past → is_defined past ≡ false →
+            KnowsOfPast names.now event_names self.old past → is_defined past ≡ false →
             Declares is_signal (scopes_at past) tokens identifier.now path.now →
             DeclaresNone is_event (scopes_at past) tokens →
-            OnOk result (Knows names.now event_names self.new (var tokens ∷ past)) }
+            OnOk result (KnowsOfPast names.now event_names self.new (var tokens ∷ past)) }
     {
         self.propositions
             .declare(self.alloc, names, path, identifier)?;
@@ -91,10 +91,10 @@ impl Past {
         identifier: &[u8],
     ) -> Result<(), AllocError>
         ensures { (names : List (List ℕ)) (past : List Statement) (tokens : List (List ℕ)) →
-            Knows names events.now self.old past → is_defined past ≡ false →
+            KnowsOfPast names events.now self.old past → is_defined past ≡ false →
             Declares is_event (scopes_at past) tokens identifier.now path.now →
             DeclaresNone is_signal (scopes_at past) tokens →
-            OnOk result (Knows names events.now self.new (var tokens ∷ past)) }
+            OnOk result (KnowsOfPast names events.now self.new (var tokens ∷ past)) }
     {
         self.events.declare(self.alloc, events, path, identifier)?;
         Ok(())
@@ -103,8 +103,8 @@ impl Past {
     // The declarations end, those of the propositions of these names among them.
     pub fn define(&mut self, names: &Names)
         ensures { (event_names : List (List ℕ)) (past : List Statement) →
-            Knows names.now event_names self.old past →
-            Knows names.now event_names self.new (definitions ∷ past) }
+            KnowsOfPast names.now event_names self.old past →
+            KnowsOfPast names.now event_names self.new (definitions ∷ past) }
     {
         self.is_defined = true;
         self.brief = Brief::of(names, &self.propositions.list);
@@ -113,8 +113,8 @@ impl Past {
     // A time is reached.
     pub fn reach(&mut self, ticks: u64)
         ensures knows { (names event_names : List (List ℕ)) (past : List Statement) →
-            Knows names event_names self.old past →
-            Knows names event_names self.new (time ticks ∷ past) }
+            KnowsOfPast names event_names self.old past →
+            KnowsOfPast names event_names self.new (time ticks ∷ past) }
         ensures defined { self.new.is_defined ≡ self.old.is_defined }
     {
         if ticks != self.time {
@@ -127,9 +127,9 @@ impl Past {
     #[inline(always)]
     pub fn change(&mut self, identifier: &[u8], value: bool)
         ensures knows { (names event_names : List (List ℕ)) (past : List Statement) →
-            Knows names event_names self.old past →
+            KnowsOfPast names event_names self.old past →
             is_defined past ≡ true → (letters : List ℕ) → value ≡ ends_true letters →
-            Knows names event_names self.new (change wide identifier.now letters ∷ past) }
+            KnowsOfPast names event_names self.new (change wide identifier.now letters ∷ past) }
         ensures defined { self.new.is_defined ≡ self.old.is_defined }
     {
         let changed = self.brief.having(&self.propositions, identifier);
@@ -148,9 +148,9 @@ impl Past {
     #[inline(always)]
     pub fn change_scalar(&mut self, identifier: &[u8], value: bool)
         ensures knows { (names event_names : List (List ℕ)) (past : List Statement) →
-            Knows names event_names self.old past →
+            KnowsOfPast names event_names self.old past →
             is_defined past ≡ true → (letters : List ℕ) → value ≡ ends_true letters →
-            Knows names event_names self.new (change scalar identifier.now letters ∷ past) }
+            KnowsOfPast names event_names self.new (change scalar identifier.now letters ∷ past) }
         ensures defined { self.new.is_defined ≡ self.old.is_defined }
     {
         let changed = self.brief.having(&self.propositions, identifier);
@@ -165,7 +165,7 @@ impl Past {
     fn say_event(&mut self, identifier: &[u8])
         ensures happened { (values : ℕ) (names event_names : List (List ℕ))
             (past : List Statement) (letters : List ℕ) →
-            Knows names event_names (record self.old { values = values }) past →
+            KnowsOfPast names event_names (record self.old { values = values }) past →
             in_dump past ≡ false → self.new.happened
             ≡ events_at (change scalar identifier.now letters ∷ past) event_names }
         ensures same { self.new ≡ record self.old { happened = self.new.happened } }
@@ -177,8 +177,8 @@ impl Past {
     // A dump section opens.
     pub fn open_dump(&mut self)
         ensures { (names event_names : List (List ℕ)) (past : List Statement) →
-            Knows names event_names self.old past →
-            Knows names event_names self.new (dump ∷ past) }
+            KnowsOfPast names event_names self.old past →
+            KnowsOfPast names event_names self.new (dump ∷ past) }
     {
         self.in_dump = true;
     }
@@ -186,8 +186,8 @@ impl Past {
     // The dump section closes.
     pub fn close_dump(&mut self)
         ensures { (names event_names : List (List ℕ)) (past : List Statement) →
-            Knows names event_names self.old past →
-            Knows names event_names self.new (dump_end ∷ past) }
+            KnowsOfPast names event_names self.old past →
+            KnowsOfPast names event_names self.new (dump_end ∷ past) }
     {
         self.in_dump = false;
     }
@@ -195,8 +195,8 @@ impl Past {
     // The values of the propositions now.
     pub fn valuation(&self) -> u64
         ensures { (names event_names : List (List ℕ)) (past : List Statement) →
-            Knows names event_names self.now past →
-            result ≡ valuation_at past names }
+            KnowsOfPast names event_names self.now past →
+            result ≡ valuation_behind past names }
     {
         self.values
     }
@@ -204,7 +204,7 @@ impl Past {
     // The events that happened at the time.
     pub fn events(&self) -> u64
         ensures { (names event_names : List (List ℕ)) (past : List Statement) →
-            Knows names event_names self.now past →
+            KnowsOfPast names event_names self.now past →
             result ≡ events_at past event_names }
     {
         self.happened

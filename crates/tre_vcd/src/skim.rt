@@ -3,7 +3,7 @@ ghost use Rattle.std.specs.Prelude.{◌≡◌, ◌==◌, ◌≤◌, ℕ, List, d
 ghost use Rattle.tre_parts.specs.Skims.{Skims};
 ghost use Rattle.tre_parts.specs.declared.TheConstants.{PART_MAX};
 ghost use Rattle.tre_vcd.specs.VcdReading.{Statement, Place, change, wide, nothing, is_defined, vcd_format, scalar_says, ticks_say, value_says};
-ghost use Rattle.tre_vcd.specs.Sections.{Holds, asked_of, terms_kept};
+ghost use Rattle.tre_vcd.specs.Sections.{Holds, asked_of_reader, terms_kept};
 ghost use Rattle.tre_vcd.specs.Taken.{IsTaken, StaysAmong, behind_if};
 ghost use Rattle.tre_trace.specs.declared.segment.Segment.{Segment};
 ghost use Rattle.tre_vcd.specs.declared.inside.Inside.{Inside};
@@ -36,11 +36,12 @@ impl TokenReader {
         requires short { length bytes.now ≤ PART_MAX }
         requires among { (self.old.past.is_defined ≡ true) × (self.old.inside ≡ Inside.Nothing) }
         ensures skims { (place : Place) → Holds self.old place →
-            Skims (asked_of self.old) (vcd_format (terms_kept self.old)) (Holds self.new) place
+            Skims (asked_of_reader self.old) (vcd_format (terms_kept self.old)) (Holds self.new)
+            place
             bytes.now segments.old.items segments.new.items result }
         ensures within { result.bytes ≤ length bytes.now }
         ensures same_terms { terms_kept self.new ≡ terms_kept self.old }
-        ensures same_names { asked_of self.new ≡ asked_of self.old }
+        ensures same_names { asked_of_reader self.new ≡ asked_of_reader self.old }
     {
         let mut done = Skimmed { bytes: 0, parts: 0 };
         let mut marks = Marks::of::<White>(bytes);
@@ -69,11 +70,11 @@ impl TokenReader {
         ensures taken { (past : List Statement) →
             Holds self.old (record { past = past; inside = nothing }) →
             is_defined past ≡ true →
-            IsTaken (asked_of self.old) (value_says (terms_kept self.old) past token.now)
+            IsTaken (asked_of_reader self.old) (value_says (terms_kept self.old) past token.now)
             (Holds self.new) past (drop 1 token.now) segments.old.items segments.new.items result }
         ensures stays { StaysAmong self.old self.new }
         ensures same_terms { terms_kept self.new ≡ terms_kept self.old }
-        ensures same_names { asked_of self.new ≡ asked_of self.old }
+        ensures same_names { asked_of_reader self.new ≡ asked_of_reader self.old }
     {
         let Some((first, rest)) = token.split_first() else {
             return Taken::Whole;
@@ -93,11 +94,12 @@ impl TokenReader {
         ensures taken { (past : List Statement) (letters : List ℕ) (segments : List Segment) →
             Holds self.old (record { past = past; inside = nothing }) →
             is_defined past ≡ true →
-            IsTaken (asked_of self.old) (scalar_says past letter identifier.now) (Holds self.new)
+            IsTaken (asked_of_reader self.old) (scalar_says past letter identifier.now) (Holds
+            self.new)
             past letters segments segments result }
         ensures stays { StaysAmong self.old self.new }
         ensures same_terms { terms_kept self.new ≡ terms_kept self.old }
-        ensures same_names { asked_of self.new ≡ asked_of self.old }
+        ensures same_names { asked_of_reader self.new ≡ asked_of_reader self.old }
     {
         if identifier.is_empty() {
             return Taken::Not;
@@ -116,11 +118,12 @@ impl TokenReader {
             (length identifier.now == 0) ≡ false →
             Holds self.old (record { past = past; inside = nothing }) →
             is_defined past ≡ true →
-            IsTaken (asked_of self.old) (scalar_says past letter identifier.now) (Holds self.new)
+            IsTaken (asked_of_reader self.old) (scalar_says past letter identifier.now) (Holds
+            self.new)
             past letters segments segments result }
         ensures stays { StaysAmong self.old self.new }
         ensures same_terms { terms_kept self.new ≡ terms_kept self.old }
-        ensures same_names { asked_of self.new ≡ asked_of self.old }
+        ensures same_names { asked_of_reader self.new ≡ asked_of_reader self.old }
     {
         if !self.signals.change_tests(identifier, &[letter]) {
             return Taken::Not;
@@ -143,7 +146,7 @@ impl TokenReader {
         ensures some { result ≡ true → (length identifier.now == 0) ≡ false }
         ensures stays { StaysAmong self.old self.new }
         ensures same_terms { terms_kept self.new ≡ terms_kept self.old }
-        ensures same_names { asked_of self.new ≡ asked_of self.old }
+        ensures same_names { asked_of_reader self.new ≡ asked_of_reader self.old }
     {
         let Some((_, letters)) = token.split_first() else {
             return false;
@@ -171,7 +174,7 @@ impl TokenReader {
             }) }
         ensures stays { StaysAmong self.old self.new }
         ensures same_terms { terms_kept self.new ≡ terms_kept self.old }
-        ensures same_names { asked_of self.new ≡ asked_of self.old }
+        ensures same_names { asked_of_reader self.new ≡ asked_of_reader self.old }
     {
         if !self.signals.change_tests(identifier, letters) {
             return false;
@@ -186,11 +189,11 @@ impl TokenReader {
         ensures taken { (past : List Statement) (letters : List ℕ) →
             Holds self.old (record { past = past; inside = nothing }) →
             is_defined past ≡ true →
-            IsTaken (asked_of self.old) (ticks_say (terms_kept self.old) past digits.now)
+            IsTaken (asked_of_reader self.old) (ticks_say (terms_kept self.old) past digits.now)
             (Holds self.new) past letters segments.old.items segments.new.items result }
         ensures stays { StaysAmong self.old self.new }
         ensures same_terms { terms_kept self.new ≡ terms_kept self.old }
-        ensures same_names { asked_of self.new ≡ asked_of self.old }
+        ensures same_names { asked_of_reader self.new ≡ asked_of_reader self.old }
     {
         let Some(ticks) = self.scale.time(digits) else {
             return Taken::Not;

@@ -6,7 +6,7 @@ ghost use Rattle.tre_define.specs.declared.test.Test.{Test};
 ghost use Rattle.tre_state.specs.Sieve.{MayBe};
 ghost use Rattle.tre_trace.specs.Reading.{bits_of};
 ghost use Rattle.tre_vcd.specs.VcdReading.{Form, Statement, var, change, definitions, is_defined, scopes_at, offer_in, Asked, true_at};
-ghost use Rattle.tre_vcd.specs.Kept.{IsQuiet, valuation_at};
+ghost use Rattle.tre_vcd.specs.Kept.{IsQuiet, valuation_behind};
 ghost use Rattle.tre_vcd.specs.Signals.{offer_kept, test_kept, test_read, test_told, test_at, bit_told, AreDefined, AreTested, KnowsTests};
 
 use crate::offer::Offered;
@@ -179,7 +179,7 @@ impl Tests {
     pub fn valuation(&self, plain: u64) -> u64
         ensures { (all : List SignalDefined) (names : List (List ℕ))
             (past : List Statement) → KnowsTests all names self.now past →
-            plain ≡ valuation_at past names →
+            plain ≡ valuation_behind past names →
             result ≡ bits_of (true_at all past) names }
     {
         (plain ^ (plain & self.defined)) | self.values

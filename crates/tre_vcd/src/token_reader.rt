@@ -1,16 +1,16 @@
 // The tokens of a dump, one after the other.
 ghost use Rattle.std.specs.Prelude.{◌≡◌, ◌≢◌, ◌≤◌, ℕ, List, [], ◌∷◌, ◌++◌, length, map, take, true, false, not, ◌&&◌, All, OnOk};
 ghost use Rattle.tre_decimal.specs.declared.TheConstants.{SCALE_MAX};
-ghost use Rattle.tre_parts.specs.Walk.{Tells};
+ghost use Rattle.tre_parts.specs.Walk.{TellsPart};
 ghost use Rattle.tre_parts.specs.declared.said.Said.{Said};
 ghost use Rattle.tre_trace.specs.declared.fault.TraceKind.TheVariants.{Spent};
 ghost use Rattle.tre_define.specs.Signals.{SignalDefined};
 ghost use Rattle.tre_vcd.specs.VcdReading.{Terms, requiring, defining, first_place, scalar, wide, scopes_at, Statement, var, Place, nothing, section, comment, vector, number, is_defined, goes_to, vcd_format, command_says, section_says, ticks_say, keyword_says, scalar_says, vector_says, value_says, scope_says, declaration_says, change, token_at};
-ghost use Rattle.tre_vcd.specs.Sections.{Holds, KnowsPast, asked_of, terms_kept, command_of, is_nothing, dump_says, dump_end_says};
+ghost use Rattle.tre_vcd.specs.Sections.{Holds, KnowsPast, asked_of_reader, terms_kept, command_of, is_nothing, dump_says, dump_end_says};
 ghost use Rattle.tre_vcd.specs.Needs.{definitions_of, needs};
 ghost use Rattle.tre_vcd.specs.Offers.{KnowOffers};
 ghost use Rattle.tre_vcd.specs.Signals.{KnowsSignals};
-ghost use Rattle.tre_vcd.specs.Kept.{ends_true, plain_of, AreScopes, IsQuiet, Knows, KnowsAll};
+ghost use Rattle.tre_vcd.specs.Kept.{ends_true, plain_of, AreScopes, IsQuiet, KnowsOfPast, KnowsAll};
 ghost use Rattle.tre_vcd.specs.Times.{vcd-keeps_time};
 
 use crate::command::{Command, command_of};
@@ -141,11 +141,11 @@ impl TokenReader {
         ensures tells { (past : List Statement) →
             Holds self.old (record { past = past; inside = nothing }) →
             is_defined past ≡ false →
-            Tells (asked_of self.old) (command_says (terms_kept self.old) past token.now)
+            TellsPart (asked_of_reader self.old) (command_says (terms_kept self.old) past token.now)
             (Holds self.new) result }
         ensures kinds { result ≢ Said.Wrong Spent }
         ensures same_terms { terms_kept self.new ≡ terms_kept self.old }
-        ensures same_names { asked_of self.new ≡ asked_of self.old }
+        ensures same_names { asked_of_reader self.new ≡ asked_of_reader self.old }
     {
         if is_misplaced(token) {
             return Said::Wrong(TraceKind::BadToken);
@@ -164,12 +164,13 @@ impl TokenReader {
     fn keep(&mut self, token: &[u8]) -> Said
         ensures tells { (past : List Statement) (command : List ℕ) (tokens : List (List ℕ)) →
             Holds self.old (record { past = past; inside = section command tokens }) →
-            Tells (asked_of self.old) (goes_to past (section command (tokens ++ token.now ∷ [])))
+            TellsPart (asked_of_reader self.old) (goes_to past (section command (tokens ++
+            token.now ∷ [])))
             (Holds self.new)
             result }
         ensures kinds { result ≢ Said.Wrong Spent }
         ensures same_terms { terms_kept self.new ≡ terms_kept self.old }
-        ensures same_names { asked_of self.new ≡ asked_of self.old }
+        ensures same_names { asked_of_reader self.new ≡ asked_of_reader self.old }
     {
         if self.tokens.as_slice().len() >= KEPT_MAX {
             return Said::Nothing;
@@ -185,11 +186,11 @@ impl TokenReader {
         ensures tells { (past : List Statement) →
             Holds self.old (record { past = past; inside = nothing }) →
             is_defined past ≡ true →
-            Tells (asked_of self.old) (ticks_say (terms_kept self.old) past digits.now)
+            TellsPart (asked_of_reader self.old) (ticks_say (terms_kept self.old) past digits.now)
             (Holds self.new) result }
         ensures kinds { result ≢ Said.Wrong Spent }
         ensures same_terms { terms_kept self.new ≡ terms_kept self.old }
-        ensures same_names { asked_of self.new ≡ asked_of self.old }
+        ensures same_names { asked_of_reader self.new ≡ asked_of_reader self.old }
     {
         let Some(ticks) = self.scale.time(digits) else {
             return Said::Wrong(TraceKind::BadToken);
@@ -217,10 +218,11 @@ impl TokenReader {
         ensures tells { (past : List Statement) →
             Holds self.old (record { past = past; inside = nothing }) →
             is_defined past ≡ true →
-            Tells (asked_of self.old) (keyword_says past token.now) (Holds self.new) result }
+            TellsPart (asked_of_reader self.old) (keyword_says past token.now) (Holds self.new)
+            result }
         ensures kinds { result ≢ Said.Wrong Spent }
         ensures same_terms { terms_kept self.new ≡ terms_kept self.old }
-        ensures same_names { asked_of self.new ≡ asked_of self.old }
+        ensures same_names { asked_of_reader self.new ≡ asked_of_reader self.old }
     {
         if is_dump(token) {
             return self.open_dump();
@@ -240,10 +242,10 @@ impl TokenReader {
         ensures tells { (past : List Statement) →
             Holds self.old (record { past = past; inside = nothing }) →
             is_defined past ≡ true →
-            Tells (asked_of self.old) (dump_says past) (Holds self.new) result }
+            TellsPart (asked_of_reader self.old) (dump_says past) (Holds self.new) result }
         ensures kinds { result ≢ Said.Wrong Spent }
         ensures same_terms { terms_kept self.new ≡ terms_kept self.old }
-        ensures same_names { asked_of self.new ≡ asked_of self.old }
+        ensures same_names { asked_of_reader self.new ≡ asked_of_reader self.old }
     {
         if self.past.in_dump {
             return Said::Wrong(TraceKind::BadToken);
@@ -257,10 +259,10 @@ impl TokenReader {
         ensures tells { (past : List Statement) →
             Holds self.old (record { past = past; inside = nothing }) →
             is_defined past ≡ true →
-            Tells (asked_of self.old) (dump_end_says past) (Holds self.new) result }
+            TellsPart (asked_of_reader self.old) (dump_end_says past) (Holds self.new) result }
         ensures kinds { result ≢ Said.Wrong Spent }
         ensures same_terms { terms_kept self.new ≡ terms_kept self.old }
-        ensures same_names { asked_of self.new ≡ asked_of self.old }
+        ensures same_names { asked_of_reader self.new ≡ asked_of_reader self.old }
     {
         if !self.past.in_dump {
             return Said::Wrong(TraceKind::BadToken);
@@ -275,11 +277,12 @@ impl TokenReader {
         ensures tells { (past : List Statement) →
             Holds self.old (record { past = past; inside = nothing }) →
             is_defined past ≡ true →
-            Tells (asked_of self.old) (scalar_says past letter identifier.now) (Holds self.new)
+            TellsPart (asked_of_reader self.old) (scalar_says past letter identifier.now) (Holds
+            self.new)
             result }
         ensures kinds { result ≢ Said.Wrong Spent }
         ensures same_terms { terms_kept self.new ≡ terms_kept self.old }
-        ensures same_names { asked_of self.new ≡ asked_of self.old }
+        ensures same_names { asked_of_reader self.new ≡ asked_of_reader self.old }
     {
         if identifier.is_empty() {
             return Said::Wrong(TraceKind::BadToken);
@@ -293,12 +296,12 @@ impl TokenReader {
         ensures tells { (past : List Statement) →
             Holds self.old (record { past = past; inside = nothing }) →
             is_defined past ≡ true →
-            Tells (asked_of self.old)
+            TellsPart (asked_of_reader self.old)
             (goes_to (change scalar identifier.now (letter ∷ []) ∷ past) nothing)
             (Holds self.new) result }
         ensures kinds { result ≢ Said.Wrong Spent }
         ensures same_terms { terms_kept self.new ≡ terms_kept self.old }
-        ensures same_names { asked_of self.new ≡ asked_of self.old }
+        ensures same_names { asked_of_reader self.new ≡ asked_of_reader self.old }
     {
         self.past.change_scalar(identifier, letter == b'1');
         if self.signals.is_empty() {
@@ -316,10 +319,11 @@ impl TokenReader {
         ensures tells { (past : List Statement) →
             Holds self.old (record { past = past; inside = nothing }) →
             is_defined past ≡ true →
-            Tells (asked_of self.old) (vector_says past value.now) (Holds self.new) result }
+            TellsPart (asked_of_reader self.old) (vector_says past value.now) (Holds self.new)
+            result }
         ensures kinds { result ≢ Said.Wrong Spent }
         ensures same_terms { terms_kept self.new ≡ terms_kept self.old }
-        ensures same_names { asked_of self.new ≡ asked_of self.old }
+        ensures same_names { asked_of_reader self.new ≡ asked_of_reader self.old }
     {
         if value.is_empty() {
             return Said::Wrong(TraceKind::BadToken);
@@ -337,11 +341,11 @@ impl TokenReader {
         ensures tells { (past : List Statement) →
             Holds self.old (record { past = past; inside = nothing }) →
             is_defined past ≡ true →
-            Tells (asked_of self.old) (value_says (terms_kept self.old) past token.now)
+            TellsPart (asked_of_reader self.old) (value_says (terms_kept self.old) past token.now)
             (Holds self.new) result }
         ensures kinds { result ≢ Said.Wrong Spent }
         ensures same_terms { terms_kept self.new ≡ terms_kept self.old }
-        ensures same_names { asked_of self.new ≡ asked_of self.old }
+        ensures same_names { asked_of_reader self.new ≡ asked_of_reader self.old }
     {
         let Some((first, rest)) = token.split_first() else {
             return Said::Nothing;
@@ -366,12 +370,12 @@ impl TokenReader {
         ensures tells { (past : List Statement) (letters : List ℕ) →
             Holds self.old (record { past = past; inside = vector letters }) →
             value ≡ ends_true letters →
-            Tells (asked_of self.old)
+            TellsPart (asked_of_reader self.old)
             (goes_to (change wide identifier.now letters ∷ past) nothing) (Holds self.new)
             result }
         ensures kinds { result ≢ Said.Wrong Spent }
         ensures same_terms { terms_kept self.new ≡ terms_kept self.old }
-        ensures same_names { asked_of self.new ≡ asked_of self.old }
+        ensures same_names { asked_of_reader self.new ≡ asked_of_reader self.old }
     {
         self.past.change(identifier, value);
         self.inside = Inside::Nothing;
@@ -389,7 +393,7 @@ impl TokenReader {
         ensures holds { (past : List Statement) → KnowsPast self.old past →
             Holds self.new (record { past = past; inside = nothing }) }
         ensures same_terms { terms_kept self.new ≡ terms_kept self.old }
-        ensures same_names { asked_of self.new ≡ asked_of self.old }
+        ensures same_names { asked_of_reader self.new ≡ asked_of_reader self.old }
     {
         self.inside = Inside::Nothing;
         self.tokens.clear();
@@ -399,10 +403,10 @@ impl TokenReader {
     fn end_scope(&mut self) -> Said
         ensures tells { (past : List Statement) (word : List ℕ) (tokens : List (List ℕ)) →
             Holds self.old (record { past = past; inside = section word tokens }) →
-            Tells (asked_of self.old) (scope_says past tokens) (Holds self.new) result }
+            TellsPart (asked_of_reader self.old) (scope_says past tokens) (Holds self.new) result }
         ensures kinds { result ≢ Said.Wrong Spent }
         ensures same_terms { terms_kept self.new ≡ terms_kept self.old }
-        ensures same_names { asked_of self.new ≡ asked_of self.old }
+        ensures same_names { asked_of_reader self.new ≡ asked_of_reader self.old }
     {
         if self.tokens.as_slice().len() < 2 {
             return Said::Wrong(TraceKind::BadToken);
@@ -422,7 +426,7 @@ impl TokenReader {
             Holds self.old (record { past = past; inside = section word tokens }) →
             OnOk result (KnowsPast self.new (var tokens ∷ past)) }
         ensures same_terms { terms_kept self.new ≡ terms_kept self.old }
-        ensures same_names { asked_of self.new ≡ asked_of self.old }
+        ensures same_names { asked_of_reader self.new ≡ asked_of_reader self.old }
     {
         self.declare()?;
         if self.signals.is_empty() {
@@ -450,7 +454,7 @@ impl TokenReader {
         ensures same_past { (self.new.past ≡ self.old.past)
             × (self.new.longest ≡ self.old.longest) }
         ensures same_terms { terms_kept self.new ≡ terms_kept self.old }
-        ensures same_names { asked_of self.new ≡ asked_of self.old }
+        ensures same_names { asked_of_reader self.new ≡ asked_of_reader self.old }
     {
         let alloc = self.past.alloc;
         let Some(offered) = offer_in(alloc, &self.past.scopes, &self.tokens)? else {
@@ -466,7 +470,8 @@ impl TokenReader {
     fn declare(&mut self) -> Result<(), AllocError>
         ensures knows { (past : List Statement) (word : List ℕ) (tokens : List (List ℕ)) →
             Holds self.old (record { past = past; inside = section word tokens }) →
-            OnOk result (Knows self.new.names self.new.events self.new.past (var tokens ∷ past)
+            OnOk result (KnowsOfPast self.new.names self.new.events self.new.past (var tokens ∷
+            past)
             × KnowsAll (var tokens ∷ past) self.new.needed.items) }
         ensures offers { (all : List SignalDefined) (past : List Statement) →
             KnowOffers all past self.old.needed.items → KnowOffers all past self.new.needed.items }
@@ -475,7 +480,7 @@ impl TokenReader {
             × (self.new.tokens ≡ self.old.tokens) }
         ensures same_longest { self.new.longest ≡ self.old.longest }
         ensures same_terms { terms_kept self.new ≡ terms_kept self.old }
-        ensures same_names { asked_of self.new ≡ asked_of self.old }
+        ensures same_names { asked_of_reader self.new ≡ asked_of_reader self.old }
     {
         let tokens = self.tokens.as_slice();
         if tokens.len() != 4 {
@@ -505,10 +510,11 @@ impl TokenReader {
     fn end_declaration(&mut self) -> Said
         ensures tells { (past : List Statement) (word : List ℕ) (tokens : List (List ℕ)) →
             Holds self.old (record { past = past; inside = section word tokens }) →
-            Tells (asked_of self.old) (declaration_says past tokens) (Holds self.new) result }
+            TellsPart (asked_of_reader self.old) (declaration_says past tokens) (Holds self.new)
+            result }
         ensures kinds { result ≢ Said.Wrong Spent }
         ensures same_terms { terms_kept self.new ≡ terms_kept self.old }
-        ensures same_names { asked_of self.new ≡ asked_of self.old }
+        ensures same_names { asked_of_reader self.new ≡ asked_of_reader self.old }
     {
         if self.tokens.as_slice().len() < 4 {
             return Said::Wrong(TraceKind::BadToken);
@@ -527,10 +533,11 @@ impl TokenReader {
         ensures tells { (past : List Statement) (word : List ℕ) (tokens : List (List ℕ)) →
             Holds self.old (record { past = past; inside = section word tokens }) →
             command ≡ command_of word →
-            Tells (asked_of self.old) (section_says past word tokens) (Holds self.new) result }
+            TellsPart (asked_of_reader self.old) (section_says past word tokens) (Holds self.new)
+            result }
         ensures kinds { result ≢ Said.Wrong Spent }
         ensures same_terms { terms_kept self.new ≡ terms_kept self.old }
-        ensures same_names { asked_of self.new ≡ asked_of self.old }
+        ensures same_names { asked_of_reader self.new ≡ asked_of_reader self.old }
     {
         match command {
             Command::Scope => self.end_scope(),
@@ -558,12 +565,13 @@ impl TokenReader {
         ensures tells { (past : List Statement) (word : List ℕ) (tokens : List (List ℕ)) →
             Holds self.old (record { past = past; inside = section word tokens }) →
             command ≡ command_of word →
-            Tells (asked_of self.old) (token_at (terms_kept self.old) past (section word tokens)
+            TellsPart (asked_of_reader self.old) (token_at (terms_kept self.old) past (section word
+            tokens)
             token.now)
             (Holds self.new) result }
         ensures kinds { result ≢ Said.Wrong Spent }
         ensures same_terms { terms_kept self.new ≡ terms_kept self.old }
-        ensures same_names { asked_of self.new ≡ asked_of self.old }
+        ensures same_names { asked_of_reader self.new ≡ asked_of_reader self.old }
     {
         if is_end(token) {
             return self.end_section(command);
@@ -575,11 +583,12 @@ impl TokenReader {
     fn read_comment(&mut self, token: &[u8]) -> Said
         ensures tells { (past : List Statement) →
             Holds self.old (record { past = past; inside = comment }) →
-            Tells (asked_of self.old) (token_at (terms_kept self.old) past comment token.now)
+            TellsPart (asked_of_reader self.old) (token_at (terms_kept self.old) past comment
+            token.now)
             (Holds self.new) result }
         ensures kinds { result ≢ Said.Wrong Spent }
         ensures same_terms { terms_kept self.new ≡ terms_kept self.old }
-        ensures same_names { asked_of self.new ≡ asked_of self.old }
+        ensures same_names { asked_of_reader self.new ≡ asked_of_reader self.old }
     {
         if is_end(token) {
             self.inside = Inside::Nothing;
@@ -591,10 +600,10 @@ impl TokenReader {
     fn pass_over(&mut self) -> Said
         ensures tells { (past : List Statement) →
             Holds self.old (record { past = past; inside = number }) →
-            Tells (asked_of self.old) (goes_to past nothing) (Holds self.new) result }
+            TellsPart (asked_of_reader self.old) (goes_to past nothing) (Holds self.new) result }
         ensures kinds { result ≢ Said.Wrong Spent }
         ensures same_terms { terms_kept self.new ≡ terms_kept self.old }
-        ensures same_names { asked_of self.new ≡ asked_of self.old }
+        ensures same_names { asked_of_reader self.new ≡ asked_of_reader self.old }
     {
         self.inside = Inside::Nothing;
         Said::Nothing
@@ -608,7 +617,7 @@ impl PartReader for TokenReader {
 
     ghost terms = { terms_kept };
 
-    ghost names = { asked_of };
+    ghost names = { asked_of_reader };
 
     ghost format = { vcd_format };
 

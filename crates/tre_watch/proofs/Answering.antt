@@ -10,7 +10,7 @@ use Rattle.tre_watch.specs.declared.fault.WatchFault.TheVariants.{Pattern as Pat
 use Rattle.tre_parse.specs.declared.fault.ParseFault.TheVariants.{Memory as ParseMemory}
 use Rattle.tre_watch.specs.Lines.{Says, check}
 use Rattle.tre_watch.specs.Outcome.{SpeltPattern}
-use Rattle.tre_watch.specs.Steps.{spelt_of, spelt_in, Leads, Stops}
+use Rattle.tre_watch.specs.Steps.{spelt_of, spelt_in, LineLeads, LineStops}
 use Rattle.tre_watch.proofs.Outcomes.{stops_memory, stops_text, leads_check}
 
 spelt_in-push : (patterns : List Pattern) (pattern : Pattern)
@@ -27,12 +27,12 @@ module _ (scale number : ℕ) (line : List ℕ) (names : List (List ℕ)) (patte
       (spelt_of pattern).names)
       → (new_names : List (List ℕ)) (new_patterns : List Pattern)
       → new_names ≡ names ++ name ∷ [] → new_patterns ≡ patterns ++ pattern ∷ []
-      → Leads scale number line names (spelt_in patterns) new_names (spelt_in new_patterns)
+      → LineLeads scale number line names (spelt_in patterns) new_names (spelt_in new_patterns)
   found_leads pattern parses new_names new_patterns is are =
       subst (λ (list : List (List ℕ)).
-      Leads scale number line names (spelt_in patterns) list (spelt_in new_patterns)) (sym is)
+      LineLeads scale number line names (spelt_in patterns) list (spelt_in new_patterns)) (sym is)
       (subst (λ (list : List SpeltPattern).
-      Leads scale number line names (spelt_in patterns) (names ++ name ∷ []) list)
+      LineLeads scale number line names (spelt_in patterns) (names ++ name ∷ []) list)
       (sym (ap (λ (list : List Pattern). spelt_in list) are ∙ spelt_in-push patterns pattern))
       (leads_check scale number line names (spelt_in patterns) name text says few none
       (spelt_of pattern) parses))
@@ -41,10 +41,10 @@ module _ (scale number : ℕ) (line : List ℕ) (names : List (List ℕ)) (patte
   pub found_stops : (fault : WatchFault)
       → (fault ≡ Memory) ⊎ ((parsed : ParseFault) × ParsesTo scale text (refused parsed)
       × (parsed ≢ ParseMemory) × (fault ≡ PatternFault number parsed))
-      → Stops scale number line names (spelt_in patterns) fault
+      → LineStops scale number line names (spelt_in patterns) fault
   found_stops fault why =
       ⊎_elim (λ e. stops_memory scale number line names (spelt_in patterns) fault e)
       (λ h.
-      subst (λ (f : WatchFault). Stops scale number line names (spelt_in patterns) f) (sym h.3)
+      subst (λ (f : WatchFault). LineStops scale number line names (spelt_in patterns) f) (sym h.3)
       (stops_text scale number line names (spelt_in patterns) name text says few none h.0 h.1 h.2))
       why

@@ -13,7 +13,7 @@ use Rattle.tre_parse.specs.Outcome.{Outcome as Parsed, spelt, refused, IsOutcome
 use Rattle.tre_parse.proofs.Existence.{outcome_is as text_outcome}
 use Rattle.tre_watch.specs.declared.fault.WatchFault.TheVariants.{TooLarge, BadLine, TooMany, Twice, Pattern}
 use Rattle.tre_watch.specs.declared.reader.TheConstants.{FILE_MAX}
-use Rattle.tre_watch.specs.Lines.{is_blank, behind, is_silent, content_of, IsCheck, Said, silence, mistake, check, Says}
+use Rattle.tre_watch.specs.Lines.{is_space_or_tab, behind_passed, is_silent, content_of, IsCheck, Said, silence, mistake, check, Says}
 use Rattle.tre_watch.specs.Outcome.{SpeltPattern, Outcome, faulty, AfterText, Follows, ended, IsOutcomeFrom, IsOutcome}
 use Rattle.tre_watch.proofs.Checks.{found_check, no_check-sign, no_check-name}
 
@@ -46,7 +46,7 @@ check_or content = judge (ascii_or content) (name_or front) (cases_eq (get_or ba
     front = take (prefix_len continues_name content) content
 
     back : List ℕ
-    back = behind is_blank (behind continues_name content)
+    back = behind_passed is_space_or_tab (behind_passed continues_name content)
 
     judge : Decided (IsAscii content) → Decided (IsName front) → Decided (get_or back 0 0 ≡ 61)
         → Decided (HasCheck content)

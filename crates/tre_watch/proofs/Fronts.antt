@@ -4,7 +4,7 @@ use Rattle.std.proofs.lemmas.List.{get_or-take, length-take-le}
 use Rattle.std.proofs.lemmas.List.Sums.{prefix_len-le-length, prefix_len_passes, list_all-from_AllPass}
 use Rattle.std.proofs.Math.Seq.{take-append_seam, drop-append_seam}
 use Rattle.std.specs.List.{list_all, prefix_len, AllPass}
-use Rattle.tre_watch.specs.Lines.{behind}
+use Rattle.tre_watch.specs.Lines.{behind_passed}
 
 pub and_parts : (a b : Bool) → (a && b) ≡ true → (a ≡ true) × (b ≡ true)
 and_parts true b e = (refl, e)
@@ -25,7 +25,7 @@ prefix_len_seam p (x ∷ xs) ys all stops =
     rw both.0 (omega arith)
 
 pub behind_seam : (p : ℕ → Bool) (xs ys : List ℕ) → list_all p xs ≡ true → Stops p ys
-    → behind p (xs ++ ys) ≡ ys
+    → behind_passed p (xs ++ ys) ≡ ys
 behind_seam p xs ys all stops =
     ap (λ n. drop n (xs ++ ys)) (prefix_len_seam p xs ys all stops) ∙ drop-append_seam xs ys
 

@@ -19,7 +19,7 @@ use Rattle.tre_watch.specs.declared.plan.Plan.{Plan}
 use Rattle.tre_watch.specs.declared.reader.TheConstants.{FILE_MAX}
 use Rattle.tre_parse.specs.declared.fault.ParseFault.{ParseFault}
 use Rattle.tre_parse.specs.declared.fault.ParseFault.TheVariants.{Memory as ParseMemory}
-use Rattle.tre_watch.specs.Steps.{Answers, Leads, Stops}
+use Rattle.tre_watch.specs.Steps.{AnswersPlan, LineLeads, LineStops}
 use Rattle.tre_watch.specs.Lines.{content_of, Said, silence, mistake, check, Says}
 use Rattle.tre_watch.specs.Outcome.{SpeltPattern, Outcome, planned, faulty, AfterText, Follows, ended, IsOutcomeFrom, IsOutcome}
 use Rattle.tre_watch.proofs.Checks.{check_once as one_check}
@@ -137,14 +137,14 @@ has_room names few = grind (arith, nat_tests)
 
 module _ (scale number : ℕ) (line : List ℕ) (names : List (List ℕ)) (patterns : List SpeltPattern)
   where
-    pub leads_silence : Says line silence → Leads scale number line names patterns names patterns
+    pub leads_silence : Says line silence → LineLeads scale number line names patterns names patterns
     unfolding IsOutcomeFrom
     leads_silence says = record {
       on = λ lines outcome rest. (silence, says, rest);
       paired = λ e. e;
     }
 
-    pub stops_mistake : Says line mistake → Stops scale number line names patterns (BadLine number)
+    pub stops_mistake : Says line mistake → LineStops scale number line names patterns (BadLine number)
     unfolding IsOutcomeFrom
     stops_mistake says = record {
       why = inr (λ lines. (mistake, says, refl));
@@ -152,11 +152,11 @@ module _ (scale number : ℕ) (line : List ℕ) (names : List (List ℕ)) (patte
     }
 
     pub stops_memory : (fault : WatchFault) → fault ≡ Memory
-        → Stops scale number line names patterns fault
+        → LineStops scale number line names patterns fault
     stops_memory fault e = record { why = inl e; never_memory = rw e tt }
 
     module _ (name text : List ℕ) (says : Says line (check name text)) where
-      pub stops_many : NAMES_MAX ≤ length names → Stops scale number line names patterns
+      pub stops_many : NAMES_MAX ≤ length names → LineStops scale number line names patterns
           (TooMany number)
       unfolding IsOutcomeFrom
       stops_many many = record {
@@ -169,7 +169,7 @@ module _ (scale number : ℕ) (line : List ℕ) (names : List (List ℕ)) (patte
       }
 
       pub stops_twice : length names < NAMES_MAX → is_some (place_of names name) ≡ true
-          → Stops scale number line names patterns (Twice number)
+          → LineStops scale number line names patterns (Twice number)
       unfolding IsOutcomeFrom
       stops_twice few there = record {
         why = inr (λ lines. (
@@ -183,7 +183,7 @@ module _ (scale number : ℕ) (line : List ℕ) (names : List (List ℕ)) (patte
 
       pub stops_text : length names < NAMES_MAX → is_some (place_of names name) ≡ false
           → (fault : ParseFault) → ParsesTo scale text (refused fault) → fault ≢ ParseMemory
-          → Stops scale number line names patterns (Pattern number fault)
+          → LineStops scale number line names patterns (Pattern number fault)
       unfolding IsOutcomeFrom
       stops_text few none fault parses other = record {
         why = inr (λ lines. (
@@ -198,7 +198,7 @@ module _ (scale number : ℕ) (line : List ℕ) (names : List (List ℕ)) (patte
 
       pub leads_check : length names < NAMES_MAX → is_some (place_of names name) ≡ false
           → (pattern : SpeltPattern) → ParsesTo scale text (spelt pattern.tree pattern.names)
-          → Leads scale number line names patterns (names ++ name ∷ []) (patterns ++ pattern ∷ [])
+          → LineLeads scale number line names patterns (names ++ name ∷ []) (patterns ++ pattern ∷ [])
       unfolding IsOutcomeFrom
       leads_check few none pattern parses = record {
         on = λ lines outcome rest. (
@@ -253,7 +253,7 @@ module _ (scale : ℕ) (bytes : List ℕ) (names : List (List ℕ)) (patterns : 
   pub Reaches-next : (end : ℕ) → NoneBefore (Passes (is_byte 10) rest) 0 (length rest) end
       → Passes (is_byte 10) rest end → (new_names : List (List ℕ))
       (new_patterns : List SpeltPattern)
-      → Leads scale number (take end rest) names patterns new_names new_patterns
+      → LineLeads scale number (take end rest) names patterns new_names new_patterns
       → Reaches scale bytes new_names new_patterns (number + 1) (drop (end + 1) rest)
   Reaches-next end before at new_names new_patterns leads = record {
     on = λ outcome h. reaches.on outcome
@@ -265,7 +265,7 @@ module _ (scale : ℕ) (bytes : List ℕ) (names : List (List ℕ)) (patterns : 
 
   pub Reaches-stop : (end : ℕ) → NoneBefore (Passes (is_byte 10) rest) 0 (length rest) end
       → Passes (is_byte 10) rest end → (fault : WatchFault)
-      → Stops scale number (take end rest) names patterns fault
+      → LineStops scale number (take end rest) names patterns fault
       → (fault ≡ Memory)
       ⊎ IsOutcomeFrom scale [] [] 1 (slice_split is_newline bytes) (faulty fault)
   Reaches-stop end before at fault stops =
@@ -278,7 +278,7 @@ module _ (scale : ℕ) (bytes : List ℕ) (names : List (List ℕ)) (patterns : 
       stops.why
 
   pub Reaches-last_stop : Nowhere (Passes (is_byte 10) rest) 0 (length rest)
-      → (fault : WatchFault) → Stops scale number rest names patterns fault
+      → (fault : WatchFault) → LineStops scale number rest names patterns fault
       → (fault ≡ Memory)
       ⊎ IsOutcomeFrom scale [] [] 1 (slice_split is_newline bytes) (faulty fault)
   Reaches-last_stop none fault stops =
@@ -291,7 +291,7 @@ module _ (scale : ℕ) (bytes : List ℕ) (names : List (List ℕ)) (patterns : 
 
   pub Reaches-end : Nowhere (Passes (is_byte 10) rest) 0 (length rest)
       → (new_names : List (List ℕ)) (new_patterns : List SpeltPattern)
-      → Leads scale number rest names patterns new_names new_patterns
+      → LineLeads scale number rest names patterns new_names new_patterns
       → IsOutcomeFrom scale [] [] 1 (slice_split is_newline bytes) (ended new_names new_patterns)
   unfolding IsOutcomeFrom
   Reaches-end none new_names new_patterns leads =
@@ -324,8 +324,8 @@ not_large bytes small = grind (arith, nat_tests)
 
 pub answers_file : (scale : ℕ) (bytes : List ℕ) → length bytes ≤ FILE_MAX
     → (answer : Result Plan WatchFault)
-    → Answers (IsOutcomeFrom scale [] [] 1 (slice_split is_newline bytes)) answer
-    → Answers (IsOutcome scale bytes) answer
+    → AnswersPlan (IsOutcomeFrom scale [] [] 1 (slice_split is_newline bytes)) answer
+    → AnswersPlan (IsOutcome scale bytes) answer
 answers_file scale bytes small (Ok plan) is =
     small_file scale (nat_lt FILE_MAX (length bytes)) bytes _ (not_large bytes small) is
 answers_file scale bytes small (Err fault) is =
@@ -339,8 +339,8 @@ at_most t most count e is =
     ⊎_elim (λ lt. let told = is.1 lt in absurd (cc)) (λ le. le) (cases_lt most count)
 
 pub answers_only : (scale : ℕ) (bytes : List ℕ) (answer : Result Plan WatchFault)
-    → Answers (IsOutcome scale bytes) answer → (outcome : Outcome) → IsOutcome scale bytes outcome
-    → Answers (λ other. outcome ≡ other) answer
+    → AnswersPlan (IsOutcome scale bytes) answer → (outcome : Outcome) → IsOutcome scale bytes outcome
+    → AnswersPlan (λ other. outcome ≡ other) answer
 answers_only scale bytes (Ok plan) is outcome other = one_outcome scale bytes outcome _ other is
 answers_only scale bytes (Err fault) is outcome other =
     ⊎_elim (λ e. inl e) (λ h. inr (one_outcome scale bytes outcome (faulty fault) other h)) is

@@ -8,17 +8,17 @@ use Rattle.tre_watch.specs.declared.line.Line.{Line}
 use Rattle.tre_watch.specs.declared.line.Line.TheVariants.{Silent, Bad, Check}
 
 -- A space or a tab.
-abbrev pub is_blank : ℕ → Bool
-is_blank byte = byte == 32 || byte == 9
+abbrev pub is_space_or_tab : ℕ → Bool
+is_space_or_tab byte = byte == 32 || byte == 9
 
 -- What stands behind the first bytes that pass.
-abbrev pub behind : (ℕ → Bool) → List ℕ → List ℕ
-behind passes bytes = drop (prefix_len passes bytes) bytes
+abbrev pub behind_passed : (ℕ → Bool) → List ℕ → List ℕ
+behind_passed passes bytes = drop (prefix_len passes bytes) bytes
 
 -- What stands on a line, from its first byte on that is no blank, and without the one carriage
 -- return (the byte 13) at its end, where there is one.
 abbrev pub content_of : List ℕ → List ℕ
-content_of line = behind is_blank (strip_carriage_return line)
+content_of line = behind_passed is_space_or_tab (strip_carriage_return line)
 
 -- Nothing stands there, or a comment: `#` (the byte 35), and any bytes.
 abbrev pub is_silent : List ℕ → Bool
@@ -31,7 +31,7 @@ pub record IsCheck (content name text : List ℕ) : Type 0 where
   pub is_name : IsName name
   pub ascii : IsAscii content
   pub blanks : List ℕ
-  pub blank : list_all is_blank blanks ≡ true
+  pub blank : list_all is_space_or_tab blanks ≡ true
   pub is : content ≡ name ++ (blanks ++ 61 ∷ text)
 
 -- What a line says: nothing, a check of this name with this text, or nothing that it may say.

@@ -17,13 +17,13 @@ abbrev pub spelt_in : List Pattern → List SpeltPattern
 spelt_in patterns = map spelt_of patterns
 
 -- The answer is an outcome of which this is so, or want of memory.
-abbrev pub Answers : (Outcome → Type 0) → Result Plan WatchFault → Type 0
-Answers IsIt (Ok plan) = IsIt (planned plan.names (spelt_in plan.patterns.items))
-Answers IsIt (Err fault) = (fault ≡ Memory) ⊎ IsIt (faulty fault)
+abbrev pub AnswersPlan : (Outcome → Type 0) → Result Plan WatchFault → Type 0
+AnswersPlan IsIt (Ok plan) = IsIt (planned plan.names (spelt_in plan.patterns.items))
+AnswersPlan IsIt (Err fault) = (fault ≡ Memory) ⊎ IsIt (faulty fault)
 
 -- The line leads from some checks to others: what becomes of the lines behind it with those becomes
 -- of it and them with these.
-pub record Leads (scale number : ℕ) (line : List ℕ) (names : List (List ℕ))
+pub record LineLeads (scale number : ℕ) (line : List ℕ) (names : List (List ℕ))
     (patterns : List SpeltPattern) (new_names : List (List ℕ)) (new_patterns : List SpeltPattern)
     : Type 0 where
   pub on : (lines : List (List ℕ)) (outcome : Outcome)
@@ -41,7 +41,7 @@ abbrev pub IsNoWantOfMemory : WatchFault → Type 0
 IsNoWantOfMemory fault = (fault ≢ Memory) × NeverMemoryInside fault
 
 -- The line has this fault, or there was no memory.
-pub record Stops (scale number : ℕ) (line : List ℕ) (names : List (List ℕ))
+pub record LineStops (scale number : ℕ) (line : List ℕ) (names : List (List ℕ))
     (patterns : List SpeltPattern) (fault : WatchFault) : Type 0 where
   pub why : (fault ≡ Memory) ⊎ ((lines : List (List ℕ))
       → IsOutcomeFrom scale names patterns number (line ∷ lines) (faulty fault))

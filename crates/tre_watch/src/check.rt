@@ -5,7 +5,7 @@ ghost use Rattle.tre_state.specs.Name.{IsName};
 ghost use Rattle.tre_state.specs.Names.{place_of};
 ghost use Rattle.tre_watch.specs.declared.fault.WatchFault.{WatchFault};
 ghost use Rattle.tre_watch.specs.Lines.{Says, check};
-ghost use Rattle.tre_watch.specs.Steps.{spelt_in, Leads, Stops, FindsPattern, IsFaultAt};
+ghost use Rattle.tre_watch.specs.Steps.{spelt_in, LineLeads, LineStops, FindsPattern, IsFaultAt};
 
 use crate::fault::WatchFault;
 use crate::line::{Line, read_line};
@@ -25,9 +25,9 @@ pub(crate) fn add_line(
 ) -> Result<(), WatchFault>
     requires { scale ≤ SCALE_MAX }
     ensures { MatchResult result
-        (λ _. Leads scale number line.now names.old (spelt_in patterns.old.items) names.new
+        (λ _. LineLeads scale number line.now names.old (spelt_in patterns.old.items) names.new
         (spelt_in patterns.new.items))
-        (λ fault. Stops scale number line.now names.old (spelt_in patterns.old.items) fault) }
+        (λ fault. LineStops scale number line.now names.old (spelt_in patterns.old.items) fault) }
 {
     match read_line(line) {
         Line::Silent => Ok(()),
@@ -49,9 +49,9 @@ fn add_check(
     requires scale { scale ≤ SCALE_MAX }
     requires is_name { IsName name.now }
     ensures { (line : List ℕ) → Says line (check name.now text.now) → MatchResult result
-        (λ _. Leads scale number line names.old (spelt_in patterns.old.items) names.new
+        (λ _. LineLeads scale number line names.old (spelt_in patterns.old.items) names.new
         (spelt_in patterns.new.items))
-        (λ fault. Stops scale number line names.old (spelt_in patterns.old.items) fault) }
+        (λ fault. LineStops scale number line names.old (spelt_in patterns.old.items) fault) }
 {
     if names.len() >= NAMES_MAX {
         return Err(WatchFault::TooMany { line: number });

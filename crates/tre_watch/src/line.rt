@@ -4,7 +4,7 @@ ghost use Rattle.std.specs.List.{prefix_len};
 ghost use Rattle.std.specs.Str.{IsAscii};
 ghost use Rattle.std.specs.Str.Lines.{strip_carriage_return};
 ghost use Rattle.tre_state.specs.Name.{continues_name};
-ghost use Rattle.tre_watch.specs.Lines.{is_blank, behind, is_silent, IsCheck, Says, said_on};
+ghost use Rattle.tre_watch.specs.Lines.{is_space_or_tab, behind_passed, is_silent, IsCheck, Says, said_on};
 
 use std::str;
 use tre_state::{continues_name, front_len, is_name};
@@ -43,23 +43,23 @@ fn without_return(line: &[u8]) -> &[u8]
 }
 
 fn is_blank(byte: u8) -> bool
-    ensures { result ≡ is_blank byte }
+    ensures { result ≡ is_space_or_tab byte }
 {
     byte == b' ' || byte == b'\t'
 }
 
 fn behind_blanks(bytes: &[u8]) -> &[u8]
-    ensures { result.now ≡ behind is_blank bytes.now }
+    ensures { result.now ≡ behind_passed is_space_or_tab bytes.now }
 {
     &bytes[blanks_len(bytes)..]
 }
 
 // How many blanks the bytes begin with.
 fn blanks_len(bytes: &[u8]) -> usize
-    ensures len { result ≡ prefix_len is_blank bytes.now }
+    ensures len { result ≡ prefix_len is_space_or_tab bytes.now }
     ensures within { result ≤ length bytes.now }
 {
-    front_len(bytes, is_blank)
+    front_len(bytes, is_space_or_tab)
 }
 
 // How many bytes of a name they begin with.
@@ -108,7 +108,7 @@ fn name_before(bytes: &[u8]) -> &[u8]
 }
 
 fn behind_name(bytes: &[u8]) -> &[u8]
-    ensures { result.now ≡ behind continues_name bytes.now }
+    ensures { result.now ≡ behind_passed continues_name bytes.now }
 {
     &bytes[name_len(bytes)..]
 }

@@ -3,7 +3,7 @@ ghost use Rattle.std.specs.Char.{is_newline};
 ghost use Rattle.std.specs.List.{slice_split};
 ghost use Rattle.tre_decimal.specs.declared.TheConstants.{SCALE_MAX};
 ghost use Rattle.tre_watch.specs.Outcome.{Outcome, IsOutcome, IsOutcomeFrom};
-ghost use Rattle.tre_watch.specs.Steps.{Answers, NeverMemoryInside};
+ghost use Rattle.tre_watch.specs.Steps.{AnswersPlan, NeverMemoryInside};
 
 use crate::check::add_line;
 use crate::fault::WatchFault;
@@ -20,9 +20,9 @@ pub const FILE_MAX: usize = 1_048_576;
 /// The first 1,048,577 bytes of a file are enough to be given, since more make no other answer.
 pub fn read_plan(alloc: Global, bytes: &[u8], scale: u8) -> Result<Plan, WatchFault>
     requires { scale ≤ SCALE_MAX }
-    ensures outcome { Answers (IsOutcome scale bytes.now) result }
+    ensures outcome { AnswersPlan (IsOutcome scale bytes.now) result }
     ensures only { (outcome : Outcome) → IsOutcome scale bytes.now outcome →
-        Answers (λ answer. outcome ≡ answer) result }
+        AnswersPlan (λ answer. outcome ≡ answer) result }
     ensures never_memory { IfErr result NeverMemoryInside }
 {
     if is_too_large(bytes) {
@@ -42,7 +42,7 @@ fn is_too_large(bytes: &[u8]) -> bool
 fn read_lines(alloc: Global, bytes: &[u8], scale: u8) -> Result<Plan, WatchFault>
     requires small { length bytes.now ≤ FILE_MAX }
     requires scale { scale ≤ SCALE_MAX }
-    ensures outcome { Answers
+    ensures outcome { AnswersPlan
         (IsOutcomeFrom scale [] [] 1 (slice_split is_newline bytes.now)) result }
     ensures never_memory { IfErr result NeverMemoryInside }
 {

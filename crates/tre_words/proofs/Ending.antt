@@ -17,7 +17,7 @@ use Rattle.clap.specs.declared.builder.value_parser.Reading.{Reading}
 use Rattle.clap.specs.declared.parser.matches.ValueSource.TheVariants.{DefaultValue}
 use Rattle.clap.proofs.OnLiterals.{clap_on_literals}
 use Rattle.tre_words.specs.CommandLine.{command_line}
-use Rattle.tre_words.specs.Settings.{Setting, name_of, value_of, value_in, default_of, Types}
+use Rattle.tre_words.specs.Settings.{Setting, name_of_setting, value_of, value_in, default_of, Types}
 use Rattle.tre_words.proofs.Settings.{held, state, shape, rules, names, at_none}
 use Rattle.tre_words.proofs.Typing.{row_of, text_row, found_rows, whole, setting_not}
 
@@ -79,7 +79,7 @@ values_found : (settings : List Setting) (rows : List Row) (name : Text)
     ≡ option_or (value_in name settings) (first_of name rows)
 values_found [] rows name = refl
 values_found (setting ∷ settings) rows name =
-    go (bytes_eq (name_of setting) name) (values_found settings rows name)
+    go (bytes_eq (name_of_setting setting) name) (values_found settings rows name)
   where
     go : (b : Bool) → first_of name (map row_of settings ++ rows)
         ≡ option_or (value_in name settings) (first_of name rows)
@@ -94,7 +94,7 @@ value_in-append : (before after : List Setting) (name : Text)
     → value_in name (before ++ after) ≡ option_or (value_in name before) (value_in name after)
 value_in-append [] after name = refl
 value_in-append (setting ∷ before) after name =
-    go (bytes_eq (name_of setting) name) (value_in-append before after name)
+    go (bytes_eq (name_of_setting setting) name) (value_in-append before after name)
   where
     go : (b : Bool)
         → value_in name (before ++ after) ≡ option_or (value_in name before) (value_in name after)

@@ -12,7 +12,7 @@ use Rattle.clap.specs.Kinds.{Kinds, or_else}
 use Rattle.clap.specs.Walk.{Row, Rule, Text, Walk, has_row, idle, reading_by, settled, settled_rows, is_pending, used, walked, pushed}
 use Rattle.clap.proofs.OnLiterals.{clap_on_literals}
 use Rattle.tre_words.specs.CommandLine.{command_line}
-use Rattle.tre_words.specs.Settings.{Flag, Valued, Setting, flag, joined, apart, flag_name, valued_name, name_of, value_of, words_of, value_in, AreTyped, IsPlain, IsTyped, Types}
+use Rattle.tre_words.specs.Settings.{Flag, Valued, Setting, flag, joined, apart, flag_name, valued_name, name_of_setting, value_of, words_of_setting, value_in, AreTyped, IsPlain, IsTyped, Types}
 use Rattle.tre_words.specs.Settings.{online_flag, show_flag, normal_flag}
 use Rattle.tre_words.specs.Settings.{format_option, input_option, limit_option, scale_option, zones_option, minus_option, let_option, define_option}
 use Rattle.tre_words.proofs.Settings.{Pending, held, state, shape, rules, names, flag_rule, valued_rule, text_rule, new_row, flag_adds, valued_adds, text_adds, valued_faultless, text_faultless, flag_walks, joined_walks, apart_walks, value_walks, flag_turns, joined_turns, apart_turns, value_turns, no_hyphen}
@@ -23,7 +23,7 @@ rule_of (joined name value) = valued_rule name
 rule_of (apart name value) = valued_rule name
 
 abbrev pub row_of : Setting → Row
-row_of setting = new_row (name_of setting) (reading_by (rule_of setting)) (value_of setting)
+row_of setting = new_row (name_of_setting setting) (reading_by (rule_of setting)) (value_of setting)
 
 abbrev pub text_row : Text → Row
 text_row text = new_row (codes "EXPR") (reading_by text_rule) text
@@ -76,8 +76,8 @@ valued_clean define_option value rows none = valued_faultless define_option valu
 
 one : (setting : Setting) (rows : List Row) (pending : Pending) (from : ℕ) (found : List Row)
     → settled_rows rules pending rows ≡ found → settle_fault rules false (held rows pending) ≡ []
-    → IsTyped setting → has_row (name_of setting) found ≡ false
-    → Walks (words_of setting) rows pending from (found ++ row_of setting ∷ []) from
+    → IsTyped setting → has_row (name_of_setting setting) found ≡ false
+    → Walks (words_of_setting setting) rows pending from (found ++ row_of setting ∷ []) from
 one (flag name) rows pending from found settles clean typed none =
     let fresh : has_row (flag_name name) (settled_rows rules pending rows) ≡ false =
     subst (λ (more : List Row). has_row (flag_name name) more ≡ false) (sym settles) none in
@@ -240,7 +240,7 @@ then words more rows pending from middle at found to first second = record {
 -- none of the settings has a row
 abbrev Fresh : List Row → List Setting → Type 0
 Fresh found [] = Unit {0}
-Fresh found (setting ∷ settings) = (has_row (name_of setting) found ≡ false) × Fresh found settings
+Fresh found (setting ∷ settings) = (has_row (name_of_setting setting) found ≡ false) × Fresh found settings
 
 fresh_first : (settings : List Setting) → Fresh [] settings
 fresh_first [] = tt
@@ -267,10 +267,10 @@ fresh_more : (found : List Row) (row : Row) (settings : List Setting) → Fresh 
     → value_in row.id settings ≡ None → Fresh (found ++ row ∷ []) settings
 fresh_more found row [] fresh none = tt
 fresh_more found row (setting ∷ settings) fresh none =
-    let here = absent (bytes_eq (name_of setting) row.id) (value_of setting)
+    let here = absent (bytes_eq (name_of_setting setting) row.id) (value_of setting)
     (value_in row.id settings) none in (
-      list_any-append (λ (other : Row). bytes_eq other.id (name_of setting)) found (row ∷ [])
-          ∙ or_none _ _ fresh.0 (flipped (name_of setting) row.id here.0),
+      list_any-append (λ (other : Row). bytes_eq other.id (name_of_setting setting)) found (row ∷ [])
+          ∙ or_none _ _ fresh.0 (flipped (name_of_setting setting) row.id here.0),
       fresh_more found row settings fresh.1 here.1,
     )
 
@@ -293,7 +293,7 @@ left_after (setting ∷ settings) more found left =
 all : (settings more : List Setting) (rows : List Row) (pending : Pending) (from : ℕ)
     (found : List Row) → settled_rows rules pending rows ≡ found
     → settle_fault rules false (held rows pending) ≡ [] → AreLeft found (settings ++ more)
-    → Walks (flat_map words_of settings) rows pending from (found ++ map row_of settings) from
+    → Walks (flat_map words_of_setting settings) rows pending from (found ++ map row_of settings) from
 all [] more rows pending from found settles clean left = record {
   now = rows;
   left = pending;
@@ -309,9 +309,9 @@ all (setting ∷ settings) more rows pending from found settles clean left =
       fresh = fresh_more found (row_of setting) (settings ++ more) left.fresh.1 left.typed.1;
       typed = left.typed.2;
     }) in
-    subst (λ (more : List Row). Walks (words_of setting ++ flat_map words_of settings) rows pending
+    subst (λ (more : List Row). Walks (words_of_setting setting ++ flat_map words_of_setting settings) rows pending
     from more from) (append_assoc found (row_of setting ∷ []) (map row_of settings))
-    (then (words_of setting) (flat_map words_of settings) rows pending from _ from _ from first
+    (then (words_of_setting setting) (flat_map words_of_setting settings) rows pending from _ from _ from first
     second)
 
 flag_not : (name : Flag) → bytes_eq (flag_name name) (codes "EXPR") ≡ false
@@ -329,7 +329,7 @@ valued_not minus_option = refl
 valued_not let_option = refl
 valued_not define_option = refl
 
-pub setting_not : (setting : Setting) → bytes_eq (name_of setting) (codes "EXPR") ≡ false
+pub setting_not : (setting : Setting) → bytes_eq (name_of_setting setting) (codes "EXPR") ≡ false
 setting_not (flag name) = flag_not name
 setting_not (joined name value) = valued_not name
 setting_not (apart name value) = valued_not name
@@ -369,7 +369,7 @@ whole before after text words types =
     subst (λ (all : List Text). Walks all [] None 1 (found_rows before text after) 2)
     (sym types.are)
     (subst (λ (found : List Row). Walks
-    (flat_map words_of before ++ (text ∷ [] ++ flat_map words_of after)) [] None 1 found 2)
+    (flat_map words_of_setting before ++ (text ∷ [] ++ flat_map words_of_setting after)) [] None 1 found 2)
     (append_assoc (map row_of before) (text_row text ∷ []) (map row_of after))
-    (then (flat_map words_of before) (text ∷ [] ++ flat_map words_of after) [] None 1 _ 1 _ 2 first
-    (then (text ∷ []) (flat_map words_of after) first.now first.left 1 _ 2 _ 2 second third)))
+    (then (flat_map words_of_setting before) (text ∷ [] ++ flat_map words_of_setting after) [] None 1 _ 1 _ 2 first
+    (then (text ∷ []) (flat_map words_of_setting after) first.now first.left 1 _ 2 _ 2 second third)))

@@ -43,15 +43,15 @@ pub data Setting : Type 0 where
   joined : Valued → Text → Setting
   apart : Valued → Text → Setting
 
-abbrev pub words_of : Setting → List Text
-words_of (flag name) = (codes "--" ++ flag_name name) ∷ []
-words_of (joined name value) = (codes "--" ++ valued_name name ++ codes "=" ++ value) ∷ []
-words_of (apart name value) = (codes "--" ++ valued_name name) ∷ value ∷ []
+abbrev pub words_of_setting : Setting → List Text
+words_of_setting (flag name) = (codes "--" ++ flag_name name) ∷ []
+words_of_setting (joined name value) = (codes "--" ++ valued_name name ++ codes "=" ++ value) ∷ []
+words_of_setting (apart name value) = (codes "--" ++ valued_name name) ∷ value ∷ []
 
-abbrev pub name_of : Setting → Text
-name_of (flag name) = flag_name name
-name_of (joined name value) = valued_name name
-name_of (apart name value) = valued_name name
+abbrev pub name_of_setting : Setting → Text
+name_of_setting (flag name) = flag_name name
+name_of_setting (joined name value) = valued_name name
+name_of_setting (apart name value) = valued_name name
 
 -- what it says; a flag says `true`
 abbrev pub value_of : Setting → Text
@@ -63,7 +63,8 @@ value_of (apart name value) = value
 abbrev pub value_in : Text → List Setting → Option Text
 value_in name [] = None
 value_in name (setting ∷ settings) =
-    if bytes_eq (name_of setting) name then Some (value_of setting) else value_in name settings
+    if bytes_eq (name_of_setting setting) name then Some (value_of setting) else value_in name
+    settings
 
 -- It doesn't begin with `-`, or is just that.
 abbrev pub IsPlain : Text → Type 0
@@ -79,13 +80,13 @@ IsTyped (apart name value) = IsPlain value
 abbrev pub AreTyped : List Setting → Type 0
 AreTyped [] = Unit {0}
 AreTyped (setting ∷ settings) =
-    IsTyped setting × (value_in (name_of setting) settings ≡ None) × AreTyped settings
+    IsTyped setting × (value_in (name_of_setting setting) settings ≡ None) × AreTyped settings
 
 -- The words are the settings, with the text among them.
 pub record Types (before after : List Setting) (text : Text) (words : List Text) : Type 0 where
   pub typed : AreTyped (before ++ after)
   pub plain : IsPlain text
-  pub are : words ≡ flat_map words_of before ++ text ∷ flat_map words_of after
+  pub are : words ≡ flat_map words_of_setting before ++ text ∷ flat_map words_of_setting after
 
 -- What an option says that isn't typed: no flag is given, and some options have a value.
 abbrev pub default_of : Text → Option Text

@@ -4,7 +4,7 @@ use Rattle.std.proofs.lemmas.List.{take_rest}
 use Rattle.std.proofs.lemmas.Option.{none-some}
 use Rattle.tre_state.specs.Name.{continues_name, IsName}
 use Rattle.tre_define.specs.Pieces.{behind_equals, behind_piece, past_spaces}
-use Rattle.tre_define.specs.Signals.{IsRead, Spells, signal_len}
+use Rattle.tre_define.specs.Signals.{IsReadBehind, Spells, signal_len}
 use Rattle.tre_define.proofs.Cutting.{equals-is}
 use Rattle.tre_define.proofs.SignalParts.{parts-are, signal-text}
 use Rattle.tre_define.proofs.SomeSignals.{cut-spells, no-reads, no-signal}
@@ -66,7 +66,7 @@ returns-in_err-reads-clause-none c =
     ∙ ap (λ n. drop n c.skip_spaces-rest.result.now) len
     ∙ ap (drop (signal_len rest)) c.skip_spaces-rest.ensures in
     c.in_err-reads.ensures.none defined.reads
-    (subst (λ xs. IsRead defined.reads xs) (sym behind) (no-reads text after defined is found)))
+    (subst (λ xs. IsReadBehind defined.reads xs) (sym behind) (no-reads text after defined is found)))
 
 pub returns-clause-some : goal.returns-clause-some
 returns-clause-some c =
@@ -86,7 +86,7 @@ returns-clause-some c =
     let named = c.in_ok-name.ensures.some in
     let some : 0 < signal_len rest = omega (arith, len, c.if-len-eq0.false) in
     let spelt = cut-spells text after reads found some
-    (subst (λ xs. IsRead reads xs) behind c.in_ok-reads.ensures.some)
+    (subst (λ xs. IsReadBehind reads xs) behind c.in_ok-reads.ensures.some)
     (subst IsName c.next_word.ensures.run named.1) in
     let name_is = named.0 ∙ c.next_word.ensures.run in
     let signal_is = c.in-Ok.ensures.cases.0 ∙ cut in

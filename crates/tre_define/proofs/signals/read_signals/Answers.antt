@@ -5,7 +5,7 @@ use Rattle.std.specs.Option.{option_map}
 use Rattle.std.specs.Str.{IsUtf8}
 use Rattle.std.proofs.lemmas.Result.{err_from_is_err_and}
 use Rattle.tre_define.specs.Pieces.{parts_behind, past_spaces}
-use Rattle.tre_define.specs.Signals.{AreRefused, DefineSignals, Spells, name_of}
+use Rattle.tre_define.specs.Signals.{AreRefused, DefineSignals, Spells, name_of_signal}
 use Rattle.tre_define.specs.Texts.{is_semicolon}
 use Rattle.tre_define.proofs.Defining.{HasDefined, all-defined, begins, no_parts, one-more, refused, some_parts}
 use Rattle.tre_define.proofs.signals.read_signals.Goals as goal
@@ -28,7 +28,7 @@ returns-in_err-add-clause-refused c =
     let part = c.first_part.result.0.now in
     let others = parts_behind (option_map (λ rest. rest.now) c.first_part.result.1) in
     let all = slice_split is_semicolon text in
-    let has = subst (λ parts. HasDefined Spells name_of all definitions parts) c.first_part.ensures.parts
+    let has = subst (λ parts. HasDefined Spells name_of_signal all definitions parts) c.first_part.ensures.parts
     c.loop-definitions.invariant.has in
     let past = c.skip_spaces.ensures ∙ ap past_spaces c.as_bytes-rest.ensures.value in
     let some : (length (past_spaces text) == 0) ≡ false =
@@ -51,11 +51,11 @@ loop-definitions-preserved c =
     let step : slice_split is_semicolon bytes ≡ part ∷ others =
     c.first_part.ensures.parts
     ∙ ap (λ rest. part ∷ parts_behind (option_map (λ found. found.now) rest)) c.in-Some.is in
-    let has = subst (λ parts. HasDefined Spells name_of all definitions parts) step c.loop-definitions.invariant.has
+    let has = subst (λ parts. HasDefined Spells name_of_signal all definitions parts) step c.loop-definitions.invariant.has
     in
     let added = c.in_ok-add.ensures.added in
     record {
-      has = subst (λ items. HasDefined Spells name_of all items others) (sym added.1)
+      has = subst (λ items. HasDefined Spells name_of_signal all items others) (sym added.1)
           (one-more all others definitions part added.0 has added.2 added.3);
       text = subst (λ rest. IfSome rest (λ found. IsUtf8 found.now)) c.in-Some.is
           (c.first_part.ensures.rest_text c.loop-definitions.invariant.text);
@@ -71,7 +71,7 @@ returns-in-None-clause-definitions c =
     let step : slice_split is_semicolon bytes ≡ part ∷ [] =
     c.first_part.ensures.parts
     ∙ ap (λ rest. part ∷ parts_behind (option_map (λ found. found.now) rest)) c.in-None.is in
-    let has = subst (λ parts. HasDefined Spells name_of all definitions parts) step c.loop-definitions.invariant.has
+    let has = subst (λ parts. HasDefined Spells name_of_signal all definitions parts) step c.loop-definitions.invariant.has
     in
     let added = c.in_ok-add.ensures.added in
     let past = c.skip_spaces.ensures ∙ ap past_spaces c.as_bytes-rest.ensures.value in
@@ -79,7 +79,7 @@ returns-in-None-clause-definitions c =
     ap (λ bytes. length bytes == 0) (sym past) ∙ sym c.is_empty.ensures ∙ c.if-is_empty.false in
     subst (λ parts. DefineSignals parts c.add.new.definitions.items) (sym (some_parts text some))
     (all-defined all c.add.new.definitions.items
-    (subst (λ items. HasDefined Spells name_of all items []) (sym added.1)
+    (subst (λ items. HasDefined Spells name_of_signal all items []) (sym added.1)
     (one-more all [] definitions part added.0 has added.2 added.3)))
 
 pub add-requires : goal.add-requires

@@ -4,7 +4,7 @@ use Rattle.tre_syntax.specs.Expr.{tree_of}
 use Rattle.tre_edges.specs.Piece.{end_of_piece}
 use Rattle.tre_mark.specs.Marked.{EndBetween}
 use Rattle.tre_residual.specs.Residual.{residual_tree}
-use Rattle.tre_derive.specs.Derivative.{Begins}
+use Rattle.tre_derive.specs.Derivative.{BeginsBehindPairs}
 use Rattle.tre_derive.proofs.StepsOfForms.{step_followed}
 use Rattle.tre_derive.proofs.forms.follow.Goals as goal
 
@@ -24,6 +24,6 @@ returns c residual steps =
     (residual_tree begun.rest) (residual_tree c.in_ok-rest.rest) c.requires.numbers
     c.requires.ends
     (subst (λ (list : List ZoneBounds).
-    Begins tree list piece begun.told (residual_tree begun.rest)) c.zones.ensures.same
+    BeginsBehindPairs tree list piece begun.told (residual_tree begun.rest)) c.zones.ensures.same
     c.in_ok-begun.ensures)
     c.in_ok-rest.ensures

@@ -1,5 +1,5 @@
 use Rattle.std.proofs.Common.{[], sym}
-use Rattle.tre_feed.specs.Seen.{row_of}
+use Rattle.tre_feed.specs.Seen.{fed_row}
 use Rattle.tre_feed.proofs.Seeing.{at_mapped}
 use Rattle.tre_feed.proofs.seen.copy_row.Goals as goal
 
@@ -9,4 +9,4 @@ returns g c =
       c.in_ok-extend_from_slice.ensures.items,
       c.new-row.ensures.items,
       c.deref.ensures.value,
-    ) (sym (at_mapped row_of c.args.each.now c.args.group c.index-each-group.result [] c.requires))
+    ) (sym (at_mapped fed_row c.args.each.now c.args.group c.index-each-group.result [] c.requires))

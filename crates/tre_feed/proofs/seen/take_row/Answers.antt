@@ -2,7 +2,7 @@ use Rattle.std.proofs.Common.{◌≡◌, ◌∙◌, List, [], get_or, map, set, 
 use Rattle.std.proofs.Math.Seq.{map-set_same}
 use Rattle.std.proofs.lemmas.List.{map-set}
 use Rattle.tre_trace.specs.declared.segment.Segment.{Segment}
-use Rattle.tre_feed.specs.Seen.{last_of, row_of}
+use Rattle.tre_feed.specs.Seen.{last_events_of, fed_row}
 use Rattle.tre_feed.specs.declared.each.Fed.{Fed}
 use Rattle.tre_feed.proofs.seen.take_row.Goals as goal
 
@@ -15,10 +15,10 @@ returns-clause-rows g c =
       last = fed.last;
       fault = fed.fault;
     } in
-    let none : row_of emptied ≡ [] =
+    let none : fed_row emptied ≡ [] =
     ap (λ segments. segments.items) c.replace.ensures.after ∙ c.new.ensures.items in
-    map-set row_of c.args.each.now c.args.group emptied
-    ∙ ap (λ (row : List Segment). set (map row_of c.args.each.now) c.args.group row) none
+    map-set fed_row c.args.each.now c.args.group emptied
+    ∙ ap (λ (row : List Segment). set (map fed_row c.args.each.now) c.args.group row) none
 
 pub returns-clause-lasts : goal.returns-clause-lasts
 returns-clause-lasts g c =
@@ -29,5 +29,5 @@ returns-clause-lasts g c =
       last = fed.last;
       fault = fed.fault;
     } in
-    map-set_same last_of c.args.each.now c.args.group emptied
+    map-set_same last_events_of c.args.each.now c.args.group emptied
     c.index-each-group.result refl

@@ -5,7 +5,7 @@ use Rattle.tre_syntax.specs.Pattern.{pattern_tree}
 use Rattle.tre_trace.specs.Trace.{quiet}
 use Rattle.tre_generate.specs.Made.{made_trace}
 use Rattle.tre_generate.specs.Tallies.{IsTally}
-use Rattle.tre_generate.specs.Told.{AreTold}
+use Rattle.tre_generate.specs.Told.{MatchesAreTold}
 use Rattle.tre_generate.proofs.MadeTraces.{made_trace-length}
 use Rattle.tre_generate.proofs.Summaries.{summary_is}
 use Rattle.tre_generate.proofs.made_run.summary.Goals as goal
@@ -24,7 +24,7 @@ returns c =
     let tally = c.count_probes-tally.result in
     let matched : IsMatchSet whole tree (quiet (made_trace count)) =
     rw c.in_ok-trace.ensures at c.in_ok-whole.ensures in
-    let are_told : AreTold tree (made_trace count) told =
+    let are_told : MatchesAreTold tree (made_trace count) told =
     rw c.in_ok-trace.ensures at c.in_ok-told.ensures in
     let counted : IsTally whole told (made_trace count) count tally =
     rw (c.in_ok-trace.ensures, made_trace-length count) at c.count_probes-tally.ensures in

@@ -3,8 +3,8 @@ use Rattle.tre_trace.specs.Trace.{end_of, IsTrace}
 use Rattle.tre_trace.specs.Segments.{plain_segment}
 use Rattle.tre_trace.specs.declared.segment.Segment.{Segment}
 use Rattle.tre_zone.specs.ZoneList.{SetHolds}
-use Rattle.tre_generate.specs.Probes.{IsInside, IsProbed}
-use Rattle.tre_generate.specs.Tallies.{AreAlike}
+use Rattle.tre_generate.specs.Probes.{ProbeIsInside, IsProbed}
+use Rattle.tre_generate.specs.Tallies.{AgreeOnPair}
 use Rattle.tre_generate.proofs.Counts.{count_le}
 use Rattle.tre_generate.proofs.Probing.{place_fits, place_next, tally_next}
 use Rattle.tre_generate.proofs.tally.count_probes.Goals as goal
@@ -56,9 +56,9 @@ with_probe-tally-requires c =
     ap (λ list. length list) c.segments-segment-items.ensures.segments in
     let few = c.requires in
     let below = c.loop-segment-test.true in
-    let probes = count_le (IsInside segments) place c.loop-segment.tally.probes tally.probes in
+    let probes = count_le (ProbeIsInside segments) place c.loop-segment.tally.probes tally.probes in
     let held = count_le (IsProbed whole segments) place c.loop-segment.tally.held tally.held in
-    let alike = count_le (IsProbed (AreAlike whole told) segments) place
+    let alike = count_le (IsProbed (AgreeOnPair whole told) segments) place
     c.loop-segment.tally.alike tally.alike in
     record {
       probes = omega (arith, size, few, below, probes);

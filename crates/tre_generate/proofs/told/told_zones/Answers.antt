@@ -6,7 +6,7 @@ use Rattle.tre_syntax.specs.PatternTree.{PatternTree}
 use Rattle.tre_trace.specs.Trace.{IsTrace}
 use Rattle.tre_trace.specs.Segments.{plain_segment}
 use Rattle.tre_trace.specs.declared.segment.Segment.{Segment}
-use Rattle.tre_generate.specs.Told.{AreTold}
+use Rattle.tre_generate.specs.Told.{MatchesAreTold}
 use Rattle.tre_generate.proofs.Refusals.{fits_within}
 use Rattle.tre_generate.proofs.Telling.{AreTold-none, AreTold-next, AreTold-set}
 use Rattle.tre_generate.proofs.told.told_zones.Goals as goal
@@ -55,7 +55,7 @@ loop-segment-preserved c =
       tree = c.in_ok-told.ensures.tree ∙ c.loop-segment.invariant.tree;
       told = rw (c.in_ok-extend_from_slice.ensures.items, c.zones.ensures.same)
           (subst (λ (list : List Segment).
-          AreTold tree list (c.loop-segment.zones.items ++ c.in_ok-told.told)) (sym more)
+          MatchesAreTold tree list (c.loop-segment.zones.items ++ c.in_ok-told.told)) (sym more)
           (AreTold-next tree c.loop-segment.zones.items segment (ended_of old) c.in_ok-told.told
           segments c.loop-segment.invariant.told tells));
     }
@@ -64,7 +64,7 @@ pub returns : goal.returns
 returns c =
     AreTold-set (pattern_tree c.args.pattern) c.args.trace.now.segments c.loop-segment.zones.items
     c.in_ok-told-2.told
-    (subst (λ (list : List Segment). AreTold (pattern_tree c.args.pattern) list
+    (subst (λ (list : List Segment). MatchesAreTold (pattern_tree c.args.pattern) list
     c.loop-segment.zones.items)
     (take_all c.loop-segment.segment-index c.segments-segment-items.result.now
     c.loop-segment-test.false ∙ c.segments-segment-items.ensures.segments)

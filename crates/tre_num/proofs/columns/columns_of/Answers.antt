@@ -2,7 +2,7 @@ use Rattle.std.proofs.Common.{rules, ◌≡◌, ◌<◌, true, Some, length, get
 use Rattle.std.specs.Result.{is_ok}
 use Rattle.std.proofs.lemmas.List.{length_push}
 use Rattle.csv.specs.Records.{fields_of}
-use Rattle.tre_num.specs.Rows.{column_for}
+use Rattle.tre_num.specs.Rows.{compared_column}
 use Rattle.tre_num.proofs.NameColumns.{one-more}
 use Rattle.tre_num.proofs.columns.columns_of.Goals as goal
 
@@ -15,7 +15,7 @@ loop-number-preserved c =
     let good : is_ok c.push.result ≡ true = search rules in
     let items = rw good at c.push.ensures.items in
     let below : number < length names = omega arith in
-    let found : column_for c.args.definitions.now header (get_or names number []) ≡ Some column =
+    let found : compared_column c.args.definitions.now header (get_or names number []) ≡ Some column =
     sym c.column_at.ensures ∙ c.in-Some.is in
     let more = one-more c.args.definitions.now header names c.loop-number.columns.items number
     column below found c.loop-number.invariant.all in

@@ -5,8 +5,8 @@ use Rattle.std.specs.Option.{option_map}
 use Rattle.std.proofs.lemmas.Result.{err_from_is_err_and}
 use Rattle.tre_define.specs.Pieces.{parts_behind, past_spaces}
 use Rattle.tre_define.specs.Texts.{is_semicolon}
-use Rattle.tre_num.specs.Defined.{name_of}
-use Rattle.tre_num.specs.Definitions.{Define, IsRefused, Spells}
+use Rattle.tre_num.specs.Defined.{name_of_let}
+use Rattle.tre_num.specs.Definitions.{Define, LetsAreRefused, Spells}
 use Rattle.tre_define.proofs.Defining.{HasDefined, all-defined, begins, no_parts, one-more, refused, some_parts}
 use Rattle.tre_num.proofs.definitions.read_definitions.Goals as goal
 
@@ -28,14 +28,14 @@ returns-in_err-add-clause-refused c =
     let part = c.first_part.result.0.now in
     let others = parts_behind (option_map (λ rest. rest.now) c.first_part.result.1) in
     let all = slice_split is_semicolon text in
-    let has = subst (λ parts. HasDefined Spells name_of all definitions parts) c.first_part.ensures.parts
+    let has = subst (λ parts. HasDefined Spells name_of_let all definitions parts) c.first_part.ensures.parts
     c.loop-definitions.invariant in
     let past = c.skip_spaces.ensures ∙ ap past_spaces c.as_bytes-rest.ensures.value in
     let some : (length (past_spaces text) == 0) ≡ false =
     ap (λ bytes. length bytes == 0) (sym past) ∙ sym c.is_empty.ensures ∙ c.if-is_empty.false in
     let p = err_from_is_err_and c.from_residual.result c.from_residual.ensures.1 in
     rw (p.1, p.2) (λ never.
-    subst (λ parts. IsRefused parts c.in_err-add.field-0.0) (sym (some_parts text some))
+    subst (λ parts. LetsAreRefused parts c.in_err-add.field-0.0) (sym (some_parts text some))
     (refused all others definitions part c.in_err-add.field-0.0 has
     (c.in_err-add.ensures.fault never)))
 
@@ -51,10 +51,10 @@ loop-definitions-preserved c =
     let step : slice_split is_semicolon bytes ≡ part ∷ others =
     c.first_part.ensures.parts
     ∙ ap (λ rest. part ∷ parts_behind (option_map (λ found. found.now) rest)) c.in-Some.is in
-    let has = subst (λ parts. HasDefined Spells name_of all definitions parts) step c.loop-definitions.invariant
+    let has = subst (λ parts. HasDefined Spells name_of_let all definitions parts) step c.loop-definitions.invariant
     in
     let added = c.in_ok-add.ensures.added in
-    subst (λ items. HasDefined Spells name_of all items others) (sym added.1)
+    subst (λ items. HasDefined Spells name_of_let all items others) (sym added.1)
     (one-more all others definitions part added.0 has added.2 added.3)
 
 pub returns-in-None-clause-definitions : goal.returns-in-None-clause-definitions
@@ -67,7 +67,7 @@ returns-in-None-clause-definitions c =
     let step : slice_split is_semicolon bytes ≡ part ∷ [] =
     c.first_part.ensures.parts
     ∙ ap (λ rest. part ∷ parts_behind (option_map (λ found. found.now) rest)) c.in-None.is in
-    let has = subst (λ parts. HasDefined Spells name_of all definitions parts) step c.loop-definitions.invariant
+    let has = subst (λ parts. HasDefined Spells name_of_let all definitions parts) step c.loop-definitions.invariant
     in
     let added = c.in_ok-add.ensures.added in
     let past = c.skip_spaces.ensures ∙ ap past_spaces c.as_bytes-rest.ensures.value in
@@ -75,5 +75,5 @@ returns-in-None-clause-definitions c =
     ap (λ bytes. length bytes == 0) (sym past) ∙ sym c.is_empty.ensures ∙ c.if-is_empty.false in
     subst (λ parts. Define parts c.add.new.definitions.items) (sym (some_parts text some))
     (all-defined all c.add.new.definitions.items
-    (subst (λ items. HasDefined Spells name_of all items []) (sym added.1)
+    (subst (λ items. HasDefined Spells name_of_let all items []) (sym added.1)
     (one-more all [] definitions part added.0 has added.2 added.3)))

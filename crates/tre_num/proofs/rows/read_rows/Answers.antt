@@ -1,7 +1,7 @@
 use Rattle.std.proofs.Common.{◌≡◌, None, true, refl, sym, ap, subst, ◌∙◌}
 use Rattle.std.specs.Prelude.{IfOk}
 use Rattle.std.proofs.lemmas.Result.{IfOk-weaker}
-use Rattle.tre_num.specs.Rows.{Terms, rows_recording}
+use Rattle.tre_num.specs.Rows.{ColumnTerms, rows_recording}
 use Rattle.tre_num.specs.Times.{rows-are_trace}
 use Rattle.tre_num.proofs.Tables.{all-added, ends-quiet, whole-is}
 use Rattle.tre_trace.specs.Reading.{reading_for}
@@ -27,7 +27,7 @@ returns-clause-trace c =
     c.new-segments.ensures.items (c.in_ok-read.ensures.adds bytes refl) in
     let whole = whole-is segments (reading_for terms.names now) all
     (ends-quiet terms terms.names bytes) (c.in_ok-read.ensures.whole bytes refl) in
-    subst (λ (terms : Terms). IfOk c.trace_of.result (λ trace.
+    subst (λ (terms : ColumnTerms). IfOk c.trace_of.result (λ trace.
     reading_for terms.names (rows_recording terms true bytes)
     ≡ record { segments = trace.segments; last = trace.last; fault = None }))
     c.new-table.ensures

@@ -3,7 +3,7 @@ use Rattle.std.specs.Result.{is_ok}
 use Rattle.std.proofs.lemmas.List.{length-map, length_push}
 use Rattle.std.proofs.lemmas.Result.{err_from_is_err_and}
 use Rattle.csv.specs.Records.{fields_of}
-use Rattle.tre_num.specs.Left.{Takes}
+use Rattle.tre_num.specs.Left.{TakesRecord}
 use Rattle.tre_num.specs.Rows.{row_says}
 use Rattle.tre_num.proofs.Telling.{row-is, says-fault, says-stretch}
 use Rattle.tre_num.proofs.Reading.{read-none, read-one, read-fault, read-stopped, read-all, read-faultless}
@@ -54,7 +54,7 @@ returns-in-Err-clause-refused g c terms header left under is =
     let fields = fields_of c.next_row.new.row in
     let so_far = c.loop.invariant.reads terms header left under is in
     let found : c.in_ok-found.found ≡ true = search rules in
-    let takes : Takes known fields c.next_row.new.rows so_far.rest =
+    let takes : TakesRecord known fields c.next_row.new.rows so_far.rest =
     rw found at (c.in_ok-found.ensures.next so_far.rest so_far.left) in
     let says = says-fault terms.names (row_says terms header columns end fields) c.in-Err.kind
     (sym (row-is under end fields) ∙ sym c.read_row.ensures.gives ∙ c.in-Err.is) in
@@ -95,7 +95,7 @@ loop-preserved g c =
       more = omega (arith, c.loop.invariant.more, length_push segments segment);
       reads = λ terms header left under is.
           let so_far = c.loop.invariant.reads terms header left under is in
-          let takes : Takes known fields c.next_row.new.rows so_far.rest =
+          let takes : TakesRecord known fields c.next_row.new.rows so_far.rest =
           rw found at (c.in_ok-found.ensures.next so_far.rest so_far.left) in
           read-one known terms header columns left before segments end c.loop.rows
           c.next_row.new.rows fields segment so_far takes

@@ -3,7 +3,7 @@ use Rattle.tre_parse.specs.declared.connective.Join.{Join}
 use Rattle.tre_parse.specs.declared.connective.Join.TheVariants.{Sequence, Intersection, Alternation}
 use Rattle.tre_parse.specs.Operands.{Represents}
 use Rattle.tre_parse.specs.Reader.{expression_by, expression_after, operand, operand_after, read_pattern}
-use Rattle.tre_parse.specs.Reading.{Goes}
+use Rattle.tre_parse.specs.Reading.{ReadingGoes}
 use Rattle.tre_parse.specs.Unkept.{FindsUpTo}
 use Rattle.tre_parse.proofs.expression.+expression.Given as goal
 
@@ -27,7 +27,7 @@ decreases-expression l = 8 * length l.tokens.now + 3 + rank l.how
 
 abbrev pub invariant-expression-loop-alloc : goal.invariant-expression-loop-alloc
 invariant-expression-loop-alloc l = record {
-  reads : Goes Represents l.whole (read_pattern (expression_by l.how) l.fn.tokens)
+  reads : ReadingGoes Represents l.whole (read_pattern (expression_by l.how) l.fn.tokens)
       (λ e. read_pattern (expression_after l.how e) l.tokens);
   shorter : length l.tokens ≤ length l.fn.tokens;
   unkept : FindsUpTo l.fn.tokens l.tokens l.whole.unkept;
@@ -38,7 +38,7 @@ decreases-expression-loop-alloc l = length l.tokens
 
 abbrev pub invariant-operand-loop-tokens : goal.invariant-operand-loop-tokens
 invariant-operand-loop-tokens l = record {
-  reads : Goes Represents l.whole (read_pattern operand l.fn.tokens)
+  reads : ReadingGoes Represents l.whole (read_pattern operand l.fn.tokens)
       (λ e. read_pattern (operand_after e) l.tokens);
   shorter : length l.tokens ≤ length l.fn.tokens;
   unkept : FindsUpTo l.fn.tokens l.tokens l.whole.unkept;

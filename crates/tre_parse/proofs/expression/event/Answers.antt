@@ -3,28 +3,28 @@ use Rattle.std.proofs.lemmas.Result.{err_from_is_err_and}
 use Rattle.tre_syntax.specs.PatternTree.{event, atom}
 use Rattle.tre_parse.specs.declared.token.Token.{Token}
 use Rattle.tre_parse.specs.declared.token.Token.TheVariants.{LeftParen, RightParen, Event}
-use Rattle.tre_parse.specs.Reader.{give, part, event_of, behind_event, unsigned, run, read, read_pattern}
-use Rattle.tre_parse.specs.Reading.{IsPart}
+use Rattle.tre_parse.specs.Reader.{give, part, event_number_of, behind_event, unsigned, run, read, read_pattern}
+use Rattle.tre_parse.specs.Reading.{IsReadPart}
 use Rattle.tre_parse.proofs.Counts.{leaf_counts}
 use Rattle.tre_parse.proofs.Equations.{passed, unpassed, part_said, part_unsaid, event_read}
 use Rattle.tre_parse.proofs.Steps.{goes_past, goes_here, stops_here}
 use Rattle.tre_parse.proofs.expression.event.Goals as goal
 
 opened : (old us ts : List Token) → old ≡ Event ∷ us → us ≡ LeftParen ∷ ts
-    → read_pattern unsigned old ≡ run read (part event_of behind_event) ts
+    → read_pattern unsigned old ≡ run read (part event_number_of behind_event) ts
 opened old us ts e f = ap (λ l. read_pattern unsigned l) e ∙ event_read us
-    ∙ passed LeftParen (part event_of behind_event) us ts refl f
+    ∙ passed LeftParen (part event_number_of behind_event) us ts refl f
 
 named : (old us ts new : List Token) (i : ℕ) → old ≡ Event ∷ us → us ≡ LeftParen ∷ ts
-    → IsPart event_of (Ok i) ts new → read_pattern unsigned old ≡ run read (behind_event i) new
-named old us ts new i e f h = opened old us ts e f ∙ part_said event_of behind_event i ts new h
+    → IsReadPart event_number_of (Ok i) ts new → read_pattern unsigned old ≡ run read (behind_event i) new
+named old us ts new i e f h = opened old us ts e f ∙ part_said event_number_of behind_event i ts new h
 
 pub returns-in_err-expect-clause-reads : goal.returns-in_err-expect-clause-reads
 returns-in_err-expect-clause-reads c =
     let e = goes_past c.args.tokens.now c.advance.new.self Event (sym c.requires) (λ q. cc)
     c.advance.ensures in
     let p = err_from_is_err_and c.from_residual.result c.from_residual.ensures.1 in
-    let s = unpassed LeftParen (part event_of behind_event) c.in_err-expect.field-0.0
+    let s = unpassed LeftParen (part event_number_of behind_event) c.in_err-expect.field-0.0
     c.advance.new.self c.expect.new.self c.in_err-expect.ensures in
     rw (p.1, p.2) (stops_here (read_pattern unsigned c.args.tokens.now) c.in_err-expect.field-0.0
     c.expect.new.self s.0
@@ -36,7 +36,7 @@ returns-in_err-number-clause-reads c =
     c.advance.ensures in
     let p = err_from_is_err_and c.from_residual-in_err-number.result
     c.from_residual-in_err-number.ensures.1 in
-    let s = part_unsaid event_of behind_event c.in_err-number.field-0.0 c.expect.new.self
+    let s = part_unsaid event_number_of behind_event c.in_err-number.field-0.0 c.expect.new.self
     c.event_name.new.tokens c.in_err-number.ensures in
     rw (p.1, p.2) (stops_here (read_pattern unsigned c.args.tokens.now) c.in_err-number.field-0.0
     c.event_name.new.tokens s.0

@@ -4,19 +4,19 @@ use Rattle.tre_zone.specs.Interval.{ends_of, kept_weak}
 use Rattle.tre_parse.specs.declared.token.Token.{Token}
 use Rattle.tre_parse.specs.declared.token.Token.TheVariants.{Number, Comma}
 use Rattle.tre_parse.specs.Front.{front, tail}
-use Rattle.tre_parse.specs.Reader.{give, opened_by, number_of, high_of, closed_by, behind_high, behind_comma, behind_low, behind_opening, of_interval, run, read}
-use Rattle.tre_parse.specs.Reading.{IsPart}
+use Rattle.tre_parse.specs.Reader.{give, opened_by, number_of, high_end_of, closed_by, behind_high, behind_comma, behind_low, behind_opening, of_interval, run, read}
+use Rattle.tre_parse.specs.Reading.{IsReadPart}
 use Rattle.tre_parse.proofs.Fixpoint.{interval_fixed}
 use Rattle.tre_parse.proofs.Equations.{passed, unpassed, part_said, part_unsaid}
 use Rattle.tre_parse.proofs.Steps.{goes_here, stops_here}
 use Rattle.tre_parse.proofs.interval.interval.Goals as goal
 
-past_opening : (old ts : List Token) (weak : Bool) → IsPart opened_by (Ok weak) old ts
+past_opening : (old ts : List Token) (weak : Bool) → IsReadPart opened_by (Ok weak) old ts
     → read of_interval old ≡ run read (behind_opening weak) ts
 past_opening old ts weak h = interval_fixed old
     ∙ part_said opened_by (λ weak. behind_opening weak) weak old ts h
 
-past_low : (old ts us : List Token) (weak : Bool) (low : ℕ) → IsPart opened_by (Ok weak) old ts
+past_low : (old ts us : List Token) (weak : Bool) (low : ℕ) → IsReadPart opened_by (Ok weak) old ts
     → Number low ≡ front ts → us ≡ tail ts
     → read of_interval old ≡ run read (behind_low weak low) us
 past_low old ts us weak low h e f = past_opening old ts weak h
@@ -28,10 +28,10 @@ past_comma : (old us vs : List Token) (weak : Bool) (low : ℕ)
 past_comma old us vs weak low h e = h ∙ passed Comma (behind_comma weak low) us vs refl e
 
 past_high : (old vs ws : List Token) (weak : Bool) (low : ℕ) (high : Option ℕ)
-    → read of_interval old ≡ run read (behind_comma weak low) vs → IsPart high_of (Ok high) vs ws
+    → read of_interval old ≡ run read (behind_comma weak low) vs → IsReadPart high_end_of (Ok high) vs ws
     → read of_interval old ≡ run read (behind_high weak low high) ws
 past_high old vs ws weak low high h e = h
-    ∙ part_said high_of (λ high. behind_high weak low high) high vs ws e
+    ∙ part_said high_end_of (λ high. behind_high weak low high) high vs ws e
 
 no_number : (token : Token) → ((n : ℕ) → token ≢ Number n) → number_of token ≡ None
 no_number (Number n) h = absurd (h n refl)
@@ -90,7 +90,7 @@ returns-in_err-high c =
     c.in_ok-expect.ensures in
     let p = err_from_is_err_and c.from_residual-in_err-high.result
     c.from_residual-in_err-high.ensures.1 in
-    let s = part_unsaid high_of (λ high. behind_high weak low high) c.in_err-high.field-0.0
+    let s = part_unsaid high_end_of (λ high. behind_high weak low high) c.in_err-high.field-0.0
     c.expect.new.self c.high.new.tokens c.in_err-high.ensures in
     rw (p.1, p.2) (record {
       reads = stops_here (read of_interval c.args.tokens.now) c.in_err-high.field-0.0

@@ -6,7 +6,7 @@ use Rattle.tre_parse.specs.Front.{tokens_in}
 use Rattle.tre_parse.specs.TokenOutcome.{is_big, deep_place}
 use Rattle.tre_parse.specs.Answers.{text_tokens_in}
 use Rattle.tre_parse.specs.Reader.{got}
-use Rattle.tre_parse.specs.Reading.{Goes, Stops}
+use Rattle.tre_parse.specs.Reading.{ReadingGoes, Stops}
 use Rattle.tre_parse.proofs.Judging.{stop_outcome, rest_outcome, limits_met}
 use Rattle.tre_parse.proofs.Whole.{read_whole}
 use Rattle.tre_parse.specs.Unkept.{FindsUpTo}
@@ -18,9 +18,9 @@ none_left (t ∷ ts) h = absurd (omega arith)
 
 pub judge-requires-clause-whole : goal.judge-requires-clause-whole
 judge-requires-clause-whole c =
-    let P = λ (ts : List Token). Goes Represents c.in-Ok.whole (read_whole ts)
+    let P = λ (ts : List Token). ReadingGoes Represents c.in-Ok.whole (read_whole ts)
     (λ e. got e c.expression.new.tokens) in
-    let Q = λ (ts : List Token). Goes Represents c.in-Ok.whole
+    let Q = λ (ts : List Token). ReadingGoes Represents c.in-Ok.whole
     (read_whole (text_tokens_in c.args.scan).tokens) (λ e. got e ts) in
     subst Q (none_left c.expression.new.tokens (omega (arith, c.left.ensures, c.if-left-gt0.false)))
     (subst P (c.new-rest.ensures ∙ ap tokens_in c.deref-3.ensures.value) c.in-Ok.ensures.reads)
@@ -35,7 +35,7 @@ judge-requires-clause-unkept c =
 
 pub returns-then-left-gt0 : goal.returns-then-left-gt0
 returns-then-left-gt0 c =
-    let P = λ (ts : List Token). Goes Represents c.in-Ok.whole (read_whole ts)
+    let P = λ (ts : List Token). ReadingGoes Represents c.in-Ok.whole (read_whole ts)
     (λ e. got e c.expression.new.tokens) in
     rest_outcome (text_tokens_in c.args.scan) c.refused.result c.fault_of.result c.in-Ok.whole
     c.expression.new.tokens

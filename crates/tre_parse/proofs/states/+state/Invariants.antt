@@ -5,7 +5,7 @@ use Rattle.tre_parse.specs.declared.connective.Connective.TheVariants.{And, Or}
 use Rattle.tre_parse.specs.Joins.{negated}
 use Rattle.tre_parse.specs.Operands.{RepresentsState}
 use Rattle.tre_parse.specs.Reader.{state_by, state_after, read_state}
-use Rattle.tre_parse.specs.Reading.{Goes}
+use Rattle.tre_parse.specs.Reading.{ReadingGoes}
 use Rattle.tre_parse.proofs.states.+state.Given as goal
 
 -- How far a function is from the innermost.
@@ -27,7 +27,7 @@ decreases-state l = 6 * length l.tokens.now + 3 + rank l.how
 
 abbrev pub invariant-state-loop-alloc : goal.invariant-state-loop-alloc
 invariant-state-loop-alloc l = record {
-  reads : Goes RepresentsState l.whole (read_state (state_by l.how) l.fn.tokens)
+  reads : ReadingGoes RepresentsState l.whole (read_state (state_by l.how) l.fn.tokens)
       (λ s. read_state (state_after l.how s) l.tokens);
   shorter : length l.tokens ≤ length l.fn.tokens;
 }

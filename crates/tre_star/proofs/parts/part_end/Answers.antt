@@ -3,13 +3,13 @@ use Rattle.std.specs.List.{slice_range}
 use mir.Val.{to_z}
 use Rattle.tre_zone.specs.Bound.{IsKeyWithin}
 use Rattle.tre_zone.specs.declared.zone_bounds.ZoneBounds.{ZoneBounds}
-use Rattle.tre_star.specs.Parts.{EndBy}
+use Rattle.tre_star.specs.Parts.{PairsEndBy}
 use Rattle.tre_star.proofs.Separate.{EndBy-first, EndBy-more, LieBefore-behind, LieBefore-none, held_as, key_at, as_held}
 use Rattle.tre_star.proofs.parts.part_end.Goals as goal
 
 pub loop-end-init : goal.loop-end-init
 loop-end-init c = record {
-  ends = as_held (λ k. EndBy k (slice_range c.args.steps.now c.args.start (c.args.start + 1)))
+  ends = as_held (λ k. PairsEndBy k (slice_range c.args.steps.now c.args.start (c.args.start + 1)))
       c.key-reach.result (search rules)
       (rw (c.key-reach.ensures, c.bounds-first.ensures.same)
       (EndBy-first c.args.steps.now c.args.start c.index-steps-start.result c.requires.start
@@ -26,7 +26,7 @@ loop-end-preserved c =
     let own : c.index-steps-end.result.end_high ≤ℤ next =
     subst (λ k. k ≤ℤ next) is c.greater-reach.ensures.other in
     record {
-      ends = as_held (λ k. EndBy k (slice_range c.args.steps.now c.args.start
+      ends = as_held (λ k. PairsEndBy k (slice_range c.args.steps.now c.args.start
           (c.loop-end.end + 1))) next (search rules)
           (EndBy-more c.args.steps.now c.args.start c.loop-end.end c.index-steps-end.result _ next
           (let after = c.loop-end.auto.end in omega (arith, after)) c.loop-end-test.true

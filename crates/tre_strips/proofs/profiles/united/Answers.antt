@@ -1,5 +1,5 @@
 use Rattle.std.proofs.Common.{◌≡◌, ◌∷◌, [], List, length, refl, ap, arith, sym, ◌∙◌, subst}
-use Rattle.tre_strips.specs.Profiles.{AreFilledOver, IsUnion}
+use Rattle.tre_strips.specs.Profiles.{AreFilledOver, IsUnionOfBars}
 use Rattle.tre_strips.specs.declared.bar.Bar.{Bar}
 use Rattle.tre_strips.proofs.Joining.{IsInOrder, AreFilledOver-permutation, IsUnion-permutation, IsUnion-none}
 use Rattle.tre_strips.proofs.profiles.united.Goals as goal
@@ -26,7 +26,7 @@ returns-in-Some-clause-union c =
     let same : c.in_order-bars.result.items ≡ c.in-Some.first.now ∷ c.in-Some.rest.now =
     sym c.deref.ensures.value ∙ c.in-Some.ensures.cases.0 in
     IsUnion-permutation _ _ c.in_order-bars.result.items _ c.in_order-bars.ensures.same
-    (subst (λ (bars : List Bar). IsUnion c.joined.new.times bars c.in_ok-union-in-Some.union.items)
+    (subst (λ (bars : List Bar). IsUnionOfBars c.joined.new.times bars c.in_ok-union-in-Some.union.items)
     (sym same) c.in_ok-union-in-Some.ensures.union)
 
 pub returns-clause-union : goal.returns-clause-union

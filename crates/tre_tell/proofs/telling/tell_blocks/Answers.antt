@@ -1,7 +1,7 @@
 use Rattle.std.proofs.Common.{◌≡◌, ◌∙◌, ◌+◌, ◌++◌, ◌<◌, suc, drop, get_or, length, take, refl, sym, arith, append-nil}
 use Rattle.std.proofs.lemmas.List.{take_all}
 use Rattle.std.proofs.lemmas.Result.{err_from_is_err_and}
-use Rattle.tre_feed.specs.Standing.{no_stretch}
+use Rattle.tre_feed.specs.Standing.{stretch_behind}
 use Rattle.tre_tell.specs.Sought.{all_names}
 use Rattle.tre_tell.specs.Telling.{rows_for}
 use Rattle.tre_tell.proofs.Lists.{split_around}
@@ -36,9 +36,9 @@ returns-in_err-column-clause-stops g c =
     omega (arith, c.waiting-place-end.ensures waiting wait, c.loop-place-test.true) in
     rw (p.1, p.2) (record {
       front = take place waiting;
-      next = get_or waiting place no_stretch;
+      next = get_or waiting place stretch_behind;
       rest = drop (suc place) waiting;
-      split = split_around waiting place no_stretch below;
+      split = split_around waiting place stretch_behind below;
       stops = (c.loop-place.invariant.told patterns told waiting before asks wait so_far).told;
     })
 
@@ -54,8 +54,8 @@ tell_block-requires-clause-comes g c =
     ) in
     rw (c.deref.ensures.value, c.in_ok-column.ensures comes.asked waiting comes.asks comes.wait)
     (CanTell-at c.args.watch c.loop-place.watch comes.asked waiting comes.can (take place waiting)
-    (get_or waiting place no_stretch) (drop (suc place) waiting)
-    (split_around waiting place no_stretch below)
+    (get_or waiting place stretch_behind) (drop (suc place) waiting)
+    (split_around waiting place stretch_behind below)
     (c.loop-place.invariant.stands comes.asked comes.can.told waiting comes.asks comes.wait
     comes.can.stands))
 
@@ -69,9 +69,9 @@ returns-in_err-watch-clause-stops g c =
     omega (arith, c.waiting-place-end.ensures waiting wait, c.loop-place-test.true) in
     rw (p.1, p.2) (record {
       front = take place waiting;
-      next = get_or waiting place no_stretch;
+      next = get_or waiting place stretch_behind;
       rest = drop (suc place) waiting;
-      split = split_around waiting place no_stretch below;
+      split = split_around waiting place stretch_behind below;
       stops = rw (
         c.deref.ensures.value,
         c.in_ok-column.ensures (all_names patterns) waiting asks wait,

@@ -3,21 +3,21 @@ use Rattle.std.proofs.lemmas.Bool.Decides.{nat_tests}
 use Rattle.std.proofs.lemmas.Str.{IsAscii-drop, IsAscii-take}
 use Rattle.std.specs.List.{prefix_len}
 use Rattle.tre_state.specs.Name.{continues_name, IsName}
-use Rattle.tre_watch.specs.Lines.{is_blank, behind, IsCheck}
+use Rattle.tre_watch.specs.Lines.{is_space_or_tab, behind_passed, IsCheck}
 use Rattle.tre_watch.proofs.Checks.{found_check, no_check-rest, no_check-sign, no_check-name}
 use Rattle.tre_watch.proofs.line.check_on.Goals as goal
 
 pub returns-then-is_empty : goal.returns-then-is_empty
 returns-then-is_empty c =
     let e = c.behind_blanks-sign.ensures
-    ∙ ap (λ bytes. behind is_blank bytes) c.behind_name.ensures in
+    ∙ ap (λ bytes. behind_passed is_space_or_tab bytes) c.behind_name.ensures in
     let none : length c.behind_blanks-sign.result.now ≡ 0 = grind (arith, nat_tests) in
     no_check-rest c.args.content.now (ap length (sym e) ∙ none)
 
 pub returns-then-sign-ne61 : goal.returns-then-sign-ne61
 returns-then-sign-ne61 c =
     let e = c.behind_blanks-sign.ensures
-    ∙ ap (λ bytes. behind is_blank bytes) c.behind_name.ensures in
+    ∙ ap (λ bytes. behind_passed is_space_or_tab bytes) c.behind_name.ensures in
     no_check-sign c.args.content.now
     (λ at. c.if-sign-ne61.true (ap (λ (bytes : List ℕ). get_or bytes 0 0) e ∙ at))
 
@@ -35,9 +35,9 @@ ascii_text-name-requires c =
 pub ascii_text-text-requires : goal.ascii_text-text-requires
 ascii_text-text-requires c =
     let content = c.args.content.now in
-    let rest = behind continues_name content in
+    let rest = behind_passed continues_name content in
     rw (c.behind_first.ensures, c.behind_blanks-sign.ensures, c.behind_name.ensures)
-    (IsAscii-drop (behind is_blank rest) 1 (IsAscii-drop rest (prefix_len is_blank rest)
+    (IsAscii-drop (behind_passed is_space_or_tab rest) 1 (IsAscii-drop rest (prefix_len is_space_or_tab rest)
     (IsAscii-drop content (prefix_len continues_name content)
     c.if-not-is_ascii.ensures.cases)))
 
@@ -45,7 +45,7 @@ pub returns : goal.returns
 returns c =
     let content = c.args.content.now in
     let e = c.behind_blanks-sign.ensures
-    ∙ ap (λ bytes. behind is_blank bytes) c.behind_name.ensures in
+    ∙ ap (λ bytes. behind_passed is_space_or_tab bytes) c.behind_name.ensures in
     let same = c.ascii_text-name.ensures ∙ c.name_before.ensures in
     let text = c.ascii_text-text.ensures ∙ c.behind_first.ensures
     ∙ ap (λ (bytes : List ℕ). drop 1 bytes) e in

@@ -3,7 +3,7 @@ use Rattle.std.proofs.lemmas.List.{take_rest}
 use Rattle.tre_state.specs.Name.{IsName}
 use Rattle.tre_parse.specs.Tokens.{name, number, sign}
 use Rattle.tre_parse.specs.Lexeme.{lexeme_of}
-use Rattle.tre_parse.specs.Scan.{GoesOn}
+use Rattle.tre_parse.specs.Scan.{ScanGoesOn}
 use Rattle.tre_parse.proofs.Words.{name_bytes}
 use Rattle.tre_parse.proofs.Scans.{rest_blank, rest_name, rest_number, rest_sign, leads_word, leads_same, same_bytes}
 use Rattle.tre_parse.proofs.scan.Scan.step.Goals as goal
@@ -33,7 +33,7 @@ pub returns-in-Blank-clause-ok : goal.returns-in-Blank-clause-ok
 returns-in-Blank-clause-ok c =
     let bytes = c.as_bytes.result.now in
     let same = c.as_bytes.ensures.value in
-    let P = λ (bs : List ℕ). GoesOn bs c.args.self.now c.args.at c.args.self.now (c.args.at + 1) in
+    let P = λ (bs : List ℕ). ScanGoesOn bs c.args.self.now c.args.at c.args.self.now (c.args.at + 1) in
     let e = rest_blank bytes c.args.at (omega (arith, c.requires.place, ap length same))
     (ap lexeme_of (sym (take_rest bytes c.args.at)) ∙ sym c.in-Blank.ensures.value) in
     subst P same (record {
@@ -48,7 +48,7 @@ returns-in_ok-put_name-in-Name-clause-ok c =
     let same = c.as_bytes.ensures.value in
     let whole = ap length (take_rest bytes at) in
     let size = length-drop at bytes in
-    let P = λ (bs : List ℕ). GoesOn bs c.args.self.now at c.put_name.new.self (at + len) in
+    let P = λ (bs : List ℕ). ScanGoesOn bs c.args.self.now at c.put_name.new.self (at + len) in
     let e = rest_name bytes at len (omega (arith, c.requires.place, ap length same))
     (omega (arith, c.in-Name.ensures.fits)) (omega (arith, c.in-Name.ensures.fits, whole))
     (ap lexeme_of (sym (take_rest bytes at)) ∙ sym c.in-Name.ensures.value) in
@@ -68,7 +68,7 @@ returns-in_ok-put_number-in-Number-clause-ok c =
     let same = c.as_bytes.ensures.value in
     let whole = ap length (take_rest bytes at) in
     let size = length-drop at bytes in
-    let P = λ (bs : List ℕ). GoesOn bs c.args.self.now at c.put_number.new.self (at + len) in
+    let P = λ (bs : List ℕ). ScanGoesOn bs c.args.self.now at c.put_number.new.self (at + len) in
     let e = rest_number bytes at len (omega (arith, c.requires.place, ap length same))
     (omega (arith, c.in-Number.ensures.fits)) (omega (arith, c.in-Number.ensures.fits, whole))
     (ap lexeme_of (sym (take_rest bytes at)) ∙ sym c.in-Number.ensures.value) in
@@ -92,7 +92,7 @@ returns-in_ok-put_sign-in-Sign-clause-ok c =
     let same = c.as_bytes.ensures.value in
     let whole = ap length (take_rest bytes at) in
     let size = length-drop at bytes in
-    let P = λ (bs : List ℕ). GoesOn bs c.args.self.now at c.put_sign.new.self (at + len) in
+    let P = λ (bs : List ℕ). ScanGoesOn bs c.args.self.now at c.put_sign.new.self (at + len) in
     let e = rest_sign bytes at len c.in-Sign.token (omega (arith, c.requires.place, ap length same))
     (omega (arith, c.in-Sign.ensures.fits)) (omega (arith, c.in-Sign.ensures.fits, whole))
     (ap lexeme_of (sym (take_rest bytes at)) ∙ sym c.in-Sign.ensures.value) in

@@ -2,7 +2,7 @@ use Rattle.std.proofs.Common.{◌≡◌, ◌∷◌, length, map, sym, ap, ◌∙
 use Rattle.std.proofs.lemmas.List.{with_items_is}
 use Rattle.std.specs.Vec.{with_items}
 use Rattle.tre_vcd.specs.VcdReading.{var}
-use Rattle.tre_vcd.specs.Signals.{AreWatched}
+use Rattle.tre_vcd.specs.Signals.{SignalsAreWatched}
 use Rattle.tre_vcd.proofs.Watching.{changes-declared}
 use Rattle.tre_vcd.proofs.changes.Changes.declare.Goals as goal
 
@@ -17,7 +17,7 @@ returns c = λ all names past tokens offered quiet before knows.
     (ap (map _) items ∙ c.declare_each.ensures.letters.0 ∙ ap (map _) c.deref_mut.ensures.value)
     (ap (map _) items ∙ c.declare_each.ensures.letters.1 ∙ ap (map _) c.deref_mut.ensures.value)
     (ap (map _) items ∙ c.declare_each.ensures.same ∙ ap (map _) c.deref_mut.ensures.value)
-    (subst (AreWatched (var tokens ∷ past)) (sym items)
+    (subst (SignalsAreWatched (var tokens ∷ past)) (sym items)
     (c.in_ok-declare_each.ensures.asks past tokens offered
-    (subst (AreWatched past) (sym c.deref_mut.ensures.value) knows.parts)))
+    (subst (SignalsAreWatched past) (sym c.deref_mut.ensures.value) knows.parts)))
     knows

@@ -1,6 +1,6 @@
 use Rattle.std.proofs.Common.{◌≡◌, ◌∷◌, false, refl, sym, ◌∙◌, subst}
 use Rattle.tre_vcd.specs.VcdReading.{change, in_dump, scalar}
-use Rattle.tre_vcd.specs.Kept.{Knows}
+use Rattle.tre_vcd.specs.Kept.{KnowsOfPast}
 use Rattle.tre_vcd.proofs.Pasts.{knows-change, events-unread, outside-read}
 use Rattle.tre_vcd.proofs.past.Past.change_scalar.Goals as goal
 
@@ -10,7 +10,7 @@ returns-then-reads_events-clause-knows c = λ names event_names past known defin
     let identifier = c.args.identifier.now in
     let outside : in_dump past ≡ false =
     sym known.dump ∙ outside-read kept (sym c.reads_events.ensures ∙ c.if-reads_events.true) in
-    subst (λ now. Knows names event_names now (change scalar identifier letters ∷ past))
+    subst (λ now. KnowsOfPast names event_names now (change scalar identifier letters ∷ past))
     (sym c.say_event.ensures.same)
     (knows-change names event_names kept past scalar identifier letters c.args.value
     c.set_value.new.values c.say_event.new.self.happened c.having-changed.result defined value_is

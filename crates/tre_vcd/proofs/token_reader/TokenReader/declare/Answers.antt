@@ -3,7 +3,7 @@ use Rattle.std.proofs.lemmas.List.{length-map}
 use Rattle.tre_vcd.specs.VcdReading.{var, path, scopes_at, is_signal, is_event}
 use Rattle.tre_vcd.specs.Kept.{KnowsAll, plain_of}
 use Rattle.tre_vcd.specs.Offers.{KnowOffers}
-use Rattle.tre_vcd.specs.Sections.{asked_of}
+use Rattle.tre_vcd.specs.Sections.{asked_of_reader}
 use Rattle.tre_vcd.proofs.Needing.{needed-within, written-back}
 use Rattle.tre_vcd.proofs.Pasts.{knows-within}
 use Rattle.tre_vcd.proofs.Tokens.{declares-kept, declares-longer, declares-none, none-within, kept-at, same-test, signal-no_event}
@@ -21,7 +21,7 @@ returns-then-tokens-ne4-clause-knows c = λ past word tokens holds.
     (λ four. absurd (c.if-tokens-ne4.true (count ∙ four))) in
     let silent = declares-none is_event (scopes_at past) tokens
     (λ four. absurd (c.if-tokens-ne4.true (count ∙ four))) in (
-      knows-within reader.longest (asked_of reader) reader.past past tokens holds.suits
+      knows-within reader.longest (asked_of_reader reader) reader.past past tokens holds.suits
           (none-within reader.longest is_signal (scopes_at past) tokens none)
           (none-within reader.longest is_event (scopes_at past) tokens silent) holds.knows.within.0
           holds.knows.past,
@@ -48,7 +48,7 @@ returns-then-is_path_longer-clause-knows c = λ past word tokens holds.
     let longer = λ (test : List ℕ → List ℕ → Bool).
     declares-longer reader.longest test (scopes_at past) tokens
     c.as_slice-reference.result.now (sym count ∙ four) fourth long in (
-      knows-within reader.longest (asked_of reader) reader.past past tokens holds.suits
+      knows-within reader.longest (asked_of_reader reader) reader.past past tokens holds.suits
           (longer is_signal) (longer is_event) holds.knows.within.0 holds.knows.past,
       needed-within past reader.longest tokens reader.needed.items (longer is_signal)
           (longer is_event) holds.knows.within.1 holds.knows.needed,
@@ -163,7 +163,7 @@ returns-else-is_event-clause-knows c = λ past word tokens holds.
     (λ _. same-test is_event (take 6 tokens) c.deref-else-is_signal.result.now
     c.deref-2.result.now false kind second
     (sym (c.is_event.ensures c.deref-2.result.now) ∙ c.if-is_event.false)) in (
-      knows-within reader.longest (asked_of reader) reader.past past tokens holds.suits
+      knows-within reader.longest (asked_of_reader reader) reader.past past tokens holds.suits
           (none-within reader.longest is_signal (scopes_at past) tokens none)
           (none-within reader.longest is_event (scopes_at past) tokens silent) holds.knows.within.0
           holds.knows.past,

@@ -1,6 +1,6 @@
 use Rattle.std.proofs.Common.{◌∷◌, refl, sym, ap, ◌∙◌, subst}
-use Rattle.tre_parts.specs.Walk.{Tells}
-use Rattle.tre_vcd.specs.Sections.{Holds, asked_of}
+use Rattle.tre_parts.specs.Walk.{TellsPart}
+use Rattle.tre_vcd.specs.Sections.{Holds, asked_of_reader}
 use Rattle.tre_vcd.specs.VcdReading.{upscope, definitions, nothing}
 use Rattle.tre_vcd.specs.declared.command.Command.TheVariants.{Scope, Upscope, Var, EndDefinitions}
 use Rattle.tre_vcd.specs.Offers.{KnowOffers}
@@ -12,14 +12,14 @@ use Rattle.tre_vcd.proofs.token_reader.TokenReader.end_section.Goals as goal
 
 pub returns-in-Scope-clause-tells : goal.returns-in-Scope-clause-tells
 returns-in-Scope-clause-tells c = λ past word tokens holds is.
-    subst (λ said. Tells (asked_of c.args.self.now) said (Holds c.end_scope.new.self)
+    subst (λ said. TellsPart (asked_of_reader c.args.self.now) said (Holds c.end_scope.new.self)
     c.end_scope.result)
     (sym (section-ended past word tokens Scope (sym c.in-Scope.is ∙ is)))
     (c.end_scope.ensures.tells past word tokens holds)
 
 pub returns-in-Var-clause-tells : goal.returns-in-Var-clause-tells
 returns-in-Var-clause-tells c = λ past word tokens holds is.
-    subst (λ said. Tells (asked_of c.args.self.now) said (Holds c.end_declaration.new.self)
+    subst (λ said. TellsPart (asked_of_reader c.args.self.now) said (Holds c.end_declaration.new.self)
     c.end_declaration.result)
     (sym (section-ended past word tokens Var (sym c.in-Var.is ∙ is)))
     (c.end_declaration.ensures.tells past word tokens holds)

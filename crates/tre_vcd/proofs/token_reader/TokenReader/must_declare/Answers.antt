@@ -1,7 +1,7 @@
 use Rattle.std.proofs.Common.{[], sym, ◌∙◌, subst}
 use Rattle.tre_vcd.specs.Kept.{KnowsAll}
 use Rattle.tre_vcd.specs.Offers.{KnowOffers, KnowsOffers}
-use Rattle.tre_vcd.specs.Sections.{asked_of}
+use Rattle.tre_vcd.specs.Sections.{asked_of_reader}
 use Rattle.tre_vcd.proofs.Longest.{both-below}
 use Rattle.tre_vcd.proofs.Needing.{needed-more, offers-more, within-more, within-push}
 use Rattle.tre_vcd.proofs.token_reader.TokenReader.must_declare.Goals as goal
@@ -27,7 +27,7 @@ returns-clause-begins c = λ holds same.
             (subst (λ own. KnowsOffers own [] c.in_ok-found.found)
             (c.in_ok-found.ensures.definitions ∙ same) c.in_ok-found.ensures.offers));
         within = (
-          within-more reader.longest longest (asked_of reader) both.0 holds.knows.within.0,
+          within-more reader.longest longest (asked_of_reader reader) both.0 holds.knows.within.0,
           within-push reader.longest longest reader.needed.items _ c.in_ok-found.found both.0
               c.in_ok-push.ensures.items holds.knows.within.1 also,
         );

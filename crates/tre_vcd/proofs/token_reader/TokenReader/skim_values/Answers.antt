@@ -4,14 +4,14 @@ use Rattle.tre_parts.specs.Walk.{AddsPart}
 use Rattle.tre_parts.specs.declared.skimmed.Skimmed.{Skimmed}
 use Rattle.tre_parts.proofs.Skimming.{skims-none}
 use Rattle.tre_vcd.specs.VcdReading.{vector, goes_to, value_says, vcd_format}
-use Rattle.tre_vcd.specs.Sections.{Holds, asked_of, terms_kept}
+use Rattle.tre_vcd.specs.Sections.{Holds, asked_of_reader, terms_kept}
 use Rattle.tre_vcd.proofs.Skimming.{taken-next, taken-none, vector-next}
 use Rattle.tre_vcd.proofs.token_reader.TokenReader.skim_values.Goals as goal
 
 pub loop-place-init : goal.loop-place-init
 loop-place-init c = record {
   skims = λ place holds.
-      skims-none (asked_of c.args.self.now) (vcd_format (terms_kept c.args.self.now))
+      skims-none (asked_of_reader c.args.self.now) (vcd_format (terms_kept c.args.self.now))
       (Holds c.args.self.now) place c.args.bytes.now c.args.segments.now.items holds;
   marks = c.of-marks.ensures;
   few = omega arith;
@@ -37,7 +37,7 @@ loop-place-preserved-in-Whole c =
           (taken-next (terms_kept reader) (before.skims place holds) next c.requires.short
           before.among
           (λ past held defined.
-          subst (λ terms. AddsPart (asked_of reader) (value_says terms past token) (Holds now) old
+          subst (λ terms. AddsPart (asked_of_reader reader) (value_says terms past token) (Holds now) old
           new) before.same_terms
           (subst (λ asked. AddsPart asked (value_says (terms_kept own) past token) (Holds now) old
           new) before.same_names (c.in-Whole.ensures.taken past held defined))));

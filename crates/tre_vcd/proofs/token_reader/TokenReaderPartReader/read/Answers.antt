@@ -1,7 +1,7 @@
 use Rattle.std.proofs.Common.{◌∷◌, [], refl, sym, ap, ◌∙◌, subst}
-use Rattle.tre_parts.specs.Walk.{Tells}
+use Rattle.tre_parts.specs.Walk.{TellsPart}
 use Rattle.tre_vcd.specs.VcdReading.{Open, scalar, change, nothing, token_at}
-use Rattle.tre_vcd.specs.Sections.{Holds, asked_of, terms_kept}
+use Rattle.tre_vcd.specs.Sections.{Holds, asked_of_reader, terms_kept}
 use Rattle.tre_vcd.proofs.Bits.{bit-says, values-say, values-read, commands-read, commands-say}
 use Rattle.tre_vcd.proofs.Changing.{past-changed}
 use Rattle.tre_vcd.proofs.Reading.{says-empty, says-letter, is-nothing, is-section, is-comment, is-vector, is-number}
@@ -50,7 +50,7 @@ returns-then-reads_values-clause-tells c = λ state holds.
     let terms = terms_kept c.args.self.now in
     let reads = values-read c.args.self.now state holds
     (sym c.reads_values.ensures ∙ c.if-reads_values.true) in
-    subst (λ said. Tells (asked_of c.args.self.now) said (Holds c.read_value.new.self)
+    subst (λ said. TellsPart (asked_of_reader c.args.self.now) said (Holds c.read_value.new.self)
     c.read_value.result)
     (sym (values-say terms state c.args.part.now c.in-Some.first.now c.in-Some.rest.now
     c.in-Some.ensures.cases.0 reads.defined reads.open_none))
@@ -65,7 +65,7 @@ returns-in-Nothing-clause-tells c = λ state holds.
     let is = is-nothing state.inside (sym holds.inside ∙ c.in-Nothing.is) in
     let defined = commands-read c.args.self.now state holds
     (sym c.reads_values.ensures ∙ c.if-reads_values.false) c.in-Nothing.is in
-    subst (λ said. Tells (asked_of c.args.self.now) said (Holds c.read_command.new.self)
+    subst (λ said. TellsPart (asked_of_reader c.args.self.now) said (Holds c.read_command.new.self)
     c.read_command.result)
     (sym (says-letter terms state part c.in-Some.first.now c.in-Some.rest.now
     c.in-Some.ensures.cases.0
@@ -80,7 +80,7 @@ returns-in-Comment-clause-tells c = λ state holds.
     let terms = terms_kept c.args.self.now in
     let part = c.args.part.now in
     let is = is-comment state.inside (sym holds.inside ∙ c.in-Comment.is) in
-    subst (λ said. Tells (asked_of c.args.self.now) said (Holds c.read_comment.new.self)
+    subst (λ said. TellsPart (asked_of_reader c.args.self.now) said (Holds c.read_comment.new.self)
     c.read_comment.result)
     (sym (says-letter terms state part c.in-Some.first.now c.in-Some.rest.now
     c.in-Some.ensures.cases.0
@@ -94,7 +94,7 @@ returns-in-Vector-clause-tells c = λ state holds.
     let terms = terms_kept c.args.self.now in
     let part = c.args.part.now in
     let is = is-vector state.inside c.in-Vector.value (sym holds.inside ∙ c.in-Vector.is) in
-    subst (λ said. Tells (asked_of c.args.self.now) said (Holds c.read_identifier.new.self)
+    subst (λ said. TellsPart (asked_of_reader c.args.self.now) said (Holds c.read_identifier.new.self)
     c.read_identifier.result)
     (sym (says-letter terms state part c.in-Some.first.now c.in-Some.rest.now
     c.in-Some.ensures.cases.0
@@ -108,7 +108,7 @@ returns-in-Number-clause-tells c = λ state holds.
     let terms = terms_kept c.args.self.now in
     let part = c.args.part.now in
     let is = is-number state.inside (sym holds.inside ∙ c.in-Number.is) in
-    subst (λ said. Tells (asked_of c.args.self.now) said (Holds c.pass_over.new.self)
+    subst (λ said. TellsPart (asked_of_reader c.args.self.now) said (Holds c.pass_over.new.self)
     c.pass_over.result)
     (sym (says-letter terms state part c.in-Some.first.now c.in-Some.rest.now
     c.in-Some.ensures.cases.0
@@ -123,7 +123,7 @@ returns-in-Section-clause-tells c = λ state holds.
     let part = c.args.part.now in
     let found = is-section state.inside c.in-Section.command
     (sym holds.inside ∙ c.in-Section.is) in
-    subst (λ said. Tells (asked_of c.args.self.now) said (Holds c.read_inside.new.self)
+    subst (λ said. TellsPart (asked_of_reader c.args.self.now) said (Holds c.read_inside.new.self)
     c.read_inside.result)
     (sym (says-letter terms state part c.in-Some.first.now c.in-Some.rest.now
     c.in-Some.ensures.cases.0
