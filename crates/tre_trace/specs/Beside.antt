@@ -5,6 +5,7 @@ use Rattle.tre_trace.specs.declared.segment.Segment.{Segment}
 use Rattle.tre_trace.specs.declared.planes.Planes.{Planes}
 use Rattle.tre_trace.specs.Planes.{bit_in}
 use Rattle.tre_trace.specs.Starts.{AreStarts}
+use Rattle.tre_trace.specs.Trace.{end_of}
 use Rattle.tre_trace.specs.Words.{AreWordsOf, HasRoom, words_at}
 
 -- What is kept beside these segments.
@@ -22,3 +23,10 @@ pub record HasRoomAt (place valuation : ℕ) (planes : Planes) : Type 0 where
   pub blank : place < length planes.blank * 64
   pub own : (number : ℕ) → number < 64
       → HasRoom place (bit_at valuation number) (words_at planes.own.items number)
+
+-- It is what is kept beside so many segments, which end at `end`.
+pub record AreBesideSome (count end : ℕ) (planes : Planes) : Type 0 where
+  pub segments : List Segment
+  pub same : count ≡ length segments
+  pub ends : end ≡ end_of 0 segments
+  pub beside : AreBeside segments planes

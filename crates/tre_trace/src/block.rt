@@ -44,7 +44,7 @@ pub(crate) fn word_of(block: &[Segment], union: u64, number: usize) -> u64
 }
 
 /// When the block ends that begins at `begin`.
-pub(crate) fn end_of(block: &[Segment], begin: u64) -> u64
+pub fn end_of(block: &[Segment], begin: u64) -> u64
     requires { end_of begin block.now ≤ TIME_MAX }
     ensures { result ≡ end_of begin block.now }
 {

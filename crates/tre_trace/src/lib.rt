@@ -24,7 +24,9 @@ mod reader;
 mod segment;
 mod trace;
 
+pub use block::end_of;
 pub use fault::{PushFault, TraceFault, TraceKind};
+pub use planes::Planes;
 pub use reader::{FED_MAX, TraceReader};
 pub use segment::{Segment, generated};
 pub use trace::{Start, Trace};

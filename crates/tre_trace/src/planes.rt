@@ -1,5 +1,5 @@
 // What a trace keeps beside its segments: planes of bits, and times.
-ghost use Rattle.std.specs.Prelude.{◌≡◌, ◌+◌, ◌*◌, ◌/◌, ◌%◌, ◌≤◌, ◌<◌, [], ◌∷◌, ◌++◌, ℕ, List, length, OnOk};
+ghost use Rattle.std.specs.Prelude.{◌≡◌, ◌+◌, ◌*◌, ◌/◌, ◌%◌, ◌≤◌, ◌<◌, [], ◌∷◌, ◌++◌, ℕ, List, length, slice_index, OnOk};
 ghost use Rattle.std.specs.Int.{bit_at};
 ghost use Rattle.tre_trace.specs.Trace.{end_of};
 ghost use Rattle.tre_trace.specs.Block.{IsUnion, IsToldIn};
@@ -17,7 +17,7 @@ pub(crate) const NUMBERS: usize = 64;
 
 /// Beside each block of 64 segments: when it begins, and a word for each proposition.
 #[derive(Debug, Drop)]
-pub(crate) struct Planes {
+pub struct Planes {
     /// When each block begins, in ticks.
     pub(crate) starts: Vec<u64>,
     /// Zeros: the words of each proposition that was never true.
@@ -27,11 +27,11 @@ pub(crate) struct Planes {
 }
 
 impl Planes {
-    ghost use Rattle.tre_trace.specs.Beside.{AreBeside, HasRoomAt};
+    ghost use Rattle.tre_trace.specs.Beside.{AreBeside, AreBesideSome, HasRoomAt};
     ghost use Rattle.tre_trace.specs.declared.segment.Segment.{Segment};
 
     /// What is beside no segments.
-    pub(crate) fn new(alloc: Global) -> Planes
+    pub fn new(alloc: Global) -> Planes
         ensures { AreBeside [] result }
     {
         Planes {
@@ -41,48 +41,48 @@ impl Planes {
         }
     }
 
-    /// Makes room for a segment behind these, which end at `end`.
-    pub(crate) fn make_room(
+    /// Makes room for a segment behind so many, which end at `end`.
+    pub fn make_room(
         &mut self,
-        segments: &[Segment],
+        count: usize,
         end: u64,
         valuation: u64,
     ) -> Result<(), AllocError>
-        requires beside { AreBeside segments.now self.old }
-        requires end { end ≡ end_of 0 segments.now }
-        ensures beside { AreBeside segments.now self.new }
-        ensures room { OnOk result (HasRoomAt (length segments.now) valuation self.new) }
+        requires { AreBesideSome count end self.old }
+        ensures beside { (segments : List Segment) → count ≡ length segments →
+            end ≡ end_of 0 segments → AreBeside segments self.old → AreBeside segments self.new }
+        ensures room { OnOk result (HasRoomAt count valuation self.new) }
     {
-        begin_block(&mut self.starts, segments, end)?;
-        self.blank.stretch(segments.len() / WORD_BITS + 1)?;
+        begin_block(&mut self.starts, count, end)?;
+        self.blank.stretch(count / WORD_BITS + 1)?;
         widen(&mut self.own, valuation)?;
-        make_room(&mut self.own, segments.len(), valuation)?;
+        make_room(&mut self.own, count, valuation)?;
         Ok(())
     }
 
-    /// Adds what is beside a block of segments, behind whole blocks that end at `end`.
-    pub(crate) fn add_block(
+    /// Adds what is beside a block of segments, behind so many in whole blocks, which end at `end`.
+    pub fn add_block(
         &mut self,
-        front: &[Segment],
+        count: usize,
         block: &[Segment],
         end: u64,
     ) -> Result<(), AllocError>
-        requires beside { AreBeside front.now self.old }
-        requires whole { length front.now % 64 ≡ 0 }
+        requires beside { AreBesideSome count end self.old }
+        requires whole { count % 64 ≡ 0 }
         requires few { length block.now ≤ 64 }
-        requires end { end ≡ end_of 0 front.now }
-        ensures { OnOk result (AreBeside (front.now ++ block.now) self.new) }
+        ensures { (front : List Segment) → count ≡ length front → end ≡ end_of 0 front →
+            AreBeside front self.old → OnOk result (AreBeside (front ++ block.now) self.new) }
     {
         let union = union_of(block);
-        begin_block(&mut self.starts, front, end)?;
-        self.blank.stretch(front.len() / WORD_BITS + 1)?;
+        begin_block(&mut self.starts, count, end)?;
+        self.blank.stretch(count / WORD_BITS + 1)?;
         widen(&mut self.own, union)?;
-        put_words(&mut self.own, front.len(), block, union)?;
+        put_words(&mut self.own, count, block, union)?;
         Ok(())
     }
 
     /// Writes the valuation of the segment at the place, behind all others.
-    pub(crate) fn write(&mut self, place: usize, valuation: u64)
+    pub fn write(&mut self, place: usize, valuation: u64)
         requires few { length self.old.own.items ≤ 64 }
         requires room { HasRoomAt place valuation self.old }
         ensures { (segments : List Segment) (segment : Segment) → length segments ≡ place →
@@ -92,13 +92,23 @@ impl Planes {
         write(&mut self.own, place, valuation);
     }
 
-    /// The bits of the proposition of this number on these segments.
-    pub(crate) fn plane(&self, number: u8, segments: &[Segment]) -> &[u64]
-        requires number { number < 64 }
-        requires beside { AreBeside segments.now self.now }
-        ensures { IsPlane number segments.now result.now }
+    /// When the block of this number begins.
+    #[inline(always)]
+    pub fn start(&self, block: usize) -> u64
+        requires { block < length self.now.starts.items }
+        ensures { result ≡ slice_index self.now.starts.items block }
     {
-        let words = segments.len().div_ceil(WORD_BITS);
+        self.starts[block]
+    }
+
+    /// The bits of the proposition of this number on so many segments, all of them.
+    pub fn plane(&self, number: u8, count: usize) -> &[u64]
+        requires number { number < 64 }
+        requires beside { (end : ℕ) × AreBesideSome count end self.now }
+        ensures { (segments : List Segment) → count ≡ length segments →
+            AreBeside segments self.now → IsPlane number segments result.now }
+    {
+        let words = count.div_ceil(WORD_BITS);
         let own = words_of(&self.own, usize::from(number));
         if own.is_empty() {
             return &self.blank.words()[..words];
@@ -117,14 +127,15 @@ fn words_of(own: &[Plane], number: usize) -> &[u64]
     }
 }
 
-/// Notes when the next block begins, where the segments fill all blocks so far.
-fn begin_block(starts: &mut Vec<u64>, segments: &[Segment], end: u64) -> Result<(), AllocError>
-    requires starts { AreStarts segments.now starts.old.items }
-    requires end { end ≡ end_of 0 segments.now }
-    ensures starts { AreStarts segments.now starts.new.items }
-    ensures room { OnOk result (length segments.now < length starts.new.items * 64) }
+/// Notes when the next block begins, where so many segments fill all blocks so far.
+fn begin_block(starts: &mut Vec<u64>, count: usize, end: u64) -> Result<(), AllocError>
+    requires { count ≤ length starts.old.items * 64 }
+    ensures starts { (segments : List Segment) → count ≡ length segments →
+        end ≡ end_of 0 segments → AreStarts segments starts.old.items →
+        AreStarts segments starts.new.items }
+    ensures room { OnOk result (count < length starts.new.items * 64) }
 {
-    if starts.len() <= segments.len() / WORD_BITS {
+    if starts.len() <= count / WORD_BITS {
         starts.push(end)?;
     }
     Ok(())

@@ -69,7 +69,7 @@ impl Trace {
         for block in 0..segments.len().div_ceil(WORD_BITS) {
             let from = block * WORD_BITS;
             let to = from + WORD_BITS.min(segments.len() - from);
-            planes.add_block(&segments[..from], &segments[from..to], end)?;
+            planes.add_block(from, &segments[from..to], end)?;
             end = end_of(&segments[from..to], end);
         }
         Ok(Trace {
@@ -114,8 +114,7 @@ impl Trace {
         ensures trace { IsTrace self.new.segments }
     {
         let place = self.segments.len();
-        self.planes
-            .make_room(&self.segments, self.end, segment.val)?;
+        self.planes.make_room(place, self.end, segment.val)?;
         self.segments.push(segment)?;
         self.planes.write(place, segment.val);
         self.end += segment.len;
@@ -211,6 +210,6 @@ impl Trace {
         requires { number < 64 }
         ensures { IsPlane number self.now.segments result.now }
     {
-        self.planes.plane(number, &self.segments)
+        self.planes.plane(number, self.segments.len())
     }
 }

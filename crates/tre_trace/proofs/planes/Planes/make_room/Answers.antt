@@ -5,25 +5,24 @@ use Rattle.tre_trace.proofs.Beside.{room_all}
 use Rattle.tre_trace.proofs.planes.Planes.make_room.Goals as goal
 
 pub returns-clause-beside : goal.returns-clause-beside
-returns-clause-beside c =
+returns-clause-beside c segments count end beside =
     let own = c.widen.new.own in
     let new = c.make_room.new.own in
     let same : length new ≡ own.len =
     omega (arith, c.make_room.auto.own, c.deref_mut.ensures.len) in
     let same_items : length new ≡ length own.items =
     rw c.deref_mut.ensures.value at c.make_room.auto.own in
-    let beside = c.requires.beside in
     record {
-      starts = c.begin_block.ensures.starts;
+      starts = c.begin_block.ensures.starts segments count end beside.starts;
       blank_enough = omega (arith, c.in_ok-stretch.ensures.ok);
       blank_bits = λ place. c.stretch.ensures.stretched.bits place ∙ beside.blank_bits place;
       few = rw (with_items_is own new same) (omega (arith, c.widen.ensures.few, same_items));
       own = λ number below.
           rw (with_items_is own new same)
-          (AreWordsOf-stretched number c.args.segments.now _ _
+          (AreWordsOf-stretched number segments _ _
           (rw (← c.widen.ensures.same number, ← c.deref_mut.ensures.value) at
           (beside.own number below))
-          (c.make_room.ensures.stretched number));
+          (rw count at (c.make_room.ensures.stretched number)));
     }
 
 pub returns-clause-room : goal.returns-clause-room
@@ -39,6 +38,6 @@ returns-clause-room c =
       blank = omega (arith, c.in_ok-stretch.ensures.ok);
       own =
           rw (with_items_is own new same)
-          (room_all new (length c.args.segments.now) c.args.valuation
+          (room_all new c.args.count c.args.valuation
           (rw (← same_items) at c.in_ok-widen.ensures.all) c.in_ok-make_room.ensures.ok);
     }

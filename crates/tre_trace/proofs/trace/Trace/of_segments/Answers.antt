@@ -1,5 +1,6 @@
-use Rattle.std.proofs.Common.{◌≡◌, ◌⊎◌, ◌+◌, ◌-◌, ◌*◌, ◌≤◌, ◌∙◌, inl, inr, length, take, drop, ap, arith}
+use Rattle.std.proofs.Common.{◌≡◌, ◌⊎◌, ◌+◌, ◌-◌, ◌*◌, ◌≤◌, ◌∙◌, inl, inr, length, take, drop, ap, sym, arith}
 use Rattle.std.proofs.lemmas.Bool.{cases_lt}
+use Rattle.std.proofs.lemmas.List.{length-take-le}
 use Rattle.tre_trace.specs.Trace.{end_of}
 use Rattle.tre_trace.proofs.Blocks.{take_in_two, take_within}
 use Rattle.tre_trace.proofs.Segments.{end_of-from, end_of-take-le}
@@ -11,7 +12,7 @@ end_of-end-requires c =
     let from = c.loop-block.block * 64 in
     let to = from + c.min.result in
     rw (
-      c.deref-in-loop-block-2.ensures.value,
+      c.deref-in-loop-block.ensures.value,
       c.loop-block.invariant.end,
       end_of-from 0 segments from to (omega arith),
     ) (omega (arith, end_of-take-le 0 segments to, c.requires.trace.in_time))
@@ -32,13 +33,14 @@ loop-block-preserved c =
     let whole = take_within segments next to (omega (arith, c.min.ensures)) reached in
     let two = take_in_two segments from to (omega arith) in
     let last : end_of c.loop-block.end (take (to - from) (drop from
-    c.deref-in-loop-block-2.result.now)) ≡ end_of 0 (take to segments) =
-    rw (c.deref-in-loop-block-2.ensures.value, c.loop-block.invariant.end)
+    c.deref-in-loop-block.result.now)) ≡ end_of 0 (take to segments) =
+    rw (c.deref-in-loop-block.ensures.value, c.loop-block.invariant.end)
     (end_of-from 0 segments from to (omega arith)) in
     record {
       beside =
           rw (← whole, ← two)
-          (rw (c.deref.ensures.value, c.deref-in-loop-block.ensures.value) at
-          c.in_ok-add_block.ensures);
+          (rw c.deref.ensures.value at (c.in_ok-add_block.ensures (take from segments)
+          (sym (length-take-le from segments (omega (arith, count)))) c.loop-block.invariant.end
+          c.loop-block.invariant.beside));
       end = c.end_of-end.ensures ∙ last ∙ ap (end_of 0) whole;
     }
