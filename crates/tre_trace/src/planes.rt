@@ -42,12 +42,7 @@ impl Planes {
     }
 
     /// Makes room for a segment behind so many, which end at `end`.
-    pub fn make_room(
-        &mut self,
-        count: usize,
-        end: u64,
-        valuation: u64,
-    ) -> Result<(), AllocError>
+    pub fn make_room(&mut self, count: usize, end: u64, valuation: u64) -> Result<(), AllocError>
         requires { AreBesideSome count end self.old }
         ensures beside { (segments : List Segment) → count ≡ length segments →
             end ≡ end_of 0 segments → AreBeside segments self.old → AreBeside segments self.new }
@@ -61,12 +56,7 @@ impl Planes {
     }
 
     /// Adds what is beside a block of segments, behind so many in whole blocks, which end at `end`.
-    pub fn add_block(
-        &mut self,
-        count: usize,
-        block: &[Segment],
-        end: u64,
-    ) -> Result<(), AllocError>
+    pub fn add_block(&mut self, count: usize, block: &[Segment], end: u64) -> Result<(), AllocError>
         requires beside { AreBesideSome count end self.old }
         requires whole { count % 64 ≡ 0 }
         requires few { length block.now ≤ 64 }
