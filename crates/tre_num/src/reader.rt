@@ -63,7 +63,7 @@ impl ColumnsReader {
 }
 
 impl TraceReader for ColumnsReader {
-    ghost ColumnTerms = { ColumnTerms };
+    ghost Terms = { ColumnTerms };
 
     ghost terms = { λ reader. reader.table };
 
