@@ -10,7 +10,7 @@ use std::str;
 use tre_state::{continues_name, front_len, is_name};
 
 /// A line, as far as a plan goes.
-#[derive(Clone, Copy, Debug)]
+#[derive(Clone, Copy)]
 pub(crate) enum Line<'a> {
     Silent,
     Bad,
@@ -59,7 +59,7 @@ fn blanks_len(bytes: &[u8]) -> usize
     ensures len { result ≡ prefix_len is_space_or_tab bytes.now }
     ensures within { result ≤ length bytes.now }
 {
-    front_len(bytes, is_space_or_tab)
+    front_len(bytes, is_blank)
 }
 
 // How many bytes of a name they begin with.
