@@ -24,15 +24,6 @@ use tre_zoneset::ZoneSet;
 // Only the edge behind the piece on which p holds makes it a match.
 const FALLING: &str = "(p;fall(p)) & p";
 
-// What is told at the second of two pieces of what has begun in the first.
-fn told(alloc: Global, text: &str, first: Length, second: Length) -> Result<ZoneSet, Fail> {
-    let pattern = pattern(alloc, text)?;
-    let first = first_piece(first);
-    let begun = fresh(alloc, pattern.expr(), &first)?;
-    let stepped = step(alloc, &begun, &next_piece(&first, second))?;
-    Ok(stepped.told)
-}
-
 const PAIRS: [(&str, Length, Length, (u64, u64), bool); 5] = [
     ("p", (2, 1), (3, 1), (0, 5), true),
     ("p", (2, 1), (3, 1), (0, 2), true),
@@ -42,22 +33,26 @@ const PAIRS: [(&str, Length, Length, (u64, u64), bool); 5] = [
     (FALLING, (2, 1), (1, 2), (0, 2), true),
 ];
 
-// Whether the pair is told at the second of two pieces.
+// Whether the pair is told at the second of two pieces, of what has begun in the first.
 fn tells(
     alloc: Global,
     text: &str,
     first: Length,
     second: Length,
-    pair: &(u64, u64),
+    pair: (u64, u64),
 ) -> Result<bool, Fail> {
-    let (a, b) = *pair;
-    Ok(told(alloc, text, first, second)?.holds(a, b, 1))
+    let pattern = pattern(alloc, text)?;
+    let first = first_piece(first);
+    let begun = fresh(alloc, pattern.expr(), &first)?;
+    let stepped = step(alloc, &begun, &next_piece(&first, second))?;
+    let (a, b) = pair;
+    Ok(stepped.told.holds(a, b, 1))
 }
 
 #[test]
 fn pairs_across_two_pieces(rt: HostRuntime) -> Result<(), Fail> {
     for (text, first, second, pair, want) in &PAIRS {
-        let tells = tells(rt.alloc(), *text, *first, *second, pair)?;
+        let tells = tells(rt.alloc(), *text, *first, *second, *pair)?;
         assert!(rt; tells == *want, "{text}");
     }
     Ok(())

@@ -14,16 +14,14 @@ pub(crate) type Lengths<'a> = &'a [(u64, u64)];
 
 /// The pattern that the text spells.
 pub(crate) fn pattern(alloc: Global, text: &str) -> Result<Pattern, Fail> {
-    let pattern = parse(alloc, text, 0)?;
-    Ok(pattern)
+    Ok(parse(alloc, text, 0)?)
 }
 
 /// The matches of the pattern of this text over a trace of these segments.
 pub(crate) fn found(alloc: Global, text: &str, lengths: Lengths) -> Result<ZoneSet, Fail> {
     let pattern = pattern(alloc, text)?;
     let trace = trace_of(alloc, lengths)?;
-    let found = matches(alloc, &pattern, &trace)?;
-    Ok(found)
+    Ok(matches(alloc, &pattern, &trace)?)
 }
 
 /// Whether the told pairs are the matches over the trace, on so many halves of ticks.

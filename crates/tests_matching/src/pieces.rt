@@ -10,7 +10,7 @@ ghost use Rattle.tre_syntax.specs.PatternTree.{NumbersBelow};
 use std::alloc::{AllocError, Global};
 use tre_advance::advance;
 use tre_edges::Piece;
-use tre_mark::{Mark, moments};
+use tre_mark::Mark;
 use tre_syntax::Expr;
 use tre_trace::Segment;
 use tre_zoneset::ZoneSet;
@@ -73,13 +73,6 @@ pub(crate) fn next_with(last: &Piece, length: Length, ev: u64) -> Piece
         segment: segment(length, ev),
         before: Some(last.segment.val),
     }
-}
-
-/// Every moment of the piece.
-pub(crate) fn moments_of(alloc: Global, piece: &Piece) -> Result<ZoneSet, AllocError>
-    ensures { IfOk result (λ all. EndBetween piece.now.begin (end_of_piece piece.now) all) }
-{
-    moments(alloc, piece.begin, piece.begin + piece.segment.len)
 }
 
 /// What is told where the mark goes over the piece and the pairs of the set enter.

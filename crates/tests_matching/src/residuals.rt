@@ -9,24 +9,27 @@ use tre_zone::Interval;
 use tre_zoneset::ZoneSet;
 
 /// The residuals of the rows, at the tick 2.
-#[derive(Clone, Copy, Debug)]
+#[derive(Clone, Copy)]
 enum Case {
-    /// The empty set, and then the pair (0,2).
+    /// The pair (0,2) in this form.
+    Whole(Form),
+    /// The pair (0,2) within so many ticks.
+    Lasting(u32),
+    /// The pair of the line, and then (1,2), or (1,2) and then `eps`.
+    Before(&'static str),
+}
+
+/// Forms around a residual.
+#[derive(Clone, Copy)]
+enum Form {
+    /// The empty set, and then the residual.
     AfterNone,
-    /// The pair (0,2), or nothing.
+    /// The residual, or nothing.
     Choice,
-    /// The pair (0,2), and nothing.
+    /// The residual, and nothing.
     Nothing,
-    /// The pair (0,2) within one tick.
-    Short,
-    /// The pair (0,2) within two ticks.
-    Long,
-    /// The pair (0,2), and then `eps`.
+    /// The residual, and then `eps`.
     Followed,
-    /// The pair (0,1), and then (1,2), or (1,2) and then `eps`.
-    Composed,
-    /// The pair (0,2), and then the same.
-    TooLate,
 }
 
 // Lines of one pair.
@@ -37,18 +40,35 @@ const FIRST: &str = "[0,0] [1,1] [1,1]";
 const SECOND: &str = "[1,1] [2,2] [1,1]";
 
 fn residual(alloc: Global, case: Case) -> Result<Residual, Fail> {
+    match case {
+        Case::Whole(form) => whole(alloc, form),
+        Case::Lasting(ticks) => lasting(alloc, ticks),
+        Case::Before(line) => before(alloc, line),
+    }
+}
+
+fn whole(alloc: Global, form: Form) -> Result<Residual, Fail> {
     let whole = here(alloc, WHOLE)?;
-    let residual = match case {
-        Case::AfterNone => Residual::pre(alloc, ZoneSet::new(alloc), whole)?,
-        Case::Choice => Residual::or(alloc, Residual::Nil, whole)?,
-        Case::Nothing => Residual::both(alloc, Residual::Nil, whole)?,
-        Case::Short => Residual::dur(alloc, whole, lasting(1)?)?,
-        Case::Long => Residual::dur(alloc, whole, lasting(2)?)?,
-        Case::Followed => Residual::post(alloc, whole, Expr::Eps)?,
-        Case::Composed => Residual::pre(alloc, set_of(alloc, &[FIRST])?, choice(alloc)?)?,
-        Case::TooLate => Residual::pre(alloc, set_of(alloc, &[WHOLE])?, choice(alloc)?)?,
+    let residual = match form {
+        Form::AfterNone => Residual::pre(alloc, ZoneSet::new(alloc), whole),
+        Form::Choice => Residual::or(alloc, Residual::Nil, whole),
+        Form::Nothing => Residual::both(alloc, Residual::Nil, whole),
+        Form::Followed => Residual::post(alloc, whole, Expr::Eps),
     };
-    Ok(residual)
+    Ok(residual?)
+}
+
+fn lasting(alloc: Global, ticks: u32) -> Result<Residual, Fail> {
+    let ticks = u64::from(ticks);
+    let interval = Interval::new(ticks, true, Some(ticks), true).ok_or("no interval")?;
+    let whole = here(alloc, WHOLE)?;
+    Ok(Residual::dur(alloc, whole, interval)?)
+}
+
+fn before(alloc: Global, line: &str) -> Result<Residual, Fail> {
+    let first = set_of(alloc, &[line])?;
+    let choice = choice(alloc)?;
+    Ok(Residual::pre(alloc, first, choice)?)
 }
 
 // The pair of the line, which ends now.
@@ -56,17 +76,11 @@ fn here(alloc: Global, line: &str) -> Result<Residual, Fail> {
     Ok(Residual::Here(set_of(alloc, &[line])?))
 }
 
-fn lasting(ticks: u32) -> Result<Interval, Fail> {
-    let ticks = u64::from(ticks);
-    let interval = Interval::new(ticks, true, Some(ticks), true).ok_or("no interval")?;
-    Ok(interval)
-}
-
 // The pair (1,2), which ends now, or that pair and then `eps`.
 fn choice(alloc: Global) -> Result<Residual, Fail> {
-    let begun = Residual::At(set_of(alloc, &[SECOND])?, Expr::Eps);
-    let choice = Residual::or(alloc, here(alloc, SECOND)?, begun)?;
-    Ok(choice)
+    let begun = set_of(alloc, &[SECOND])?;
+    let here = here(alloc, SECOND)?;
+    Ok(Residual::or(alloc, here, Residual::At(begun, Expr::Eps))?)
 }
 
 // Whether the residual at the tick 2 holds the pair of ticks, where nothing comes and the only
@@ -86,15 +100,15 @@ fn holds(residual: &Residual, a: u64, b: u64) -> bool {
     }
 }
 
-const FORMS: [(Case, bool); 8] = [
-    (Case::AfterNone, false),
-    (Case::Choice, true),
-    (Case::Nothing, false),
-    (Case::Short, false),
-    (Case::Long, true),
-    (Case::Followed, true),
-    (Case::Composed, true),
-    (Case::TooLate, false),
+const CASES: [(&str, Case, bool); 8] = [
+    ("nothing before it", Case::Whole(Form::AfterNone), false),
+    ("it or nothing", Case::Whole(Form::Choice), true),
+    ("it and nothing", Case::Whole(Form::Nothing), false),
+    ("too long", Case::Lasting(1), false),
+    ("as long", Case::Lasting(2), true),
+    ("nothing behind it", Case::Whole(Form::Followed), true),
+    ("two parts", Case::Before(FIRST), true),
+    ("parts that don't meet", Case::Before(WHOLE), false),
 ];
 
 // Whether the residual holds the pair (0,2) or not, as this says, and no other.
@@ -109,11 +123,15 @@ fn means(residual: &Residual, whole: bool) -> bool {
     true
 }
 
+fn is_as_said(alloc: Global, case: Case, whole: bool) -> Result<bool, Fail> {
+    let residual = residual(alloc, case)?;
+    Ok(means(&residual, whole))
+}
+
 #[test]
 fn constructors_mean_their_forms(rt: HostRuntime) -> Result<(), Fail> {
-    for (case, whole) in &FORMS {
-        let found = residual(rt.alloc(), *case)?;
-        assert!(rt; means(&found, *whole), "{case:?}");
+    for (name, case, whole) in &CASES {
+        assert!(rt; is_as_said(rt.alloc(), *case, *whole)?, "{name}");
     }
     Ok(())
 }

@@ -45,66 +45,51 @@ fn is_unchanged(session: &mut Session) -> Result<bool, PushFault> {
     Ok(zero && first && long && second && nodes)
 }
 
+fn refuses_unchanged(alloc: Global) -> Result<bool, Fail> {
+    let mut session = session(alloc, "p")?;
+    Ok(is_unchanged(&mut session)?)
+}
+
 #[test]
 fn a_refused_segment_changes_nothing(rt: HostRuntime) -> Result<(), Fail> {
-    let mut session = session(rt.alloc(), "p")?;
-    assert!(rt; is_unchanged(&mut session)?);
+    assert!(rt; refuses_unchanged(rt.alloc())?);
     Ok(())
 }
 
-// How many nodes are kept after each of the segments, which are ticks on which these hold in turn:
-// the fewest and the most.
+// How many nodes are kept after one more tick of this valuation.
+fn kept_behind(session: &mut Session, val: u64) -> Result<u64, PushFault> {
+    read(session, 1, val)?;
+    Ok(session.kept_nodes())
+}
+
+// How many nodes are kept after each of the ticks on which these hold in turn: the fewest and the
+// most.
 fn kept(alloc: Global, text: &str, vals: [u64; 2], turns: u16) -> Result<(u64, u64), Fail> {
     let mut session = session(alloc, text)?;
     let mut fewest = u64::MAX;
     let mut most = 0;
     for _ in 0..turns {
         for val in vals {
-            read(&mut session, 1, val)?;
-            fewest = fewest.min(session.kept_nodes());
-            most = most.max(session.kept_nodes());
+            let kept = kept_behind(&mut session, val)?;
+            fewest = fewest.min(kept);
+            most = most.max(kept);
         }
     }
     Ok((fewest, most))
 }
 
-// How many nodes are kept after so many ticks of p.
-fn kept_after(alloc: Global, text: &str, ticks: u16) -> Result<u64, Fail> {
-    let mut session = session(alloc, text)?;
-    for _ in 0..ticks {
-        read(&mut session, 1, 1)?;
-    }
-    Ok(session.kept_nodes())
-}
+/// Patterns, what holds on ticks in turn, how many turns there are, and the fewest and the most
+/// nodes that are kept after one of the ticks.
+const KEPT: [(&str, [u64; 2], u16, (u64, u64)); 3] = [
+    ("(p;q)*", [1, 2], 500, (4, 4)),
+    ("p % [0,3]", [1, 1], 50, (2, 2)),
+    ("p & p", [1, 1], 50, (3, 3)),
+];
 
 #[test]
 fn what_is_kept_stays_small(rt: HostRuntime) -> Result<(), Fail> {
-    assert!(rt; kept(rt.alloc(), "(p;q)*", [1, 2], 500)? == (4, 4));
-    assert!(rt; kept_after(rt.alloc(), "p % [0,3]", 100)? == 2);
-    assert!(rt; kept_after(rt.alloc(), "p & p", 100)? == 3);
-    Ok(())
-}
-
-// The most zones that a block has, of eight segments of one tick and two by turns on which p stays
-// true.
-fn most_zones(alloc: Global, text: &str) -> Result<usize, Fail> {
-    let mut session = session(alloc, text)?;
-    let mut most = 0;
-    for place in 0u64..8 {
-        let told = read(&mut session, 1 + place % 2, 1)?;
-        most = most.max(told.zones().len());
-    }
-    Ok(most)
-}
-
-/// The most zones that a block has, however long the stretch is: what began earlier and ends where
-/// the segment begins or later, and what begins in it.
-const ZONES: [(&str, usize); 3] = [("p", 2), ("true", 2), ("{p || q}", 2)];
-
-#[test]
-fn a_block_has_few_zones(rt: HostRuntime) -> Result<(), Fail> {
-    for (text, most) in &ZONES {
-        assert!(rt; most_zones(rt.alloc(), *text)? == *most, "{text}");
+    for (text, vals, turns, want) in &KEPT {
+        assert!(rt; kept(rt.alloc(), *text, *vals, *turns)? == *want, "{text}");
     }
     Ok(())
 }

@@ -1,11 +1,11 @@
 // Runs over devices whose counts of faults stand at their last value.
 ghost use Rattle.std.specs.Prelude.{◌-◌, ◌^◌};
 
-use crate::memory::{Device, FIRST_FAILS, SOUND, no_checks, sink_of, source_of, words_of};
+use crate::memory::{Device, FIRST_FAILS, SOUND, ended, sink_of, source_of};
 use std::alloc::{AllocError, Global};
 use std::test::Fail;
 use tre_io::{Failed, MemSink, MemSource, Sink, Source};
-use tre_tool::{Status, run_all};
+use tre_tool::Status;
 
 /// A source or a sink whose count of faults stands at its last value.
 #[derive(Drop)]
@@ -41,8 +41,6 @@ impl<K: Sink> Sink for AtLastCount<K> {
 
 /// Runs `p` over such devices.
 fn ended_at_last_count(alloc: Global, read: Device, write: Device) -> Result<Status, AllocError> {
-    let words = words_of(alloc, &["p"])?;
-    let mut checks = no_checks(alloc)?;
     let mut input = AtLastCount {
         inner: source_of(alloc, "-", b"3 p\n", read)?,
     };
@@ -52,18 +50,20 @@ fn ended_at_last_count(alloc: Global, read: Device, write: Device) -> Result<Sta
     let mut err = AtLastCount {
         inner: sink_of(alloc, SOUND)?,
     };
-    Ok(run_all(alloc, &words, &mut checks, &mut input, &mut out, &mut err))
+    ended(alloc, &mut input, &mut out, &mut err)
 }
+
+/// Devices of the input and of the output, and how the run ends.
+const RUNS: [(Device, Device, Status); 3] = [
+    (SOUND, SOUND, Status::Done),
+    (FIRST_FAILS, SOUND, Status::ReadFault),
+    (SOUND, FIRST_FAILS, Status::WriteFault),
+];
 
 #[test]
 fn counts_that_stand(rt: HostRuntime) -> Result<(), Fail> {
-    let rows = [
-        (SOUND, SOUND, Status::Done),
-        (FIRST_FAILS, SOUND, Status::ReadFault),
-        (SOUND, FIRST_FAILS, Status::WriteFault),
-    ];
-    for (read, write, status) in rows {
-        assert!(rt; ended_at_last_count(rt.alloc(), read, write)? == status);
+    for (read, write, status) in &RUNS {
+        assert!(rt; ended_at_last_count(rt.alloc(), *read, *write)? == *status);
     }
     Ok(())
 }

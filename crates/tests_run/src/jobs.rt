@@ -1,14 +1,9 @@
 // What the words of a command line ask for.
 
-use crate::memory::words_of;
+use crate::memory::lines_of;
 use std::alloc::Global;
 use std::test::Fail;
 use tre_words::{Format, Job, Mode, Word, read_words};
-
-fn job(alloc: Global, words: &[&str]) -> Result<Job, Fail> {
-    let job = read_words(alloc, &words_of(alloc, words)?)?;
-    Ok(job)
-}
 
 fn says(word: &Option<Word>, text: &str) -> bool {
     match word {
@@ -30,23 +25,6 @@ fn is_plain(job: &Job) -> bool {
         && job.expr.text() == "p"
 }
 
-#[test]
-fn a_pattern_alone(rt: HostRuntime) -> Result<(), Fail> {
-    assert!(rt; is_plain(&job(rt.alloc(), &["p"])?));
-    Ok(())
-}
-
-const STRIPS: [&str; 8] = [
-    "--normal",
-    "--scale",
-    "09",
-    "--max-zones",
-    "007",
-    "--minus",
-    "q",
-    "p",
-];
-
 fn is_difference(job: &Job) -> bool {
     matches!(job.mode, Mode::Offline)
         && job.scale == 9
@@ -56,32 +34,11 @@ fn is_difference(job: &Job) -> bool {
         && job.expr.text() == "p"
 }
 
-#[test]
-fn strips_of_a_difference(rt: HostRuntime) -> Result<(), Fail> {
-    assert!(rt; is_difference(&job(rt.alloc(), &STRIPS)?));
-    Ok(())
-}
-
-const COLUMNS: [&str; 6] = [
-    "--format",
-    "csv",
-    "--let",
-    "hot = temp >= 80",
-    "--show",
-    "hot",
-];
-
 fn is_of_columns(job: &Job) -> bool {
     matches!(job.mode, Mode::Show)
         && job.format == Format::Csv
         && says(&job.lets, "hot = temp >= 80")
         && job.minus.is_none()
-}
-
-#[test]
-fn columns_with_definitions(rt: HostRuntime) -> Result<(), Fail> {
-    assert!(rt; is_of_columns(&job(rt.alloc(), &COLUMNS)?));
-    Ok(())
 }
 
 fn is_made(job: &Job) -> bool {
@@ -93,19 +50,6 @@ fn is_made(job: &Job) -> bool {
         && job.lets.is_none()
         && job.expr.text() == ""
 }
-
-#[test]
-fn a_made_run(rt: HostRuntime) -> Result<(), Fail> {
-    for count in ["10000", "010000"] {
-        assert!(rt;
-            is_made(&job(rt.alloc(), &["--generate", count])?),
-            "{count}"
-        );
-    }
-    Ok(())
-}
-
-const WATCH: [&str; 6] = ["--watch", "--scale", "3", "bus.checks", "--input", "bus"];
 
 fn watched(mode: &Mode) -> &str {
     match mode {
@@ -123,8 +67,59 @@ fn is_watch(job: &Job) -> bool {
         && job.expr.text() == ""
 }
 
+// What jobs ask for.
+#[derive(Clone, Copy)]
+enum Kind {
+    // What a pattern alone asks for.
+    Plain,
+    // The strips of a difference.
+    Difference,
+    // A pattern over columns, with a definition.
+    Columns,
+    Made,
+    Watch,
+}
+
+fn is_of(job: &Job, kind: Kind) -> bool {
+    match kind {
+        Kind::Plain => is_plain(job),
+        Kind::Difference => is_difference(job),
+        Kind::Columns => is_of_columns(job),
+        Kind::Made => is_made(job),
+        Kind::Watch => is_watch(job),
+    }
+}
+
+fn ask_for(alloc: Global, words: &[String], kind: Kind) -> Result<bool, Fail> {
+    let job = read_words(alloc, words)?;
+    Ok(is_of(&job, kind))
+}
+
+// Words, each on a line, and what they ask for.
+const WORDS: [(&str, Kind); 6] = [
+    ("p", Kind::Plain),
+    (
+        "--normal\n--scale\n09\n--max-zones\n007\n--minus\nq\np",
+        Kind::Difference,
+    ),
+    (
+        "--format\ncsv\n--let\nhot = temp >= 80\n--show\nhot",
+        Kind::Columns,
+    ),
+    ("--generate\n10000", Kind::Made),
+    ("--generate\n010000", Kind::Made),
+    ("--watch\n--scale\n3\nbus.checks\n--input\nbus", Kind::Watch),
+];
+
+fn is_asked(alloc: Global, text: &str, kind: Kind) -> Result<bool, Fail> {
+    let words = lines_of(alloc, text)?;
+    ask_for(alloc, &words, kind)
+}
+
 #[test]
-fn a_watch(rt: HostRuntime) -> Result<(), Fail> {
-    assert!(rt; is_watch(&job(rt.alloc(), &WATCH)?));
+fn words_ask_for_jobs(rt: HostRuntime) -> Result<(), Fail> {
+    for (text, kind) in &WORDS {
+        assert!(rt; is_asked(rt.alloc(), *text, *kind)?, "{text}");
+    }
     Ok(())
 }

@@ -1,25 +1,9 @@
-// Runs over memory: what they are given, and what they write.
+// Runs over memory: what they are given, and what they must come to.
 ghost use Rattle.std.specs.Prelude.{◌≡◌, ◌<◌, IfOk, false};
 
 use std::alloc::{AllocError, Global};
-use tre_io::{MemSink, MemSource};
-use tre_tool::run_all;
-
-/// How a run over memory ended, and what it wrote.
-#[derive(Drop)]
-pub(crate) struct Ran {
-    pub(crate) code: u8,
-    pub(crate) out: Vec<u8>,
-    pub(crate) err: Vec<u8>,
-}
-
-impl Ran {
-    pub(crate) fn is(&self, code: u8, out: &str, err: &str) -> bool {
-        self.code == code
-            && self.out.as_slice() == out.as_bytes()
-            && self.err.as_slice() == err.as_bytes()
-    }
-}
+use tre_io::{MemSink, MemSource, Sink, Source};
+use tre_tool::{Status, run_all};
 
 /// How many bytes a call of a source or a sink takes at most, and the call that fails, or 0.
 #[derive(Clone, Copy)]
@@ -39,12 +23,13 @@ pub(crate) const FIRST_FAILS: Device = Device {
     fails: 1,
 };
 
-pub(crate) fn words_of(alloc: Global, words: &[&str]) -> Result<Vec<String>, AllocError> {
-    let mut all = Vec::new(alloc);
-    for word in words {
-        all.push(String::from_str(alloc, word)?)?;
+/// The lines of the text.
+pub(crate) fn lines_of(alloc: Global, text: &str) -> Result<Vec<String>, AllocError> {
+    let mut lines = Vec::new(alloc);
+    for line in text.lines() {
+        lines.push(String::from_str(alloc, line)?)?;
     }
-    Ok(all)
+    Ok(lines)
 }
 
 /// The number of the call that fails, if one does. A source without such a call is sound.
@@ -80,24 +65,40 @@ pub(crate) fn no_checks(alloc: Global) -> Result<MemSource, AllocError>
     source_of(alloc, "none", b"", FIRST_FAILS)
 }
 
-/// Runs over standard input with this text: the input and the output do what the devices say.
-pub(crate) fn ran_with(
+/// How a run for `p` ends.
+pub(crate) fn ended<S: Source, O: Sink, E: Sink>(
     alloc: Global,
-    words: &[&str],
+    input: &mut S,
+    out: &mut O,
+    err: &mut E,
+) -> Result<Status, AllocError>
+    requires { (S.told input.old).opened ≡ false }
+{
+    let words = lines_of(alloc, "p")?;
+    let mut checks = no_checks(alloc)?;
+    Ok(run_all(alloc, &words, &mut checks, input, out, err))
+}
+
+/// What a run must come to.
+#[derive(Clone, Copy)]
+pub(crate) struct Wanted<'a> {
+    pub(crate) code: u8,
+    pub(crate) out: &'a [u8],
+    pub(crate) err: &'a [u8],
+}
+
+/// Whether a run over standard input with this text comes to this: the input and the output do what
+/// the devices say.
+pub(crate) fn comes_to(
+    alloc: Global,
     text: &str,
     read: Device,
     write: Device,
-) -> Result<Ran, AllocError> {
-    let words = words_of(alloc, words)?;
-    let mut checks = no_checks(alloc)?;
+    want: Wanted,
+) -> Result<bool, AllocError> {
     let mut input = source_of(alloc, "-", text.as_bytes(), read)?;
     let mut out = sink_of(alloc, write)?;
     let mut err = sink_of(alloc, SOUND)?;
-    let status = run_all(alloc, &words, &mut checks, &mut input, &mut out, &mut err);
-    let code = status.code();
-    Ok(Ran {
-        code,
-        out: out.bytes().to_vec(alloc)?,
-        err: err.bytes().to_vec(alloc)?,
-    })
+    let status = ended(alloc, &mut input, &mut out, &mut err)?;
+    Ok(status.code() == want.code && out.bytes() == want.out && err.bytes() == want.err)
 }

@@ -9,7 +9,7 @@ use tre_define::Comparison::{AtLeast, AtMost, Greater, Less};
 use tre_num::{ColumnsReader, Definition, read_rows};
 use tre_state::Names;
 use tre_trace::TraceKind::Spent;
-use tre_trace::{Trace, TraceFault, TraceReader};
+use tre_trace::{Segment, Trace, TraceFault, TraceReader};
 
 // Names, and the column, the comparison and the number of each.
 const DEFINED: [(&str, &str, Comparison, i64); 6] = [
@@ -85,16 +85,23 @@ fn says(
     Ok(read(alloc, &mut reader, rows, most)?.as_str() == want)
 }
 
+// The same in pieces of all lengths.
+fn are_read(alloc: Global, names: &str, scale: u8, rows: &str, want: &str) -> Result<bool, Fail> {
+    for most in [1, 2, 7, 1000] {
+        if !says(alloc, names, scale, rows.as_bytes(), most, want)? {
+            return Ok(false);
+        }
+    }
+    Ok(true)
+}
+
 #[test]
 fn rows_are_read(rt: HostRuntime) -> Result<(), Fail> {
     for (names, scale, rows, want) in &ROWS {
-        for most in [1, 2, 7, 1000] {
-            let rows = rows.as_bytes();
-            assert!(rt;
-                says(rt.alloc(), *names, *scale, rows, most, *want)?,
-                "{want} {most}"
-            );
-        }
+        assert!(rt;
+            are_read(rt.alloc(), *names, *scale, *rows, *want)?,
+            "{rows}"
+        );
     }
     Ok(())
 }
@@ -131,10 +138,14 @@ fn size_of(alloc: Global, rows: &[u8]) -> Result<(usize, u64), Fail> {
     }
 }
 
+fn size_of_many(alloc: Global) -> Result<(usize, u64), Fail> {
+    let rows = many_rows(alloc)?;
+    size_of(alloc, &rows)
+}
+
 #[test]
 fn many_rows_are_read(rt: HostRuntime) -> Result<(), Fail> {
-    let rows = many_rows(rt.alloc())?;
-    assert!(rt; size_of(rt.alloc(), &rows)? == (300_001, 300_002));
+    assert!(rt; size_of_many(rt.alloc())? == (300_001, 300_002));
     Ok(())
 }
 
@@ -169,20 +180,28 @@ fn rows_in_memory_are_read_alike(rt: HostRuntime) -> Result<(), Fail> {
     Ok(())
 }
 
-#[test]
-fn reader_is_spent_once_it_is_finished(rt: HostRuntime) -> Result<(), Fail> {
-    let mut reader = reader(rt.alloc(), "hot", 0)?;
-    let mut segments = Vec::new(rt.alloc());
+// Whether the reader takes no more bytes once it is finished.
+fn is_spent_then(reader: &mut ColumnsReader, segments: &mut Vec<Segment>) -> bool {
     let spent = TraceFault {
         place: 0,
         kind: Spent,
     };
-    assert!(rt; feed(&mut reader, b"dt,temp\n1,80", &mut segments).is_ok());
-    assert!(rt; segments.is_empty());
-    assert!(rt; reader.finish(&mut segments) == Ok(0));
-    assert!(rt; feed(&mut reader, b"", &mut segments) == Err(spent));
-    assert!(rt; reader.finish(&mut segments) == Err(spent));
-    assert!(rt; segments.len() == 1);
-    assert!(rt; reader.fed() == 12);
+    feed(reader, b"dt,temp\n1,80", segments) == Ok(())
+        && segments.is_empty()
+        && reader.finish(segments) == Ok(0)
+        && feed(reader, b"", segments) == Err(spent)
+        && reader.finish(segments) == Err(spent)
+        && segments.len() == 1
+        && reader.fed() == 12
+}
+
+fn is_spent(alloc: Global) -> Result<bool, Fail> {
+    let mut reader = reader(alloc, "hot", 0)?;
+    Ok(is_spent_then(&mut reader, &mut Vec::new(alloc)))
+}
+
+#[test]
+fn reader_is_spent_once_it_is_finished(rt: HostRuntime) -> Result<(), Fail> {
+    assert!(rt; is_spent(rt.alloc())?);
     Ok(())
 }

@@ -4,25 +4,29 @@ use std::test::Fail;
 use tests_support::trace_of;
 use tre_trace::{PushFault, Segment, Trace, generated};
 
-#[test]
-fn refuses_in_order(rt: HostRuntime) {
-    let mut trace = Trace::new(rt.alloc());
+// Whether segments are refused that last no time or end too late, and others pushed.
+fn refuses_in_order(trace: &mut Trace) -> bool {
     let (long, short) = (Segment::plain(1 << 40, 1), Segment::plain(1, 0));
-    assert!(rt; trace.push(Segment::plain(0, 1)) == Err(PushFault::Zero));
-    assert!(rt; trace.push(long) == Ok(()));
-    assert!(rt; trace.push(short) == Err(PushFault::TooLate { end: 1099511627777 }));
-    assert!(rt; trace.end() == 1099511627776);
-    assert!(rt; trace.segments() == [long].as_slice());
+    let late = PushFault::TooLate { end: 1099511627777 };
+    trace.push(Segment::plain(0, 1)) == Err(PushFault::Zero)
+        && trace.push(long) == Ok(())
+        && trace.push(short) == Err(late)
+        && trace.end() == 1099511627776
+        && trace.segments() == [long].as_slice()
+}
+
+// Whether the longest segment is refused.
+fn refuses_the_longest(trace: &mut Trace) -> bool {
+    let late = PushFault::TooLate {
+        end: 18446744073709551615,
+    };
+    trace.push(Segment::plain(18446744073709551615, 0)) == Err(late) && trace.segments().is_empty()
 }
 
 #[test]
-fn refuses_the_longest_segment(rt: HostRuntime) {
-    let mut trace = Trace::new(rt.alloc());
-    let late = Err(PushFault::TooLate {
-        end: 18446744073709551615,
-    });
-    assert!(rt; trace.push(Segment::plain(18446744073709551615, 0)) == late);
-    assert!(rt; trace.segments().is_empty());
+fn faults_of_segments(rt: HostRuntime) {
+    assert!(rt; refuses_the_longest(&mut Trace::new(rt.alloc())));
+    assert!(rt; refuses_in_order(&mut Trace::new(rt.alloc())));
 }
 
 // A valuation for a place: proposition 2 is true on all, 0 on each third one, 5 on the one at the
@@ -73,41 +77,56 @@ fn planes_agree(trace: &Trace, count: u8) -> bool {
         && agree(trace.plane(63), 63, count)
 }
 
+fn do_planes_agree(alloc: Global, count: u8) -> Result<bool, PushFault> {
+    let trace = long_trace(alloc, count)?;
+    Ok(planes_agree(&trace, count))
+}
+
 #[test]
 fn planes_have_the_bits(rt: HostRuntime) -> Result<(), Fail> {
     for count in [0_u8, 1, 63, 64, 65, 127, 128, 129] {
-        let trace = long_trace(rt.alloc(), count)?;
-        assert!(rt; planes_agree(&trace, count), "{count}");
+        assert!(rt; do_planes_agree(rt.alloc(), count)?, "{count}");
     }
     Ok(())
 }
 
-// Whether each segment of the trace begins where those of two ticks before it end.
-fn starts_are_even(trace: &Trace) -> bool {
+// Whether there are so many segments, and each begins where those of two ticks before it end.
+fn starts_are_even(trace: &Trace, count: u8) -> bool {
     for place in 0..=trace.segments().len() {
         if trace.start_of(place) != 2 * place as u64 {
             return false;
         }
     }
-    true
+    trace.segments().len() == usize::from(count)
+}
+
+fn are_starts_even(alloc: Global, count: u8) -> Result<bool, PushFault> {
+    let trace = long_trace(alloc, count)?;
+    Ok(starts_are_even(&trace, count))
 }
 
 #[test]
 fn segments_start_where_others_end(rt: HostRuntime) -> Result<(), Fail> {
     for count in 0..130_u8 {
-        let trace = long_trace(rt.alloc(), count)?;
-        assert!(rt; trace.segments().len() == usize::from(count));
-        assert!(rt; starts_are_even(&trace), "{count}");
+        assert!(rt; are_starts_even(rt.alloc(), count)?, "{count}");
     }
     Ok(())
 }
 
+fn has_planes(trace: &Trace) -> bool {
+    trace.plane(0) == [5].as_slice()
+        && trace.plane(1) == [6].as_slice()
+        && trace.plane(2) == [0].as_slice()
+}
+
+fn are_planes(alloc: Global) -> Result<bool, PushFault> {
+    let trace = trace_of(alloc, &[(3, 0b01), (2, 0b10), (4, 0b11)])?;
+    Ok(has_planes(&trace))
+}
+
 #[test]
 fn planes_of_three_segments(rt: HostRuntime) -> Result<(), Fail> {
-    let trace = trace_of(rt.alloc(), &[(3, 0b01), (2, 0b10), (4, 0b11)])?;
-    assert!(rt; trace.plane(0) == [5].as_slice());
-    assert!(rt; trace.plane(1) == [6].as_slice());
-    assert!(rt; trace.plane(2) == [0].as_slice());
+    assert!(rt; are_planes(rt.alloc())?);
     Ok(())
 }
 
@@ -118,16 +137,28 @@ fn made_segments(rt: HostRuntime) {
     }
 }
 
+// Whether the trace has these events at its end.
+fn has_last(trace: &Trace, events: u64) -> bool {
+    trace.last_events() == events
+}
+
+// Whether the events at the end stay until a segment is pushed.
+fn are_last(trace: &mut Trace) -> bool {
+    trace.set_last(6);
+    let first = has_last(trace, 6)
+        && trace.push(Segment::plain(2, 0)) == Ok(())
+        && has_last(trace, 0);
+    trace.set_last(5);
+    first && trace.push(Segment::plain(0, 1)) == Err(PushFault::Zero) && has_last(trace, 5)
+}
+
+fn are_last_events(alloc: Global) -> Result<bool, PushFault> {
+    let mut trace = trace_of(alloc, &[(3, 1)])?;
+    Ok(has_last(&trace, 0) && are_last(&mut trace))
+}
+
 #[test]
 fn last_events_end_with_the_next_segment(rt: HostRuntime) -> Result<(), Fail> {
-    let mut trace = trace_of(rt.alloc(), &[(3, 1)])?;
-    assert!(rt; trace.last_events() == 0);
-    trace.set_last(6);
-    assert!(rt; trace.last_events() == 6);
-    trace.push(Segment::plain(2, 0))?;
-    assert!(rt; trace.last_events() == 0);
-    trace.set_last(5);
-    assert!(rt; trace.push(Segment::plain(0, 1)) == Err(PushFault::Zero));
-    assert!(rt; trace.last_events() == 5);
+    assert!(rt; are_last_events(rt.alloc())?);
     Ok(())
 }

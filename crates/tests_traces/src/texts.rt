@@ -1,6 +1,6 @@
 // Tests of tre_text.
 use crate::reading::{feed, read};
-use std::alloc::Global;
+use std::alloc::{AllocError, Global};
 use std::test::Fail;
 use tests_support::names_of;
 use tre_text::{LineReader, TextReader};
@@ -16,48 +16,74 @@ fn fault<T>(place: u64, kind: TraceKind) -> Result<T, TraceFault> {
     Err(TraceFault { place, kind })
 }
 
-#[test]
-fn segments_come_with_their_line_ends(rt: HostRuntime) -> Result<(), Fail> {
-    let mut reader = reader(rt.alloc(), "p", "")?;
-    let mut segments = Vec::new(rt.alloc());
-    assert!(rt; feed(&mut reader, b"2 p", &mut segments).is_ok());
-    assert!(rt; segments.is_empty());
-    assert!(rt; feed(&mut reader, b"\n3", &mut segments).is_ok());
-    assert!(rt; segments.as_slice() == [Segment::plain(2, 1)].as_slice());
-    assert!(rt; reader.finish(&mut segments).is_ok());
+// Whether each segment comes with the end of its line, or that of the bytes.
+fn come_with_line_ends(reader: &mut TextReader, segments: &mut Vec<Segment>) -> bool {
     let both = [Segment::plain(2, 1), Segment::plain(3, 0)];
-    assert!(rt; segments.as_slice() == both.as_slice());
-    Ok(())
+    feed(reader, b"2 p", segments) == Ok(())
+        && segments.is_empty()
+        && feed(reader, b"\n3", segments) == Ok(())
+        && segments.as_slice() == &both[..1]
+        && reader.finish(segments) == Ok(0)
+        && segments.as_slice() == both.as_slice()
 }
 
-#[test]
-fn a_finished_reader_is_spent(rt: HostRuntime) -> Result<(), Fail> {
-    let mut reader = reader(rt.alloc(), "p", "")?;
-    let mut segments = Vec::new(rt.alloc());
-    assert!(rt; feed(&mut reader, b"2 p\n3", &mut segments).is_ok());
-    assert!(rt; reader.finish(&mut segments).is_ok());
-    assert!(rt; feed(&mut reader, b"1\n", &mut segments) == fault(0, Spent));
-    assert!(rt; reader.finish(&mut segments) == fault(0, Spent));
-    assert!(rt; segments.len() == 2);
-    assert!(rt; reader.fed() == 5);
-    Ok(())
+// Whether the reader takes no more bytes once it is finished.
+fn is_spent_then(reader: &mut TextReader, segments: &mut Vec<Segment>) -> bool {
+    feed(reader, b"2 p\n3", segments) == Ok(())
+        && reader.finish(segments) == Ok(0)
+        && feed(reader, b"1\n", segments) == fault(0, Spent)
+        && reader.finish(segments) == fault(0, Spent)
+        && segments.len() == 2
+        && reader.fed() == 5
 }
 
 // As many spaces as a line may have bytes.
-fn spaces(alloc: Global) -> Result<Vec<u8>, Fail> {
+fn spaces(alloc: Global) -> Result<Vec<u8>, AllocError> {
     let mut spaces = Vec::new(alloc);
     spaces.resize(65_536, b' ')?;
     Ok(spaces)
 }
 
+// Whether so many bytes of a line are read, and no more.
+fn refuses_more(reader: &mut TextReader, line: &[u8], segments: &mut Vec<Segment>) -> bool {
+    feed(reader, line, segments) == Ok(())
+        && feed(reader, b" ", segments) == fault(1, LineTooLong)
+        && feed(reader, b"\n", segments) == fault(0, Spent)
+        && segments.is_empty()
+}
+
+// What is tried of a new reader.
+#[derive(Clone, Copy)]
+enum Trial {
+    LineEnds,
+    Finished,
+    LongLine,
+}
+
+fn is_as_tried(alloc: Global, trial: Trial, reader: &mut TextReader) -> Result<bool, AllocError> {
+    match trial {
+        Trial::LineEnds => Ok(come_with_line_ends(reader, &mut Vec::new(alloc))),
+        Trial::Finished => Ok(is_spent_then(reader, &mut Vec::new(alloc))),
+        Trial::LongLine => Ok(refuses_more(reader, &spaces(alloc)?, &mut Vec::new(alloc))),
+    }
+}
+
+fn holds(alloc: Global, trial: Trial) -> Result<bool, Fail> {
+    let mut reader = reader(alloc, "p", "")?;
+    Ok(is_as_tried(alloc, trial, &mut reader)?)
+}
+
+const TRIALS: [(&str, Trial); 3] = [
+    ("segments come with their line ends", Trial::LineEnds),
+    ("a finished reader is spent", Trial::Finished),
+    ("a line may have no more bytes", Trial::LongLine),
+];
+
 #[test]
-fn a_line_may_have_no_more_bytes(rt: HostRuntime) -> Result<(), Fail> {
-    let mut reader = reader(rt.alloc(), "p", "")?;
-    let mut segments = Vec::new(rt.alloc());
-    assert!(rt; feed(&mut reader, &spaces(rt.alloc())?, &mut segments).is_ok());
-    assert!(rt; feed(&mut reader, b" ", &mut segments) == fault(1, LineTooLong));
-    assert!(rt; feed(&mut reader, b"\n", &mut segments) == fault(0, Spent));
-    assert!(rt; segments.is_empty());
+fn readers_do_as_they_should(rt: HostRuntime) -> Result<(), Fail> {
+    for (name, trial) in &TRIALS {
+        assert!(rt; holds(rt.alloc(), *trial)?, "{name}");
+    }
     Ok(())
 }
 
@@ -78,12 +104,16 @@ fn are_read(alloc: Global, lines: &[u8], most: usize) -> Result<bool, Fail> {
     Ok(is_whole && said.starts_with("1:1 1:0 1:1 ") && said.ends_with(" 1:1 1:0 Zero 40001"))
 }
 
+fn are_many_read(alloc: Global, most: usize) -> Result<bool, Fail> {
+    let lines = many_lines(alloc)?;
+    are_read(alloc, &lines, most)
+}
+
 // A run gives no piece of more than 65,536 bytes.
 #[test]
 fn a_piece_may_have_more_bytes_than_a_line(rt: HostRuntime) -> Result<(), Fail> {
-    let lines = many_lines(rt.alloc())?;
     for most in [200_000, 65_536, 5] {
-        assert!(rt; are_read(rt.alloc(), &lines, most)?, "{most}");
+        assert!(rt; are_many_read(rt.alloc(), most)?, "{most}");
     }
     Ok(())
 }

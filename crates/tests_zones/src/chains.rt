@@ -91,31 +91,42 @@ fn long_steps(alloc: Global) -> Result<ZoneSet, Fail> {
     Ok(steps)
 }
 
+// Whether their chains are those of the lines.
+fn are_chains(alloc: Global, lines: &[&str]) -> Result<bool, Fail> {
+    let steps = long_steps(alloc)?;
+    let chains = closure(alloc, &steps, 0, TIME_MAX)?;
+    Ok(has_lines(&chains, lines))
+}
+
 // Rounds are few where durations lie between two different ends: without the limit they would
 // be as many as steps fit into the time.
 #[test]
 fn powers(rt: HostRuntime) -> Result<(), Fail> {
-    let chains = closure(rt.alloc(), &long_steps(rt.alloc())?, 0, TIME_MAX)?;
     let lines = [
         "[0,1099511627776] [0,1099511627776] [0,0]",
         "[0,1099511627772] [4,1099511627776] [4,6)",
         "[0,1099511627768] [8,1099511627776] [8,12)",
         "[0,1099511627764] [12,1099511627776] [12,1099511627776]",
     ];
-    assert!(rt; has_lines(&chains, &lines));
+    assert!(rt; are_chains(rt.alloc(), &lines)?);
     Ok(())
+}
+
+// Whether a step and then any more, of two steps, are those of the lines.
+fn are_longer(alloc: Global, lines: &[&str]) -> Result<bool, Fail> {
+    let steps = set_of(alloc, &["[0,0] [1,1] [1,1]", "[1,1] [2,2] [1,1]"])?;
+    let any = closure(alloc, &steps, 0, 2)?;
+    Ok(has_lines(&compose_sets(alloc, &steps, &any)?, lines))
 }
 
 // A step and then any more, of two steps that touch: the instants stand last among the chains.
 #[test]
 fn lengthened(rt: HostRuntime) -> Result<(), Fail> {
-    let steps = set_of(rt.alloc(), &["[0,0] [1,1] [1,1]", "[1,1] [2,2] [1,1]"])?;
-    let any = closure(rt.alloc(), &steps, 0, 2)?;
     let lines = [
         "[0,0] [1,1] [1,1]",
         "[0,0] [2,2] [2,2]",
         "[1,1] [2,2] [1,1]",
     ];
-    assert!(rt; has_lines(&compose_sets(rt.alloc(), &steps, &any)?, &lines));
+    assert!(rt; are_longer(rt.alloc(), &lines)?);
     Ok(())
 }

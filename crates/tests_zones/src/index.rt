@@ -72,12 +72,24 @@ fn finds(index: &RowIndex<Row>, rows: &[Row]) -> bool {
     true
 }
 
+// Whether an index into which rows are pushed finds them.
+fn finds_pushed(alloc: Global, order: Order) -> Result<bool, AllocError> {
+    let rows = rows(alloc, order)?;
+    let index = pushed(alloc, &rows)?;
+    Ok(finds(&index, &rows))
+}
+
+// Whether an index of a list of rows finds them.
+fn finds_listed(alloc: Global, order: Order) -> Result<bool, AllocError> {
+    let rows = rows(alloc, order)?;
+    let index = RowIndex::of_list(alloc, rows.clone()?)?;
+    Ok(finds(&index, &rows))
+}
+
 #[test]
 fn rows_in_any_order(rt: HostRuntime) -> Result<(), Fail> {
     for order in [Order::Time, Order::Reverse, Order::Random] {
-        let rows = rows(rt.alloc(), order)?;
-        assert!(rt; finds(&pushed(rt.alloc(), &rows)?, &rows));
-        assert!(rt; finds(&RowIndex::of_list(rt.alloc(), rows.clone()?)?, &rows));
+        assert!(rt; finds_pushed(rt.alloc(), order)? && finds_listed(rt.alloc(), order)?);
     }
     Ok(())
 }
@@ -91,23 +103,28 @@ fn stretches(alloc: Global) -> Result<ZoneIndex, AllocError> {
     Ok(index)
 }
 
+// Whether the index finds the stretches that touch others.
+fn finds_touching(index: &ZoneIndex) -> bool {
+    let (early, late) = (Zone::span(1, 3), Zone::span(8, 9));
+    index.next_at_least(1, &key_after(&early)) == Some(1)
+        && index.next_at_least(2, &key_after(&early)).is_none()
+        && index.next_at_least(0, &key_before(&late)) == Some(2)
+        && index.next_at_least(0, &key_meeting(&Zone::span(7, 9))) == Some(2)
+        && index
+            .next_at_least(0, &key_meeting(&Zone::span(9, 10)))
+            .is_none()
+        && index.includes(&Zone::span(6, 7))
+        && !index.includes(&early)
+}
+
+fn are_found(alloc: Global) -> Result<bool, AllocError> {
+    let index = stretches(alloc)?;
+    Ok(finds_touching(&index) && index.into_items().len() == 3)
+}
+
 #[test]
 fn zones_that_touch(rt: HostRuntime) -> Result<(), Fail> {
-    let index = stretches(rt.alloc())?;
-    let (early, late) = (Zone::span(1, 3), Zone::span(8, 9));
-    let table = [
-        (1, key_after(&early), Some(1)),
-        (2, key_after(&early), None),
-        (0, key_before(&late), Some(2)),
-        (0, key_meeting(&Zone::span(7, 9)), Some(2)),
-        (0, key_meeting(&Zone::span(9, 10)), None),
-    ];
-    for (from, key, place) in &table {
-        assert!(rt; index.next_at_least(*from, key) == *place);
-    }
-    assert!(rt; index.includes(&Zone::span(6, 7)));
-    assert!(rt; !index.includes(&early));
-    assert!(rt; index.into_items().len() == 3);
+    assert!(rt; are_found(rt.alloc())?);
     Ok(())
 }
 
@@ -120,15 +137,30 @@ fn has_stretch(rows: &[Row], near: usize, key: &Row, from: usize, to: usize) -> 
     stretch.from == from && stretch.to == to
 }
 
-#[test]
-fn found_stretch(rt: HostRuntime) -> Result<(), Fail> {
-    let mut rows = rows(rt.alloc(), Order::Time)?;
+// Whether the stretches of rows in turn are found, from many places.
+fn finds_stretches(rows: &[Row]) -> bool {
     let key = key_after(&Zone::span(10, 11));
     for near in [0, 7, 8, 9, 600, 700] {
-        assert!(rt; has_stretch(&rows, near, &key, 8, 12), "from {near}");
+        if !has_stretch(rows, near, &key, 8, 12) {
+            return false;
+        }
     }
-    assert!(rt; has_stretch(&rows, 0, &key_after(&Zone::span(700, 701)), 601, 601));
+    has_stretch(rows, 0, &key_after(&Zone::span(700, 701)), 601, 601)
+}
+
+// Whether no more rows stand in turn once an early one is pushed behind them.
+fn counts_in_turn(rows: &mut Vec<Row>) -> Result<bool, AllocError> {
     rows.push(Zone::span(5, 6).row())?;
-    assert!(rt; count_in_turn(&rows) == 601 && !are_in_turn(&rows));
+    Ok(count_in_turn(rows) == 601 && !are_in_turn(rows))
+}
+
+fn are_found_in_turn(alloc: Global) -> Result<bool, AllocError> {
+    let mut rows = rows(alloc, Order::Time)?;
+    Ok(finds_stretches(&rows) && counts_in_turn(&mut rows)?)
+}
+
+#[test]
+fn found_stretch(rt: HostRuntime) -> Result<(), Fail> {
+    assert!(rt; are_found_in_turn(rt.alloc())?);
     Ok(())
 }

@@ -27,6 +27,19 @@ fn is(set: &ZoneSet, lines: &[&str]) -> bool {
     are_lines(set.zones(), lines)
 }
 
+// Whether adding the zone of the second line to the set of the first answers this and leaves those.
+fn adds(
+    alloc: Global,
+    first: &str,
+    second: &str,
+    answer: bool,
+    lines: &[&str],
+) -> Result<bool, Fail> {
+    let zone = zone_of(second).ok_or("no zone")?;
+    let mut set = set_of(alloc, &[first])?;
+    Ok(set.add(zone)? == answer && is(&set, lines))
+}
+
 #[test]
 fn added(rt: HostRuntime) -> Result<(), Fail> {
     let table = [
@@ -35,23 +48,33 @@ fn added(rt: HostRuntime) -> Result<(), Fail> {
         (EARLY, LATE, true, [EARLY, LATE].as_slice()),
     ];
     for (first, second, answer, lines) in table {
-        let mut set = set_of(rt.alloc(), &[first])?;
-        let zone = zone_of(second).ok_or("no zone")?;
-        assert!(rt; set.add(zone)? == answer);
-        assert!(rt; is(&set, lines));
+        assert!(rt;
+            adds(rt.alloc(), first, second, answer, lines)?,
+            "{first} {second}"
+        );
     }
     Ok(())
 }
 
+// Whether what both sets hold is that of the lines.
+fn meet(alloc: Global, one: &[&str], other: &[&str], lines: &[&str]) -> Result<bool, Fail> {
+    let one = set_of(alloc, one)?;
+    let other = set_of(alloc, other)?;
+    Ok(is(&one.meet(&other)?, lines))
+}
+
+// Whether what the set holds up to this end is that of the lines.
+fn ends(alloc: Global, zone: &str, end: u32, lines: &[&str]) -> Result<bool, Fail> {
+    let set = set_of(alloc, &[zone])?;
+    Ok(is(&set.ending_at(u64::from(end))?, lines))
+}
+
 #[test]
 fn met_and_ended(rt: HostRuntime) -> Result<(), Fail> {
-    let early = set_of(rt.alloc(), &[EARLY])?;
-    let late = set_of(rt.alloc(), &[LATE])?;
-    assert!(rt; is(&early.meet(&late)?, &["[1,2) (1,2] (0,1]"]));
-    assert!(rt; early.meet(&ZoneSet::new(rt.alloc()))?.is_empty());
-    let long = set_of(rt.alloc(), &["[0,3) (0,3] (0,3]"])?;
-    assert!(rt; is(&long.ending_at(2)?, &["[0,2) [2,2] (0,2]"]));
-    assert!(rt; long.ending_at(4)?.is_empty());
+    assert!(rt; meet(rt.alloc(), &[EARLY], &[LATE], &["[1,2) (1,2] (0,1]"])?);
+    assert!(rt; meet(rt.alloc(), &[EARLY], &[], &[])?);
+    assert!(rt; ends(rt.alloc(), "[0,3) (0,3] (0,3]", 2, &["[0,2) [2,2] (0,2]"])?);
+    assert!(rt; ends(rt.alloc(), "[0,3) (0,3] (0,3]", 4, &[])?);
     Ok(())
 }
 
@@ -70,6 +93,12 @@ fn within(rt: HostRuntime) -> Result<(), Fail> {
     Ok(())
 }
 
+// Whether the zones of a list of lines are gathered as these.
+fn gathers(alloc: Global, zones: &[&str], lines: &[&str]) -> Result<bool, Fail> {
+    let zones = list(alloc, zones)?;
+    Ok(is(&ZoneSet::of_zones(alloc, zones)?, lines))
+}
+
 // Lists of one begin, of which the ends rise or not, and lists that are mixed.
 #[test]
 fn gathered(rt: HostRuntime) -> Result<(), Fail> {
@@ -79,8 +108,7 @@ fn gathered(rt: HostRuntime) -> Result<(), Fail> {
         ([EARLY, LATE, LATE], [EARLY, LATE]),
     ];
     for (zones, lines) in &table {
-        let zones = list(rt.alloc(), zones)?;
-        assert!(rt; is(&ZoneSet::of_zones(rt.alloc(), zones)?, lines));
+        assert!(rt; gathers(rt.alloc(), zones, lines)?);
     }
     Ok(())
 }
@@ -117,23 +145,39 @@ const MIXED: [&str; 10] = [
 #[test]
 fn lasting_longer(rt: HostRuntime) -> Result<(), Fail> {
     for lines in [RISING.as_slice(), &MIXED[..9], MIXED.as_slice()] {
-        let zones = list(rt.alloc(), lines)?;
-        assert!(rt; is(&ZoneSet::of_zones(rt.alloc(), zones)?, &RISING));
+        assert!(rt; gathers(rt.alloc(), lines, &RISING)?);
     }
     Ok(())
 }
 
+// Whether a copy of the set has these lines.
+fn is_copied(set: &ZoneSet, lines: &[&str]) -> Result<bool, AllocError> {
+    Ok(is(&set.try_clone()?, lines))
+}
+
+fn is_tick(set: &ZoneSet) -> bool {
+    is(set, &[TICK]) && set.holds(0, 1, 1)
+}
+
+fn is_both(set: &ZoneSet) -> bool {
+    is(set, &[EARLY, LATE]) && set.holds(5, 6, 2) && !set.holds(1, 5, 2)
+}
+
+fn joins(joined: &mut ZoneSet, both: &ZoneSet) -> Result<bool, Fail> {
+    let first = is_tick(joined) && is_copied(both, &[EARLY, LATE])?;
+    joined.join(both)?;
+    Ok(first && is_both(joined))
+}
+
+fn are_joined(alloc: Global) -> Result<bool, Fail> {
+    let both = set_of(alloc, &[EARLY, LATE])?;
+    let mut joined = set_of(alloc, &[TICK])?;
+    joins(&mut joined, &both)
+}
+
 #[test]
 fn joined(rt: HostRuntime) -> Result<(), Fail> {
-    let both = set_of(rt.alloc(), &[EARLY, LATE])?;
-    assert!(rt; is(&both.try_clone()?, &[EARLY, LATE]));
-    let mut joined = set_of(rt.alloc(), &[TICK])?;
-    assert!(rt; is(&joined, &[TICK]));
-    assert!(rt; joined.holds(0, 1, 1));
-    joined.join(&both)?;
-    assert!(rt; is(&joined, &[EARLY, LATE]));
-    assert!(rt; joined.holds(5, 6, 2));
-    assert!(rt; !joined.holds(1, 5, 2));
+    assert!(rt; are_joined(rt.alloc())?);
     Ok(())
 }
 

@@ -73,11 +73,23 @@ fn of_touching(rt: HostRuntime) -> Result<(), Fail> {
     Ok(())
 }
 
+// Whether the zones of both sets become those of the lines.
+fn are_one(alloc: Global, one: &[&str], other: &[&str], lines: &[&str]) -> Result<bool, Fail> {
+    let one = set_of(alloc, one)?;
+    let other = set_of(alloc, other)?;
+    let both = ZoneSet::of_both(alloc, &one, &other)?;
+    Ok(are_lines(both.zones(), lines))
+}
+
 #[test]
 fn of_both(rt: HostRuntime) -> Result<(), Fail> {
-    let early = set_of(rt.alloc(), &[EARLY, LATE])?;
-    let middle = set_of(rt.alloc(), &[MIDDLE])?;
-    let both = ZoneSet::of_both(rt.alloc(), &early, &middle)?;
-    assert!(rt; are_lines(both.zones(), &["[0,3) [3,3] (0,3]"]));
+    assert!(rt;
+        are_one(
+            rt.alloc(),
+            &[EARLY, LATE],
+            &[MIDDLE],
+            &["[0,3) [3,3] (0,3]"]
+        )?
+    );
     Ok(())
 }

@@ -8,7 +8,7 @@ use crate::part::Part;
 use tre_decimal::read_numeral;
 
 /// The numbers of the leftmost and of the rightmost bit.
-#[derive(Clone, Copy, Debug, PartialEq, Eq)]
+#[derive(Clone, Copy)]
 pub(crate) struct Range {
     pub left: i32,
     pub right: i32,

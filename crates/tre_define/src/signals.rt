@@ -88,7 +88,7 @@ fn definition_of<'a>(
 }
 
 // The parts of a definition, where they stand in its text.
-#[derive(Clone, Copy, Debug)]
+#[derive(Clone, Copy)]
 struct Parts<'a> {
     pub name: &'a str,
     pub signal: &'a str,

@@ -8,7 +8,7 @@ use tre_trace::Trace;
 use tre_zoneset::ZoneSet;
 
 /// How many probes count, and of how many of them two things are so.
-#[derive(Clone, Copy, Debug)]
+#[derive(Clone, Copy)]
 pub struct Tally {
     pub probes: u64,
     /// The zones of the whole match hold it.
@@ -18,7 +18,7 @@ pub struct Tally {
 }
 
 /// A pair of times, both in half ticks.
-#[derive(Clone, Copy, Debug)]
+#[derive(Clone, Copy)]
 struct Probe {
     begin: u64,
     end: u64,

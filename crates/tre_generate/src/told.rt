@@ -14,7 +14,8 @@ use tre_zoneset::ZoneSet;
 /// The zones that a session of the pattern tells of the segments of the trace, one segment after
 /// another. The end isn't told.
 pub fn told_zones(alloc: Global, pattern: Pattern, trace: &Trace) -> Result<ZoneSet, AllocError>
-    ensures { IfOk result (λ zones. MatchesAreTold (pattern_tree pattern) trace.now.segments zones) }
+    ensures { IfOk result (λ zones.
+        MatchesAreTold (pattern_tree pattern) trace.now.segments zones) }
 {
     let mut session = Session::new(alloc, pattern)?;
     let mut zones = Vec::new(alloc);

@@ -9,7 +9,7 @@ use std::alloc::AllocError;
 use tre_zone::Zone;
 
 /// A zone that shares no pair with the taken zones before the place `from`.
-#[derive(Clone, Copy, Debug)]
+#[derive(Clone, Copy)]
 pub(crate) struct Part {
     pub zone: Zone,
     pub from: usize,

@@ -6,7 +6,7 @@ ghost use Rattle.tre_minus.specs.Sides.{missing_of, meeting_of};
 use tre_zone::{Bound, ZoneBounds};
 
 /// One of the six bounds of a zone.
-#[derive(Clone, Copy, Debug, PartialEq, Eq)]
+#[derive(Clone, Copy)]
 pub(crate) enum Side {
     BeginLow,
     BeginHigh,

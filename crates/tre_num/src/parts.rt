@@ -11,7 +11,7 @@ use tre_define::{Comparison, behind_equals, name_in, next_word, sign_in, skip_sp
 use tre_state::front_len;
 
 /// The parts of a definition, where they stand in its text.
-#[derive(Clone, Copy, Debug)]
+#[derive(Clone, Copy)]
 pub(crate) struct Parts<'a> {
     pub name: &'a str,
     pub column: &'a str,

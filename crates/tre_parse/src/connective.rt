@@ -4,7 +4,7 @@ ghost use Rattle.tre_parse.specs.Joins.{connective_sign, join_sign};
 use crate::token::Token;
 
 /// How two states are joined.
-#[derive(Clone, Copy, Debug)]
+#[derive(Clone, Copy)]
 pub(crate) enum Connective {
     And,
     Or,
@@ -23,7 +23,7 @@ impl Connective {
 }
 
 /// How two expressions are joined.
-#[derive(Clone, Copy, Debug)]
+#[derive(Clone, Copy)]
 pub(crate) enum Join {
     Sequence,
     Intersection,

@@ -84,7 +84,7 @@ impl<'a> Cursor<'a> {
 }
 
 /// Why reading stops.
-#[derive(Clone, Copy, Debug)]
+#[derive(Clone, Copy)]
 pub(crate) enum Stop {
     /// The next token can't stand where it does. So many are left with it, and none at the end.
     Syntax { left: usize },

@@ -10,7 +10,7 @@ use crate::token::Token;
 use tre_state::{continues_name, starts_name};
 
 /// What stands at a place of a text.
-#[derive(Clone, Copy, Debug)]
+#[derive(Clone, Copy)]
 pub(crate) enum Lexeme {
     /// A byte that says nothing.
     Blank,

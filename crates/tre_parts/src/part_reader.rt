@@ -31,7 +31,8 @@ pub trait PartReader {
 
     /// The place of the first separator, where there is one.
     fn separator_in(&self, bytes: &[u8]) -> Option<usize>
-        ensures none { IfNone result (HasNoSeparator (format (terms self.now)).separates bytes.now) }
+        ensures none { IfNone result
+            (HasNoSeparator (format (terms self.now)).separates bytes.now) }
         ensures first { IfSome result (SeparatedAt (format (terms self.now)).separates bytes.now) };
 
     /// Reads whole parts from the front of the bytes on, each with the separator behind it, as long

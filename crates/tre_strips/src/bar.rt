@@ -2,7 +2,7 @@
 
 /// An end of a bar stands just before a moment, or just `after` it. The moment is `ticks`, or so
 /// long after the begin where it `moves` with it.
-#[derive(Clone, Copy, Debug, PartialEq, Eq)]
+#[derive(Clone, Copy)]
 pub(crate) struct BarEnd {
     pub(crate) ticks: u64,
     pub(crate) moves: bool,
@@ -10,7 +10,7 @@ pub(crate) struct BarEnd {
 }
 
 /// The times between two ends.
-#[derive(Clone, Copy, Debug, PartialEq, Eq)]
+#[derive(Clone, Copy)]
 pub(crate) struct Bar {
     pub(crate) low: BarEnd,
     pub(crate) high: BarEnd,

@@ -6,7 +6,7 @@ ghost use Rattle.tre_strips.specs.Times.{Narrows, sample_of, IsSettled, Compares
 use crate::bar::BarEnd;
 
 /// The one time `from` where that is `until` too, and else all times strictly between the two.
-#[derive(Clone, Copy, Debug)]
+#[derive(Clone, Copy)]
 pub(crate) struct Times {
     pub(crate) from: u64,
     pub(crate) until: u64,

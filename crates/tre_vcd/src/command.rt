@@ -4,7 +4,7 @@ ghost use Rattle.tre_vcd.specs.Sections.{command_of};
 use crate::token::is;
 
 /// What a section of the declarations is read for.
-#[derive(Clone, Copy, Debug, PartialEq, Eq)]
+#[derive(Clone, Copy)]
 pub enum Command {
     Scope,
     Upscope,

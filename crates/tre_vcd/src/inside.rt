@@ -4,7 +4,7 @@ ghost use Rattle.tre_vcd.specs.Sections.{is_nothing};
 use crate::command::Command;
 
 /// What is open behind a token.
-#[derive(Clone, Copy, Debug, PartialEq, Eq)]
+#[derive(Clone, Copy)]
 pub enum Inside {
     Nothing,
     /// A section of the declarations.

@@ -44,7 +44,7 @@ pub fn is_misplaced(token: &[u8]) -> bool
 }
 
 /// What a token among the values is, by its first byte.
-#[derive(Clone, Copy, Debug, PartialEq, Eq)]
+#[derive(Clone, Copy)]
 pub enum Letter {
     Time,
     Keyword,

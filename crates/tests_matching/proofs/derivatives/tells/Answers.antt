@@ -1,4 +1,4 @@
-use Rattle.tests_matching.proofs.derivatives.told.Goals as goal
+use Rattle.tests_matching.proofs.derivatives.tells.Goals as goal
 
 pub step-requires-clause-well : goal.step-requires-clause-well
 step-requires-clause-well c = rw c.next_piece.ensures.begin c.in_ok-begun.ensures.across.well
