@@ -1,7 +1,7 @@
 -- What an atom tells, put behind a list.
 use Rattle.std.proofs.Common.{◌≡◌, ℕ, ◌*◌, ◌<◌, ◌≤◌, ◌↔◌, List, [], ◌∷◌, Option, Some, None, ⊎_elim, inl, inr, subst, refl, sym, arith}
 use Rattle.std.proofs.Math.Nat.{eq-or-lt_of_le, mul-pos, mul-le-mul_right}
-use Rattle.tre_pairs.specs.Pairs.{Pairs, Composed, Either}
+use Rattle.tre_pairs.specs.Pairs.{Pairs, Composed, Either, Both}
 use Rattle.tre_pairs.proofs.Agreement.{Agree-Composed}
 use Rattle.tre_pairs.proofs.Chains.{Composed-at}
 use Rattle.tre_pairs.proofs.Laws.{IsOrdered, Agree}
@@ -9,7 +9,7 @@ use Rattle.tre_pairs.proofs.Order.{IsOrdered-Composed}
 use Rattle.tre_pairs.proofs.Scaling.{moved}
 use Rattle.tre_state.specs.StateTree.{StateTree}
 use Rattle.tre_zone.specs.Held.{Held, EndAt, IsSetOf}
-use Rattle.tre_zone.specs.Zone.{ZoneHolds, IsCanonical, IsZoneOf, GivesZone, HoldsSome, IsInSpan, IsOnward}
+use Rattle.tre_zone.specs.Zone.{ZoneHolds, EndsAt, IsCanonical, IsZoneOf, GivesZone, HoldsSome, IsInSpan, IsOnward}
 use Rattle.tre_zone.specs.ZoneList.{SetHolds, AreCanonical, HoldExactly}
 use Rattle.tre_zone.specs.declared.zone_bounds.ZoneBounds.{ZoneBounds}
 use Rattle.tre_zone.proofs.HeldSets.{Agree-Held, IsOrdered-Held, Scales-Held}
@@ -20,14 +20,16 @@ use Rattle.tre_syntax.proofs.CutMeaning.{IsOrdered-rest}
 use Rattle.tre_edges.specs.Piece.{rest_of_piece, end_of_piece}
 use Rattle.tre_edges.specs.declared.piece.Piece.{Piece}
 use Rattle.tre_mark.specs.MarkTree.{atom_mark}
-use Rattle.tre_mark.specs.Marked.{IsWellAt}
+use Rattle.tre_mark.specs.Marked.{EndBetween, IsWellAt}
 use Rattle.tre_mark.proofs.Agreeing.{agree_refl, agree_then, agree_composed, agree_either}
-use Rattle.tre_advance.specs.Moves.{AreAmong, TellsAtom}
+use Rattle.tre_advance.specs.Moves.{AreAmong, TellsAtom, IsBriefTree, IsLiteralTree}
+use Rattle.tre_advance.specs.Advance.{Advances}
 use Rattle.tre_advance.proofs.AtomForms.{inside_agrees}
 use Rattle.tre_advance.proofs.Crossings.{distributes}
 use Rattle.tre_advance.proofs.FoundSets.{holds_alone}
 use Rattle.tre_advance.proofs.Going.{alone, begin_le}
-use Rattle.tre_advance.proofs.SetsOf.{no_pair, set_agrees}
+use Rattle.tre_advance.proofs.SetsOf.{no_pair, set_agrees, set_none}
+use Rattle.tre_advance.proofs.Onward.{brief_advances, literal_advances}
 
 module _ (inside : ZoneBounds) (canonical : IsCanonical inside) where
   abbrev Z : Pairs
@@ -309,3 +311,40 @@ module _ (piece : Piece) (here begun enter told : List ZoneBounds) (tree : Patte
           );
         };
       }
+
+-- ---- where nothing is here, has begun or enters
+
+idle_tells : (piece : Piece) (here begun enter : List ZoneBounds) (tree : PatternTree)
+    → here ≡ [] → begun ≡ [] → enter ≡ [] → TellsAtom here begun enter tree piece []
+idle_tells piece here begun enter tree none nothing entered = record {
+  set = set_none [] _ refl
+      (λ a b n some h. ⊎_elim
+      (λ x. ⊎_elim
+      (λ y. ⊎_elim (λ z. no_pair here none _ _ _ z) (λ z. no_pair begun nothing _ _ _ z) y)
+      (λ y. no_pair enter entered _ _ _ y) x.left)
+      (λ x. no_pair begun nothing a b n x) h);
+}
+
+idle_ending : (zones none : List ZoneBounds) (time : ℕ) → zones ≡ [] → none ≡ []
+    → IsSetOf none (Both (Held zones) (EndsAt time))
+idle_ending zones none time entered is =
+    set_none none _ is (λ a b n some h. no_pair zones entered a b n h.left)
+
+pub literal_idle : (piece : Piece) (here begun enter : List ZoneBounds) (tree : PatternTree)
+    → EndBetween piece.begin (end_of_piece piece) enter → IsLiteralTree tree
+    → IsWellAt piece.begin (atom_mark here begun) tree → here ≡ [] → begun ≡ [] → enter ≡ []
+    → Advances (atom_mark here begun) tree enter piece [] (atom_mark here begun)
+literal_idle piece here begun enter tree between lit well none nothing entered =
+    literal_advances piece here begun enter [] here between
+    (idle_ending enter here (end_of_piece piece) entered none) begun tree lit well
+    (idle_tells piece here begun enter tree none nothing entered).set
+    (idle_ending [] begun (end_of_piece piece) refl nothing)
+
+pub brief_idle : (piece : Piece) (here enter : List ZoneBounds) (tree : PatternTree)
+    → EndBetween piece.begin (end_of_piece piece) enter → IsBriefTree tree
+    → IsWellAt piece.begin (atom_mark here []) tree → here ≡ [] → enter ≡ []
+    → Advances (atom_mark here []) tree enter piece [] (atom_mark here [])
+brief_idle piece here enter tree between brief well none entered =
+    brief_advances piece here [] enter [] here between
+    (idle_ending enter here (end_of_piece piece) entered none) tree brief well
+    (idle_tells piece here [] enter tree none refl entered).set

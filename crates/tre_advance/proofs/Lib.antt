@@ -3,6 +3,8 @@ pub mod SetsOf
 pub mod FoundSets
 pub mod Among
 pub mod Lists
+-- zones that end or begin at one moment
+pub mod AtMoments
 -- what crosses the end of a piece
 pub mod Crossings
 -- what a mark goes on with, over a piece and alone

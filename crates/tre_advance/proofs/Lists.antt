@@ -8,7 +8,6 @@ use Rattle.tre_pairs.proofs.Laws.{Agree}
 use Rattle.tre_zone.specs.Held.{Held, IsLatest, IsSetOf}
 use Rattle.tre_zone.specs.Interval.{IntervalEnds}
 use Rattle.tre_zone.specs.Zone.{ZoneHolds, EndsAt, HasNoPair, Includes, IsCanonical, IsInstantBetween, IsZoneOf}
-use Rattle.tre_zone.specs.Longest.{AllLastUpTo}
 use Rattle.tre_zone.specs.United.{GivesUnion}
 use Rattle.tre_zone.specs.ZoneList.{SetHolds, AreCanonical, HoldExactly}
 use Rattle.tre_zone.specs.declared.zone_bounds.ZoneBounds.{ZoneBounds}
@@ -265,34 +264,6 @@ ended_before zone last time latest before = record {
       omega (arith, end, finer, at, some);
 }
 
--- Of moments that have one at the time, that one ends there.
-pub one_moment : (zone moment : ZoneBounds) (time : ℕ)
-    → ((a b n : ℕ) → 0 < n → ZoneHolds moment a b n ↔ IsInstantBetween time time a b n)
-    → AllLastUpTo (Some 0) zone × Includes zone moment
-    → IsZoneOf moment (Both (ZoneHolds zone) (EndsAt time))
-one_moment zone moment time held known = record {
-  exact = λ a b n some le.
-      let same = held a b n some in (
-        (λ h.
-            let at = same.0 h in
-            let begins = at.starts in
-            let ends = at.ends in
-            let alike = at.same in
-            record {
-              left = known.1.every a b n some le h;
-              right = record { ends = omega (arith, begins, ends, alike) };
-            }),
-        (λ h.
-            let lasts = (known.0.each a b n some le h.left).within in
-            let ends = h.right.ends in
-            same.1 (record {
-              starts = omega (arith, lasts, ends, le);
-              same = omega (arith, lasts, le);
-              ends = omega (arith, ends);
-            })),
-      );
-}
-
 -- A list of one zone.
 pub one_zone : (zones : List ZoneBounds) (zone : ZoneBounds) → 1 ≤ length zones
     → length zones < 2 → zone ≡ slice_index_or zones 0 zone → zones ≡ zone ∷ []
@@ -403,3 +374,55 @@ module _ (zones rest : List ZoneBounds) (zone : ZoneBounds) (place : ℕ)
           (λ h. two.1 (⊎_elim (λ x. inr x) (λ x. inl x) (same.0 h))),
         );
   }
+
+-- ---- two zones taken out, and what they are together put back
+
+pub two_back : (zones rest last : List ZoneBounds) (zone other : ZoneBounds) (place at : ℕ)
+    → place < length zones → zone ≡ get_or zones place zone → rest ≡ swap_remove zones place zone
+    → at < length rest → other ≡ get_or rest at other → last ≡ swap_remove rest at other
+    → (new : List ZoneBounds)
+    → HoldExactly new (Either (SetHolds last) (Either (ZoneHolds other) (ZoneHolds zone)))
+    → HoldExactly new (SetHolds zones)
+two_back zones rest last zone other place at below is now below' is' now' new held = record {
+  exact = λ a b n some le.
+      let first = taken_out zones rest zone place below is now a b n in
+      let second = taken_out rest last other at below' is' now' a b n in
+      let put = held.exact a b n some le in (
+        (λ h. first.1 (⊎_elim (λ x. inr (second.1 (inr x)))
+            (λ x. ⊎_elim (λ y. inr (second.1 (inl y))) (λ y. inl y) x) (put.0 h))),
+        (λ h. put.1 (⊎_elim (λ x. inr (inr x))
+            (λ x. ⊎_elim (λ y. inr (inl y)) (λ y. inl y) (second.0 x)) (first.0 h))),
+      );
+}
+
+pub put_one : (old new : List ZoneBounds) (one other whole : ZoneBounds)
+    → new ≡ old ++ whole ∷ [] → IsZoneOf whole (Either (ZoneHolds one) (ZoneHolds other))
+    → HoldExactly new (Either (SetHolds old) (Either (ZoneHolds one) (ZoneHolds other)))
+put_one old new one other whole put is = record {
+  exact = λ a b n some le.
+      let last = subst (λ (list : List ZoneBounds).
+      SetHolds list a b n ↔ (SetHolds old a b n ⊎ ZoneHolds whole a b n)) (sym put)
+      (SetHolds-push old whole a b n) in
+      let same = is.exact a b n some le in (
+        (λ h. ⊎_elim (λ x. inl x) (λ x. inr (same.0 x)) (last.0 h)),
+        (λ h. last.1 (⊎_elim (λ x. inl x) (λ x. inr (same.1 x)) h)),
+      );
+}
+
+pub put_two : (old mid new : List ZoneBounds) (one other : ZoneBounds)
+    → mid ≡ old ++ one ∷ [] → new ≡ mid ++ other ∷ []
+    → HoldExactly new (Either (SetHolds old) (Either (ZoneHolds one) (ZoneHolds other)))
+put_two old mid new one other put last = record {
+  exact = λ a b n some le.
+      let first = subst (λ (list : List ZoneBounds).
+      SetHolds list a b n ↔ (SetHolds old a b n ⊎ ZoneHolds one a b n)) (sym put)
+      (SetHolds-push old one a b n) in
+      let second = subst (λ (list : List ZoneBounds).
+      SetHolds list a b n ↔ (SetHolds mid a b n ⊎ ZoneHolds other a b n)) (sym last)
+      (SetHolds-push mid other a b n) in (
+        (λ h. ⊎_elim (λ x. ⊎_elim (λ y. inl y) (λ y. inr (inl y)) (first.0 x))
+            (λ x. inr (inr x)) (second.0 h)),
+        (λ h. second.1 (⊎_elim (λ x. inl (first.1 (inl x)))
+            (λ x. ⊎_elim (λ y. inl (first.1 (inr y))) (λ y. inr y) x) h)),
+      );
+}

@@ -5,10 +5,12 @@ pub mod Adds
 pub mod Closing
 -- What the functions inside promise each other: what an intersection or a restriction stands for
 -- and what is left of it (Instances), what can no longer count in an interval (Shortening), and
--- what a mark stands for where nothing more comes than a piece or the end (TellsMarked).
+-- what a mark stands for where nothing more comes than a piece or the end (TellsMarked), and zones
+-- that end or begin at one moment (Moments).
 pub mod Instances
 pub mod Shortening
 pub mod Survey
+pub mod Moments
 pub mod Moves
 pub mod Taking
 pub mod Tail

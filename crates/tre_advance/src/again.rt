@@ -20,6 +20,7 @@ use tre_zoneset::ZoneSet;
 
 /// Adds the pairs that are here and those that enter. Mostly what is here is among what ended and
 /// what enters.
+#[inline(always)]
 pub fn put_starts(
     here: &[Zone],
     entering: &[Zone],
@@ -69,6 +70,7 @@ pub fn chains_of(
 }
 
 // Whether two steps lead no further than one: that is seen of one zone, or of none.
+#[inline(always)]
 fn lead_no_further(steps: &[Zone]) -> bool
     ensures { IsTrue result → LeadsNoFurther steps.now }
 {
@@ -80,6 +82,7 @@ fn lead_no_further(steps: &[Zone]) -> bool
 }
 
 // Whether there is nothing but what the step includes.
+#[inline(always)]
 fn is_over(step: &Zone, twice: Option<Zone>) -> bool
     ensures { IsTrue result → IfSome twice (Includes step.now) }
 {
@@ -106,6 +109,7 @@ fn put_chains(
 }
 
 /// Adds the pairs, each followed by any number of steps, of which these are the chains.
+#[inline(always)]
 pub fn repeat(starts: &[Zone], chains: &[Zone], found: &mut Vec<Zone>) -> Result<(), AllocError>
     ensures { OnOk result (IsSetOf found.new.items (Either (Held found.old.items)
         (Either (Held starts.now) (Composed (Held starts.now) (Held chains.now))))) }

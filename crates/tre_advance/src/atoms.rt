@@ -1,9 +1,9 @@
 // What an atom does over a piece, and what enters it.
-ghost use Rattle.std.specs.Prelude.{◌≡◌, [], ◌⊎◌, OnOk};
+ghost use Rattle.std.specs.Prelude.{◌≡◌, [], ◌⊎◌, IsTrue, OnOk};
 ghost use Rattle.tre_state.specs.declared.names.TheConstants.{NAMES_MAX};
 ghost use Rattle.tre_syntax.specs.Expr.{tree_of};
 ghost use Rattle.tre_syntax.specs.Meaning.{MatchesRest};
-ghost use Rattle.tre_syntax.specs.PatternTree.{NumbersBelow};
+ghost use Rattle.tre_syntax.specs.PatternTree.{PatternTree, NumbersBelow};
 ghost use Rattle.tre_mark.specs.MarkTree.{atom_mark};
 ghost use Rattle.tre_mark.specs.Marked.{EndBetween, IsWellAt};
 ghost use Rattle.tre_edges.specs.Piece.{end_of_piece, rest_of_piece};
@@ -12,6 +12,7 @@ ghost use Rattle.tre_advance.specs.Adds.{Adds};
 ghost use Rattle.tre_advance.specs.Advance.{Advances};
 ghost use Rattle.tre_advance.specs.Moves.{TellsAtom, HoldsOnOver, IsBriefTree, IsLiteralTree};
 
+use crate::instances::is_idle;
 use crate::vectors::{all_among, gather_behind, keep_ending, known, put_behind, unite_ending};
 use std::alloc::{AllocError, Global};
 use tre_edges::{Piece, event_in, fall_in, literal_in, moments_in, rise_in};
@@ -20,6 +21,7 @@ use tre_zone::Zone;
 
 /// A piece of an atom that lasts no time, into which the pairs enter on the way. Nothing has begun,
 /// or does.
+#[inline(always)]
 pub fn advance_brief(
     here: &mut Vec<Zone>,
     begun: &[Zone],
@@ -38,6 +40,9 @@ pub fn advance_brief(
         Advances (atom_mark here.old.items begun.now) (tree_of expr.now) entering.now piece.now
         added (atom_mark here.new.items begun.now))) }
 {
+    if is_idle(here, entering) {
+        return Ok(());
+    }
     mid.clear();
     tell_atom(here, begun, expr, entering, piece, mid)?;
     keep_ending(here, entering, piece.begin + piece.segment.len)?;
@@ -46,6 +51,7 @@ pub fn advance_brief(
 }
 
 /// The same of a literal: what it tells at the end of the piece may hold on.
+#[inline(always)]
 pub fn advance_literal(
     alloc: Global,
     here: &mut Vec<Zone>,
@@ -65,6 +71,9 @@ pub fn advance_literal(
         Advances (atom_mark here.old.items begun.old.items) (tree_of expr.now) entering.now
         piece.now added (atom_mark here.new.items begun.new.items))) }
 {
+    if is_untouched(here, begun, entering) {
+        return Ok(());
+    }
     let end = piece.begin + piece.segment.len;
     mid.clear();
     tell_atom(here, begun, expr, entering, piece, mid)?;
@@ -74,8 +83,17 @@ pub fn advance_literal(
     Ok(())
 }
 
+// Whether nothing is here, has begun or enters.
+#[inline(always)]
+fn is_untouched(here: &[Zone], begun: &[Zone], entering: &[Zone]) -> bool
+    ensures { IsTrue result → (here.now ≡ []) × (begun.now ≡ []) × (entering.now ≡ []) }
+{
+    here.is_empty() && begun.is_empty() && entering.is_empty()
+}
+
 /// What an atom tells over the piece.
-pub fn tell_atom(
+#[inline(always)]
+fn tell_atom(
     here: &[Zone],
     begun: &[Zone],
     expr: &Expr,
@@ -90,13 +108,33 @@ pub fn tell_atom(
     ensures { OnOk result (TellsAtom here.now begun.now entering.now (tree_of expr.now) piece.now
         told.new.items) }
 {
-    match inside_of(expr, piece) {
-        None => { put_behind(told, begun) }
-        Some(inside) => gather_all(here, begun, entering, &inside, piece, told),
+    tell_found(here, begun, &inside_of(expr, piece), entering, piece, told)
+}
+
+/// The same, where this is what it matches inside the piece.
+#[inline(always)]
+pub fn tell_found(
+    here: &[Zone],
+    begun: &[Zone],
+    found: &Option<Zone>,
+    entering: &[Zone],
+    piece: &Piece,
+    told: &mut Vec<Zone>,
+) -> Result<(), AllocError>
+    requires { told.old.items ≡ [] }
+    ensures { OnOk result ((tree : PatternTree)
+        → GivesZone found.now (MatchesRest tree (rest_of_piece piece.now))
+        → IsWellAt piece.now.begin (atom_mark here.now begun.now) tree
+        → TellsAtom here.now begun.now entering.now tree piece.now told.new.items) }
+{
+    match found {
+        None => put_behind(told, begun),
+        Some(inside) => gather_all(here, begun, entering, inside, piece, told),
     }
 }
 
 /// The matches of the atom inside the piece.
+#[inline(always)]
 pub fn inside_of(expr: &Expr, piece: &Piece) -> Option<Zone>
     requires numbers { NumbersBelow NAMES_MAX (tree_of expr.now) }
     requires atom { IsBriefTree (tree_of expr.now) ⊎ IsLiteralTree (tree_of expr.now) }
@@ -114,6 +152,7 @@ pub fn inside_of(expr: &Expr, piece: &Piece) -> Option<Zone>
 
 // Adds what has begun, which holds on over the piece, and the pairs that are here or enter, each
 // followed by one of the zone.
+#[inline(always)]
 fn gather_all(
     here: &[Zone],
     begun: &[Zone],

@@ -26,6 +26,7 @@ use tre_zone::{Interval, Zone, latest_end};
 use tre_zoneset::gather;
 
 /// Whether nothing has begun, and nothing enters.
+#[inline(always)]
 pub fn is_idle(outer: &[Zone], entering: &[Zone]) -> bool
     ensures { IsTrue result → (outer.now ≡ []) × (entering.now ≡ []) }
 {
@@ -33,6 +34,7 @@ pub fn is_idle(outer: &[Zone], entering: &[Zone]) -> bool
 }
 
 /// The mark of what a restriction restricts is made unbegun where the restriction has not begun.
+#[inline(always)]
 pub fn make_ready(
     alloc: Global,
     to: u64,
@@ -65,6 +67,7 @@ fn reset(alloc: Global, mark: &mut Mark, expr: &Expr) -> Result<(), AllocError>
 }
 
 /// Moments for what enters: those that enter serve, else all of the piece do.
+#[inline(always)]
 pub fn moments_for(
     entering: &[Zone],
     piece: &Piece,
@@ -82,6 +85,7 @@ pub fn moments_for(
     Ok(())
 }
 
+#[inline(always)]
 fn are_instants(zones: &[Zone]) -> bool
     ensures { IsTrue result → AreInstants zones.now }
 {
@@ -118,6 +122,7 @@ fn enter_outer(
 
 // Where nothing comes before, it began at each moment from some time on, and begins at each of the
 // piece: these are one zone.
+#[inline(always)]
 fn all_moments(outer: &[Zone], entering: &[Zone], piece: &Piece) -> Option<Zone>
     ensures { IfSome result (λ whole.
         IsSetOf (whole ∷ []) (Either (Held outer.now) (Held entering.now))) }
@@ -203,6 +208,7 @@ pub fn go_on_lasting(
 
 // What a restriction that began behind each pair of `outer` tells where its body told what is in
 // the middle of the room: it takes its place.
+#[inline(always)]
 fn tell_lasting(outer: &[Zone], room: &mut Room, interval: &Interval) -> Result<(), AllocError>
     ensures { OnOk result (IsSetOf room.new.mid.items (Composed (Held outer.now)
         (Lasting (LastsWithin interval.now) (Held room.old.mid.items)))) }
@@ -214,6 +220,7 @@ fn tell_lasting(outer: &[Zone], room: &mut Room, interval: &Interval) -> Result<
 }
 
 /// Adds the pairs of the zones whose duration is in the interval.
+#[inline(always)]
 pub fn gather_within(
     found: &mut Vec<Zone>,
     zones: &[Zone],
@@ -249,6 +256,7 @@ fn leave_lasting(
 }
 
 // What is kept of it.
+#[inline(always)]
 fn keep_lasting(to: &mut u64, outer: &mut Vec<Zone>, body: &Mark, time: u64)
     requires { EndBy time outer.old.items }
     ensures { (interval : IntervalEnds) → All (IsRecent time interval) outer.old.items
@@ -267,6 +275,7 @@ fn keep_lasting(to: &mut u64, outer: &mut Vec<Zone>, body: &Mark, time: u64)
 }
 
 // The first tick by which each pair of the zones has ended.
+#[inline(always)]
 fn ended_by(zones: &[Zone], time: u64) -> u64
     requires { EndBy time zones.now }
     ensures latest { IsLatest result zones.now }
@@ -276,6 +285,7 @@ fn ended_by(zones: &[Zone], time: u64) -> u64
 }
 
 /// The marks of both sides are made unbegun where the intersection has not begun.
+#[inline(always)]
 pub fn ready_both(
     alloc: Global,
     to: u64,
@@ -338,6 +348,7 @@ pub fn go_on_both(
 }
 
 // What an intersection that began behind each pair of `outer` tells.
+#[inline(always)]
 fn tell_both(outer: &[Zone], room: &mut Room) -> Result<(), AllocError>
     ensures { OnOk result (IsSetOf room.new.mid.items (Composed (Held outer.now)
         (Both (Held room.old.mid.items) (Held room.old.more.items)))) }
@@ -349,6 +360,7 @@ fn tell_both(outer: &[Zone], room: &mut Room) -> Result<(), AllocError>
 }
 
 // What is left of it at the time: nothing where one of its sides has nothing left.
+#[inline(always)]
 fn keep_both(to: &mut u64, outer: &mut Vec<Zone>, one: &Mark, other: &Mark, time: u64)
     requires { EndBy time outer.old.items }
     ensures { LeavesIntersection time outer.old.items (mark_of one.now) (mark_of other.now)

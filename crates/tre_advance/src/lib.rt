@@ -20,6 +20,7 @@ mod again;
 mod atoms;
 mod ending;
 mod instances;
+mod moments;
 mod shortening;
 mod survey;
 mod vectors;

@@ -75,6 +75,7 @@ fn drop_long(
     Ok(())
 }
 
+#[inline(always)]
 fn are_not_long(zones: &[Zone], longest: Option<u64>) -> bool
     requires { IsLongest longest }
     ensures { IsTrue result → AreWithoutLong longest zones.now zones.now }
@@ -117,6 +118,7 @@ fn push_unless_long(
 }
 
 // Whether every pair of the zone lasts longer.
+#[inline(always)]
 fn is_long(zone: &Zone, longest: Option<u64>) -> bool
     requires { IsLongest longest }
     ensures { IsTrue result ↔ IsLong longest zone.now }
@@ -149,6 +151,7 @@ fn short(zones: &mut Vec<Zone>, aux: &mut Vec<Zone>, longest: Option<u64>) -> Re
 }
 
 // Whether all of them last at most `longest` as they stand.
+#[inline(always)]
 fn are_short(zones: &[Zone], longest: Option<u64>) -> bool
     requires { IsLongest longest }
     ensures { IsTrue result → AreShort longest zones.now zones.now }
@@ -178,6 +181,7 @@ fn gather_short(
 
 /// The zones stay behind which something may still be in the interval where it ends at the time or
 /// later.
+#[inline(always)]
 pub fn keep_recent(
     zones: &mut Vec<Zone>,
     aux: &mut Vec<Zone>,
@@ -196,6 +200,7 @@ pub fn keep_recent(
 }
 
 // Whether all of them are recent as they stand.
+#[inline(always)]
 fn are_recent(zones: &[Zone], interval: &Interval, time: u64) -> bool
     ensures { IsTrue result → AreRecent interval.now time zones.now zones.now }
 {
@@ -238,6 +243,7 @@ fn push_recent(
 }
 
 // Whether what begins behind a pair of the zone is too long for the interval.
+#[inline(always)]
 fn is_old(zone: &Zone, interval: &Interval, time: u64) -> bool
     ensures old { IsTrue result → IsOld interval.now time zone.now }
     ensures recent { result ≡ false → IsRecent time interval.now zone.now }
@@ -246,6 +252,7 @@ fn is_old(zone: &Zone, interval: &Interval, time: u64) -> bool
 }
 
 // Whether what began at `to` is too long for the interval where it ends at `time` or later.
+#[inline(always)]
 fn is_past(to: u64, interval: &Interval, time: u64) -> bool
     ensures { IsTrue result ↔ IsPast to interval.now time }
 {

@@ -14,7 +14,7 @@ ghost use Rattle.tre_advance.specs.Moves.{IsBriefTree, IsLiteralTree};
 ghost use Rattle.tre_advance.specs.Survey.{Surveys, SurveysAnew};
 
 use crate::again::{chains_of, repeat};
-use crate::atoms::{inside_of, tell_atom};
+use crate::atoms::{inside_of, tell_found};
 use crate::ending::{gather_both, gather_lasting};
 use crate::instances::gather_within;
 use crate::vectors::{gather_meets, is_none, prune, put_behind, put_each, put_missing};
@@ -83,6 +83,7 @@ pub fn survey_anew(
     prune(alloc, ended)
 }
 
+#[inline(always)]
 fn survey_atom(
     mark: &mut Mark,
     expr: &Expr,
@@ -98,23 +99,14 @@ fn survey_atom(
 {
     match mark {
         Mark::Atom { here, begun, room } => {
+            let found = inside_of(expr, piece);
             room.mid.clear();
-            tell_atom(here, begun, expr, &[], piece, &mut room.mid)?;
+            tell_found(here, begun, &found, &[], piece, &mut room.mid)?;
             put_behind(ended, &room.mid)?;
-            put_inside(expr, piece, inside)
+            gather(inside, found)
         }
         _ => unreachable!(),
     }
-}
-
-// Adds what the atom matches inside the piece.
-fn put_inside(expr: &Expr, piece: &Piece, inside: &mut Vec<Zone>) -> Result<(), AllocError>
-    requires numbers { NumbersBelow NAMES_MAX (tree_of expr.now) }
-    requires atom { IsBriefTree (tree_of expr.now) ⊎ IsLiteralTree (tree_of expr.now) }
-    ensures { OnOk result (IsSetOf inside.new.items (Either (Held inside.old.items)
-        (MatchesRest (tree_of expr.now) (rest_of_piece piece.now)))) }
-{
-    gather(inside, inside_of(expr, piece))
 }
 
 #[cycle(survey)]

@@ -3,14 +3,13 @@ ghost use Rattle.std.specs.Prelude.{◌<◌, length, ◌≡◌, ◌≤◌, ◌�
 ghost use Rattle.tre_pairs.specs.Pairs.{Composed, Either, Both};
 ghost use Rattle.tre_pairs.specs.declared.TheConstants.{TIME_MAX};
 ghost use Rattle.tre_zone.specs.Held.{Held, IsSetOf};
-ghost use Rattle.tre_zone.specs.Longest.{AllLastUpTo};
-ghost use Rattle.tre_zone.specs.Zone.{ZoneHolds, EndsAt, GivesZone, Includes, IsZoneOf};
+ghost use Rattle.tre_zone.specs.Zone.{ZoneHolds, EndsAt, Includes, IsZoneOf};
 ghost use Rattle.tre_zone.specs.ZoneList.{SetHolds, AreCanonical, HoldExactly};
 ghost use Rattle.tre_advance.specs.Moves.{AreAmong};
 
+use crate::moments::{ending_of, followed, joined, may_be_one};
 use std::alloc::{AllocError, Global};
 use std::mem;
-use tre_compose::compose;
 use tre_zone::Zone;
 use tre_zoneset::{ZoneSet, are_few, gather};
 
@@ -24,6 +23,7 @@ pub fn known(zones: &[Zone])
 }
 
 /// Whether there is no zone.
+#[inline(always)]
 pub fn is_none(zones: &[Zone]) -> bool
     ensures { IsTrue result ↔ (zones.now ≡ []) }
 {
@@ -42,6 +42,7 @@ pub fn put_behind(found: &mut Vec<Zone>, zones: &[Zone]) -> Result<(), AllocErro
 }
 
 /// The same, unless each of them is among those.
+#[inline(always)]
 pub fn put_missing(found: &mut Vec<Zone>, zones: &[Zone]) -> Result<(), AllocError>
     ensures { OnOk result (IsSetOf found.new.items
         (Either (Held found.old.items) (Held zones.now))) }
@@ -53,18 +54,20 @@ pub fn put_missing(found: &mut Vec<Zone>, zones: &[Zone]) -> Result<(), AllocErr
 }
 
 /// Adds the pairs of the first zones, each followed by one of the second.
+#[inline(always)]
 pub fn gather_behind(found: &mut Vec<Zone>, first: &[Zone], second: &Zone) -> Result<(), AllocError>
     ensures { OnOk result (HoldExactly found.new.items
         (Either (SetHolds found.old.items)
         (Composed (SetHolds first.now) (ZoneHolds second.now)))) }
 {
     for one in first {
-        gather(found, compose(one, second))?;
+        gather(found, followed(one, second))?;
     }
     Ok(())
 }
 
 /// The same of several zones.
+#[inline(always)]
 pub fn gather_each(found: &mut Vec<Zone>, first: &[Zone], second: &[Zone]) -> Result<(), AllocError>
     ensures { OnOk result (HoldExactly found.new.items
         (Either (SetHolds found.old.items)
@@ -77,6 +80,7 @@ pub fn gather_each(found: &mut Vec<Zone>, first: &[Zone], second: &[Zone]) -> Re
 }
 
 /// The same, whatever the zones are.
+#[inline(always)]
 pub fn put_each(found: &mut Vec<Zone>, first: &[Zone], second: &[Zone]) -> Result<(), AllocError>
     ensures { OnOk result (IsSetOf found.new.items
         (Either (Held found.old.items) (Composed (Held first.now) (Held second.now)))) }
@@ -111,32 +115,8 @@ fn gather_meet(found: &mut Vec<Zone>, zone: &Zone, others: &[Zone]) -> Result<()
     Ok(())
 }
 
-// The pairs of the zone that end at the time. Where all have ended before, or last no time, that is
-// seen at once.
-#[inline(always)]
-fn ending_of(zone: &Zone, time: u64) -> Option<Zone>
-    requires { time ≤ TIME_MAX }
-    ensures { GivesZone result (Both (ZoneHolds zone.now) (EndsAt time)) }
-{
-    if zone.latest_end() < time {
-        return None;
-    }
-    let moment = Zone::instants(time, time);
-    if are_moments_with(zone, &moment) {
-        return Some(moment);
-    }
-    zone.ending_at(time)
-}
-
-// Whether the zone is one of moments, and has this one.
-#[inline(always)]
-fn are_moments_with(zone: &Zone, moment: &Zone) -> bool
-    ensures { IsTrue result → AllLastUpTo (Some 0) zone.now × Includes zone.now moment.now }
-{
-    zone.is_up_to(Some(0)) && zone.includes(moment)
-}
-
 // Adds the pairs of the zones that end at the time.
+#[inline(always)]
 fn gather_ending(found: &mut Vec<Zone>, zones: &[Zone], time: u64) -> Result<(), AllocError>
     requires { time ≤ TIME_MAX }
     ensures { OnOk result (HoldExactly found.new.items
@@ -149,6 +129,7 @@ fn gather_ending(found: &mut Vec<Zone>, zones: &[Zone], time: u64) -> Result<(),
 }
 
 /// The pairs of the zones that end at the time, in place of what was kept.
+#[inline(always)]
 pub fn keep_ending(kept: &mut Vec<Zone>, zones: &[Zone], time: u64) -> Result<(), AllocError>
     requires { time ≤ TIME_MAX }
     ensures { OnOk result (IsSetOf kept.new.items (Both (Held zones.now) (EndsAt time))) }
@@ -159,6 +140,7 @@ pub fn keep_ending(kept: &mut Vec<Zone>, zones: &[Zone], time: u64) -> Result<()
 
 /// The same, with one zone for each stretch of starts: what is kept from piece to piece would grow
 /// without.
+#[inline(always)]
 pub fn unite_ending(
     alloc: Global,
     kept: &mut Vec<Zone>,
@@ -202,6 +184,7 @@ fn prune_few(zones: &mut Vec<Zone>) -> Result<(), AllocError>
 }
 
 // The zone at the place is put behind the others, or goes where one of these includes it.
+#[inline(always)]
 fn put_again(zones: &mut Vec<Zone>, place: usize) -> Result<(), AllocError>
     requires { place < length zones.old.items }
     ensures held { OnOk result (HoldExactly zones.new.items (SetHolds zones.old.items)) }
@@ -226,7 +209,72 @@ pub fn unite(alloc: Global, zones: &mut Vec<Zone>) -> Result<(), AllocError>
     if zones.len() == 2 {
         return prune_two(zones);
     }
+    if are_few(zones) {
+        return unite_few(zones);
+    }
     unite_more(alloc, zones)
+}
+
+// Each of a few zones is taken out once, from the last one on, and put behind the others.
+fn unite_few(zones: &mut Vec<Zone>) -> Result<(), AllocError>
+    ensures { OnOk result (HoldExactly zones.new.items (SetHolds zones.old.items)) }
+{
+    let mut left = zones.len();
+    while 0 < left {
+        left -= 1;
+        put_united(zones, left)?;
+    }
+    Ok(())
+}
+
+// The zone at the place is put behind the others, with one of them where both are one zone.
+fn put_united(zones: &mut Vec<Zone>, place: usize) -> Result<(), AllocError>
+    requires { place < length zones.old.items }
+    ensures held { OnOk result (HoldExactly zones.new.items (SetHolds zones.old.items)) }
+    ensures fewer { OnOk result (place ≤ length zones.new.items) }
+{
+    let zone = zones.swap_remove(place);
+    let at = first_to_unite(zones, &zone);
+    if at < zones.len() {
+        let other = zones.swap_remove(at);
+        return put_both(zones, &other, &zone);
+    }
+    zones.push(zone)?;
+    Ok(())
+}
+
+// The first place of a zone that is one zone with this one, else the end.
+fn first_to_unite(zones: &[Zone], zone: &Zone) -> usize {
+    let mut place = 0;
+    while place < zones.len() && !are_one(&zones[place], zone) {
+        place += 1;
+    }
+    place
+}
+
+#[inline(always)]
+fn are_one(one: &Zone, other: &Zone) -> bool {
+    may_be_one(one, other) && whole_of(one, other).is_some()
+}
+
+// Puts both behind the others, as one zone where they are one.
+#[inline(always)]
+fn put_both(zones: &mut Vec<Zone>, one: &Zone, other: &Zone) -> Result<(), AllocError>
+    ensures held { OnOk result (HoldExactly zones.new.items
+        (Either (SetHolds zones.old.items) (Either (ZoneHolds one.now) (ZoneHolds other.now)))) }
+    ensures more { OnOk result (length zones.old.items < length zones.new.items) }
+{
+    match whole_of(one, other) {
+        Some(whole) => {
+            zones.push(whole)?;
+            Ok(())
+        }
+        None => {
+            zones.push(*one)?;
+            zones.push(*other)?;
+            Ok(())
+        }
+    }
 }
 
 // Two zones, as one where they are one together.
@@ -243,6 +291,7 @@ fn prune_two(zones: &mut Vec<Zone>) -> Result<(), AllocError>
     }
 }
 
+#[inline(always)]
 fn one_of_two(zones: &[Zone]) -> Option<Zone>
     ensures { IfSome result (λ whole. HoldExactly (whole ∷ []) (SetHolds zones.now)) }
 {
@@ -252,11 +301,15 @@ fn one_of_two(zones: &[Zone]) -> Option<Zone>
     }
 }
 
-// The zone of both, where it is seen: one that includes the other is seen first.
+// The zone of both, where it is seen. What ends at one moment is seen first, and then one that
+// includes the other.
 fn whole_of(one: &Zone, other: &Zone) -> Option<Zone>
     ensures { IfSome result (λ whole.
         IsZoneOf whole (Either (ZoneHolds one.now) (ZoneHolds other.now))) }
 {
+    if let Some(whole) = joined(one, other) {
+        return Some(whole);
+    }
     if one.includes(other) {
         return Some(*one);
     }
@@ -295,6 +348,7 @@ pub fn all_among(zones: &[Zone], others: &[Zone]) -> bool
     all_in_turn(zones, others)
 }
 
+#[inline(always)]
 fn all_included(zones: &[Zone], others: &[Zone]) -> bool
     ensures { IsTrue result → AreAmong zones.now others.now }
 {
@@ -306,6 +360,7 @@ fn all_included(zones: &[Zone], others: &[Zone]) -> bool
     true
 }
 
+#[inline(always)]
 fn is_included(zone: &Zone, others: &[Zone]) -> bool
     ensures { IsTrue result ↔ Any (λ other. Includes other zone.now) others.now }
 {

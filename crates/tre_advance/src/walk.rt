@@ -220,6 +220,7 @@ fn advance_star(
     }
 }
 
+#[inline(always)]
 fn is_eps(expr: &Expr) -> bool
     ensures { IsTrue result → tree_of expr.now ≡ atom empty }
 {

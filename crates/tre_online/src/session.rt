@@ -145,6 +145,7 @@ impl Session {
 
     // Reads a segment as `segment` does, and gives the session back: what it tells it keeps. It
     // needs no copy of its progress, since after a refusal the session is given up.
+    #[inline(always)]
     pub(crate) fn go_on(self, segment: Segment) -> Result<Session, PushFault>
         ensures stands { (segments : List Segment) → StandsFor self segments →
             IfOk result (λ then. StandsFor then (segments ++ segment ∷ [])) }
@@ -196,6 +197,7 @@ impl Session {
     }
 
     // The segment where the trace ends so far.
+    #[inline(always)]
     fn piece(&self, segment: Segment) -> Result<Piece, PushFault>
         ensures ok { IfOk result (IsPieceFor self.now segment) }
         ensures err { (segments : List Segment) → at_of self.now ≡ end_of 0 segments →
@@ -250,6 +252,7 @@ impl Session {
 
     // The progress goes over the piece, and keeps what is told of it. Where memory runs out, it
     // isn't known what it is.
+    #[inline(always)]
     fn read(
         alloc: Global,
         pattern: &Pattern,
@@ -273,6 +276,7 @@ impl Session {
     }
 
     // What the mark tells of the piece, over which it goes, as a set made in the room.
+    #[inline(always)]
     fn found(
         alloc: Global,
         pattern: &Pattern,

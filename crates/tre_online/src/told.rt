@@ -10,6 +10,7 @@ use tre_zone::Zone;
 use tre_zoneset::{ZoneSet, are_few, index_of};
 
 /// The zones that were found, without those that a zone of `earlier` includes.
+#[inline(always)]
 pub fn not_told(alloc: Global, found: ZoneSet, earlier: &ZoneSet) -> Result<ZoneSet, AllocError>
     ensures { IfOk result (λ told. Without (WasTold earlier.now) found told) }
 {
@@ -26,6 +27,7 @@ pub fn not_told(alloc: Global, found: ZoneSet, earlier: &ZoneSet) -> Result<Zone
 }
 
 // Whether no zone of `earlier` includes one of the zones.
+#[inline(always)]
 fn are_new(zones: &[Zone], earlier: &[Zone]) -> bool
     ensures { IsTrue result → Without (WasTold earlier.now) zones.now zones.now }
 {
@@ -61,6 +63,7 @@ fn new_among(alloc: Global, zones: &[Zone], earlier: &ZoneIndex) -> Result<ZoneS
     Ok(told)
 }
 
+#[inline(always)]
 fn is_beside(zone: &Zone, earlier: &[Zone]) -> bool
     ensures { IsTrue result ↔ WasTold earlier.now zone.now }
 {

@@ -189,6 +189,7 @@ fn give_each(sessions: &mut VecDeque<Session>, segments: &[Segment]) -> Result<(
 }
 
 // Gives the first session a segment. It goes behind the others.
+#[inline(always)]
 fn give_first(sessions: &mut VecDeque<Session>, segment: Segment) -> Result<(), PushFault>
     requires { 0 < length sessions.old.items }
     ensures ok { OnOk result (IsGivenFirst sessions.old.items segment sessions.new.items) }
@@ -202,6 +203,7 @@ fn give_first(sessions: &mut VecDeque<Session>, segment: Segment) -> Result<(), 
 }
 
 // Gives the session a segment, and puts it behind the others.
+#[inline(always)]
 fn give(
     session: Session,
     segment: Segment,
@@ -217,6 +219,7 @@ fn give(
     }
 }
 
+#[inline(always)]
 fn put(session: Session, sessions: &mut VecDeque<Session>) -> Result<(), AllocError>
     ensures { OnOk result (sessions.new.items ≡ sessions.old.items ++ session ∷ []) }
 {

@@ -19,10 +19,10 @@ loop-one-preserved c =
     (Composed-additive_left (ZoneHolds c.args.second.now))
     c.args.found.now.items c.loop-one.found.items c.gather.new.found.items
     c.args.first.now c.loop-one.one-index c.one-item.result
-    (FoundHolds c.compose.result)
+    (FoundHolds c.followed.result)
     c.loop-one-test.true c.one-item.is c.loop-one.invariant c.in_ok-gather.ensures
-    (FoundHolds-exact c.compose.result (Composed (ZoneHolds c.one-item.result)
-    (ZoneHolds c.args.second.now)) c.compose.ensures.pairs)
+    (FoundHolds-exact c.followed.result (Composed (ZoneHolds c.one-item.result)
+    (ZoneHolds c.args.second.now)) c.followed.ensures)
 
 pub returns : goal.returns
 returns c =
