@@ -117,19 +117,18 @@ const WRITTEN: [(u64, u8, &str); 14] = [
     (u64::MAX, 9, "18446744073.709551615"),
 ];
 
-// The text of a number of units, behind another text.
-fn written(alloc: Global, units: u64, scale: u8) -> Result<String, AllocError> {
+// Whether a number of units is written so, behind another text.
+fn is_written(alloc: Global, units: u64, scale: u8, wanted: &str) -> Result<bool, AllocError> {
     let mut text = String::from_str(alloc, "at ")?;
     push_units(&mut text, units, scale.min(SCALE_MAX))?;
-    Ok(text)
+    Ok(text.as_str().strip_prefix("at ") == Some(wanted))
 }
 
 #[test]
 fn numbers_are_written(rt: HostRuntime) -> Result<(), Fail> {
     for (units, scale, wanted) in &WRITTEN {
-        let text = written(rt.alloc(), *units, *scale)?;
         assert!(rt;
-            text.as_str().strip_prefix("at ") == Some(*wanted),
+            is_written(rt.alloc(), *units, *scale, *wanted)?,
             "{wanted}"
         );
     }

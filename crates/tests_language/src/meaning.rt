@@ -14,10 +14,20 @@ fn q() -> Expr {
     Expr::Lit(State::Prop(1))
 }
 
+fn boxed(alloc: Global, expr: Expr) -> Result<Box<Expr>, AllocError> {
+    Ok(Box::new(alloc, expr)?)
+}
+
 fn sequence(alloc: Global, first: Expr, second: Expr) -> Result<Expr, AllocError> {
-    let first = Box::new(alloc, first)?;
-    let second = Box::new(alloc, second)?;
+    let first = boxed(alloc, first)?;
+    let second = boxed(alloc, second)?;
     Ok(Expr::Seq(first, second))
+}
+
+fn either(alloc: Global, first: Expr, second: Expr) -> Result<Expr, AllocError> {
+    let first = boxed(alloc, first)?;
+    let second = boxed(alloc, second)?;
+    Ok(Expr::Alt(first, second))
 }
 
 // This many negations of p.
@@ -75,7 +85,7 @@ fn nodes(
 }
 
 // Expressions that are made by calls.
-#[derive(Clone, Copy, Debug)]
+#[derive(Clone, Copy)]
 enum Form {
     // `eps`
     Eps,
@@ -141,7 +151,7 @@ fn a_pattern_has_its_nodes(rt: HostRuntime) -> Result<(), Fail> {
     for (form, names, events, count) in &NODES {
         assert!(rt;
             nodes_of(rt.alloc(), *form, *names, *events)? == *count,
-            "{form:?}"
+            "{names} {events} {count:?}"
         );
     }
     Ok(())
@@ -151,8 +161,7 @@ fn a_pattern_has_its_nodes(rt: HostRuntime) -> Result<(), Fail> {
 fn events(alloc: Global, count: u8) -> Result<Expr, AllocError> {
     let mut expr = Expr::Event(0);
     for number in 1..count {
-        let right = Box::new(alloc, Expr::Event(number))?;
-        expr = Expr::Alt(Box::new(alloc, expr)?, right);
+        expr = either(alloc, expr, Expr::Event(number))?;
     }
     Ok(expr)
 }

@@ -57,11 +57,18 @@ fn are_numbered(names: &mut Names) -> bool {
         && names.find("r").is_none()
 }
 
+fn is_copied_with_q(names: &Names) -> Result<bool, AllocError> {
+    Ok(ends_with_q(&names.try_clone()?))
+}
+
+fn is_each_numbered(alloc: Global) -> Result<bool, AllocError> {
+    let mut names = Names::new(alloc);
+    Ok(are_numbered(&mut names) && is_copied_with_q(&names)?)
+}
+
 #[test]
 fn names_are_numbered_once(rt: HostRuntime) -> Result<(), Fail> {
-    let mut names = Names::new(rt.alloc());
-    assert!(rt; are_numbered(&mut names));
-    assert!(rt; ends_with_q(&names.try_clone()?));
+    assert!(rt; is_each_numbered(rt.alloc())?);
     Ok(())
 }
 
@@ -84,17 +91,25 @@ fn are_all(names: &mut Names) -> bool {
         && names.len() == 64
 }
 
+fn are_sixty_four(alloc: Global) -> Result<bool, Fail> {
+    let mut names = sixty_four(alloc)?;
+    Ok(are_all(&mut names))
+}
+
 #[test]
 fn the_sixty_fifth_name_is_refused(rt: HostRuntime) -> Result<(), Fail> {
-    let mut names = sixty_four(rt.alloc())?;
-    assert!(rt; are_all(&mut names));
+    assert!(rt; are_sixty_four(rt.alloc())?);
     Ok(())
+}
+
+fn is_message(alloc: Global, text: &str) -> Result<bool, AllocError> {
+    let message = format!(in alloc; "{}", NameFault::TooMany)?;
+    Ok(message.as_str() == text)
 }
 
 #[test]
 fn a_fault_has_its_name(rt: HostRuntime) -> Result<(), Fail> {
-    let message = format!(in rt.alloc(); "{}", NameFault::TooMany)?;
-    assert!(rt; message.as_str() == "TooMany");
+    assert!(rt; is_message(rt.alloc(), "TooMany")?);
     Ok(())
 }
 
@@ -117,9 +132,13 @@ fn is_copied(alloc: Global, state: &State) -> Result<bool, AllocError>
     Ok(values && copy == *state)
 }
 
+fn is_copy_same(alloc: Global) -> Result<bool, AllocError> {
+    let state = not_both(alloc)?;
+    is_copied(alloc, &state)
+}
+
 #[test]
 fn a_copy_of_a_state_is_the_state(rt: HostRuntime) -> Result<(), Fail> {
-    let state = not_both(rt.alloc())?;
-    assert!(rt; is_copied(rt.alloc(), &state)?);
+    assert!(rt; is_copy_same(rt.alloc())?);
     Ok(())
 }

@@ -6,5 +6,6 @@ pub mod OnlineRuns
 pub mod Recorded
 pub mod Stops
 pub mod Strips
+pub mod TextPieces
 pub mod Unread
 pub mod Wanted

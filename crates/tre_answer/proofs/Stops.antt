@@ -3,7 +3,7 @@ use Rattle.std.proofs.Common.{◌≡◌, ◌⊎◌, ℕ, false, MatchBool, List,
 use Rattle.std.specs.Io.KnownBytes.{Appends}
 use Rattle.tre_feed.specs.Input.{InputTold}
 use Rattle.tre_feed.specs.declared.fault.Fault.{Fault}
-use Rattle.tre_feed.specs.declared.fault.Fault.TheVariants.{Write}
+use Rattle.tre_feed.specs.declared.fault.Fault.TheVariants.{Trace, TooLong, TooManyZones, Read, Write, Memory}
 use Rattle.tre_io.specs.Faults.{count_after}
 use Rattle.tre_io.specs.Written.{AppendsPart}
 use Rattle.tre_tell.specs.Outputs.{OutputTold, AllWritesGood}
@@ -14,6 +14,7 @@ use Rattle.tre_answer.specs.Answering.{PartIsWritten, EndsAnswering}
 use Rattle.tre_answer.specs.Ends.{ReadsInput, as_it_comes}
 use Rattle.tre_answer.specs.Parts.{IsFoundFor}
 use Rattle.tre_answer.specs.Recorded.{watched_of}
+use Rattle.tre_answer.specs.Printing.{EndsPutting}
 use Rattle.tre_answer.specs.Request.{Request}
 
 -- the modes in which an answer is written at once
@@ -70,6 +71,22 @@ EndsAnswering-written request input output text given same once found (Err fault
     is = subst (λ f. EndsAnswering {T = Unit {0}} request input output (Err f)) (sym is)
     (EndsAnswering-cut request input output text once found cause
     (subst (AppendsPart output.before.written output.now.written) same part))
+
+-- one that was written by pieces, as far as it was
+pub EndsAnswering-put : (request : Request) (input : InputTold) (output : OutputTold)
+    (text : List ℕ) → as_it_comes request.job.mode ≡ false → IsFoundFor request input text
+    → (result : Result (Unit {0}) Fault) → EndsPutting text output result
+    → EndsAnswering request input output result
+EndsAnswering-put request input output text once found (Ok value) ends =
+    EndsAnswering-done request input output text value found ends.writes ends.written
+EndsAnswering-put request input output text once found (Err (Trace fault)) ends = absurd ends
+EndsAnswering-put request input output text once found (Err TooLong) ends = absurd ends
+EndsAnswering-put request input output text once found (Err (TooManyZones zones)) ends =
+    absurd ends
+EndsAnswering-put request input output text once found (Err Read) ends = absurd ends
+EndsAnswering-put request input output text once found (Err Write) ends =
+    EndsAnswering-cut request input output text once found ends.cause ends.part
+EndsAnswering-put request input output text once found (Err Memory) ends = absurd ends
 
 -- a job that shows its patterns, or makes its trace, reads no input, and another does
 pub reads_input : (mode : Mode) → (mode ≡ Show → ⊥)

@@ -11,3 +11,4 @@ pub mod Ends
 -- What the functions inside promise each other.
 pub mod Answering
 pub mod Parts
+pub mod Printing

@@ -16,7 +16,8 @@ ghost use Rattle.tre_words.specs.Job.{IsJob};
 
 use crate::asked::{Asked, Definitions};
 use crate::columns::column_input;
-use crate::offline::matches_text;
+use crate::offline::find_matches;
+use crate::printing::{piece_room, write_matches};
 use std::alloc::{AllocError, Global};
 use tre_feed::{Fault, Input, dump_input, text_input};
 use tre_generate::summary;
@@ -54,8 +55,9 @@ fn answer_by<S: Source, R: TraceReader + Drop, O: Sink>(
 {
     match &job.mode {
         Mode::Offline => {
-            let text = matches_text(alloc, asked, job, input, source)?;
-            write_text(text.as_str(), out)
+            let found = find_matches(alloc, asked, job, input, source)?;
+            let mut room = piece_room(alloc)?;
+            write_matches(&found.zones, found.end, job.scale, &mut room, out)
         }
         _ => tell_matches(
             alloc,

@@ -18,6 +18,7 @@ mod asked;
 mod columns;
 pub mod laws;
 mod offline;
+mod printing;
 
 pub use answering::answer;
 pub use asked::{Asked, Definitions};

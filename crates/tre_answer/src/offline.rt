@@ -1,5 +1,5 @@
 // The matches over a whole input, told at once.
-ghost use Rattle.std.specs.Prelude.{◌≡◌, ◌≤◌, ◌<◌, ◌+◌, ℕ, All, List, [], false, get_or, IsTrue, IfOk, IfErr, IfSome, IsSomeAnd, OnOk, length, string_bytes};
+ghost use Rattle.std.specs.Prelude.{◌≡◌, ◌≤◌, ◌<◌, ◌+◌, ℕ, All, List, [], false, get_or, IsTrue, IfOk, IfErr, IfSome, IsSomeAnd, OnOk, length};
 ghost use Rattle.tre_answer.specs.Parts.{IsFoundFor, IsInputOf, StopsAs};
 ghost use Rattle.tre_answer.specs.Recorded.{recording_for};
 ghost use Rattle.tre_answer.specs.Request.{FitsJob, request_for};
@@ -8,6 +8,7 @@ ghost use Rattle.tre_feed.specs.Input.{TakesAtMost, input_told};
 ghost use Rattle.tre_feed.specs.Standing.{IsNew, recording_of};
 ghost use Rattle.tre_answer.specs.declared.asked.Definitions.{Definitions};
 ghost use Rattle.tre_pairs.specs.Except.{Except};
+ghost use Rattle.tre_show.specs.Line.{offline_text};
 ghost use Rattle.tre_tell.specs.Sought.{sought_by};
 ghost use Rattle.tre_trace.specs.Trace.{IsTrace, end_of, quiet};
 ghost use Rattle.tre_words.specs.Job.{IsJob};
@@ -20,16 +21,24 @@ use tre_feed::{Fault, Input};
 use tre_io::Source;
 use tre_minus::minus;
 use tre_offline::{into_matches, matches_among};
-use tre_show::{in_printed_order, offline_text};
+use tre_packed::{AnyTrace, Packed};
+use tre_show::in_printed_order;
 use tre_strips::strips;
 use tre_syntax::Pattern;
-use tre_trace::{Trace, TraceReader};
+use tre_trace::TraceReader;
 use tre_words::{Job, Mode};
 use tre_zone::Zone;
 use tre_zoneset::ZoneSet;
 
-// The matches that are wanted of an input, and where it ends.
+/// Zones of the matches that are wanted of an input, in the order of printing, and where it ends.
 #[derive(Debug, Drop)]
+pub struct Matches {
+    pub zones: Vec<Zone>,
+    pub end: u64,
+}
+
+// The matches that are wanted of an input, and where it ends.
+#[derive(Drop)]
 struct Found {
     set: ZoneSet,
     end: u64,
@@ -40,7 +49,7 @@ struct Found {
 fn wanted_matches(
     alloc: Global,
     patterns: &[Pattern],
-    traces: Vec<Trace>,
+    traces: Vec<Packed>,
 ) -> Result<Found, AllocError>
     requires some { 0 < length patterns.now }
     requires count { length traces.items ≡ length patterns.now }
@@ -64,7 +73,7 @@ fn without_others(
     alloc: Global,
     set: ZoneSet,
     patterns: &[Pattern],
-    traces: &[Trace],
+    traces: &[Packed],
 ) -> Result<ZoneSet, AllocError>
     requires count { length traces.now ≡ length patterns.now }
     ensures { IfOk result (λ left. (labels : List (List ℕ)) →
@@ -113,14 +122,14 @@ fn check_count(zones: &[Zone], most: Option<u64>) -> Result<(), Fault>
     }
 }
 
-/// The text of all matches that are wanted over the job's input.
-pub fn matches_text<S: Source, R: TraceReader + Drop>(
+/// The matches that are wanted over the job's input, no more of them than there may be.
+pub fn find_matches<S: Source, R: TraceReader + Drop>(
     alloc: Global,
     asked: &Asked,
     job: &Job,
     input: Input<R>,
     source: &mut S,
-) -> Result<String, Fault>
+) -> Result<Matches, Fault>
     requires closed { (S.told source.old).opened ≡ false }
     requires job { IsJob job.now }
     requires offline { job.now.mode ≡ Mode.Offline }
@@ -129,8 +138,9 @@ pub fn matches_text<S: Source, R: TraceReader + Drop>(
     requires new { IsNew R.terms R.represents R.names input }
     ensures found { (definitions : Definitions) → recording_of R.recording R.terms input
         ≡ recording_for (request_for job.now definitions asked.now) →
-        IfOk result (λ text. IsFoundFor (request_for job.now definitions asked.now)
-        (input_told (S.told source.old) (S.told source.new)) (string_bytes text)) }
+        IfOk result (λ found. IsFoundFor (request_for job.now definitions asked.now)
+        (input_told (S.told source.old) (S.told source.new))
+        (offline_text job.now.scale found.zones.items found.end)) }
     ensures stops { (definitions : Definitions) → recording_of R.recording R.terms input
         ≡ recording_for (request_for job.now definitions asked.now) →
         IfErr result (StopsAs (request_for job.now definitions asked.now)
@@ -144,6 +154,8 @@ pub fn matches_text<S: Source, R: TraceReader + Drop>(
     let found = wanted_matches(alloc, &asked.patterns, traces)?;
     let zones = zones_for(alloc, found.set, job.normal)?;
     check_count(&zones, job.max_zones)?;
-    let text = offline_text(alloc, &zones, found.end, job.scale)?;
-    Ok(text)
+    Ok(Matches {
+        zones,
+        end: found.end,
+    })
 }

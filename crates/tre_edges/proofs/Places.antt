@@ -12,13 +12,6 @@ use Rattle.tre_trace.proofs.Segments.{end_of-append, end_of-le, end_of-from, end
 abbrev pub time_of : List Segment → ℕ → ℕ
 time_of segments place = end_of 0 (take place segments)
 
--- each segment lasts a tick at least
-pub count-le : (start : ℕ) (segments : List Segment) → AreLong segments
-    → start + length segments ≤ end_of start segments
-count-le start [] long = omega arith
-count-le start (segment ∷ rest) long =
-    omega (arith, count-le (start + segment.len) rest long.1, long.0)
-
 long_at : (segments : List Segment) (place : ℕ) (d : Segment) → AreLong segments
     → place < length segments → 1 ≤ (get_or segments place d).len
 long_at [] place d long within = absurd (omega arith)
@@ -61,6 +54,3 @@ pub time_of-limit : (segments : List Segment) (place : ℕ) → IsTrace segments
     → time_of segments place ≤ TIME_MAX
 time_of-limit segments place trace =
     omega (arith, end_of-take-le 0 segments place, trace.in_time)
-
-pub count-limit : (segments : List Segment) → IsTrace segments → length segments ≤ TIME_MAX
-count-limit segments trace = omega (arith, count-le 0 segments trace.long, trace.in_time)

@@ -1,5 +1,5 @@
 -- The stretches of a run that last so long, as one zone.
-use Rattle.std.proofs.Common.{◌≡◌, ℕ, ◌+◌, ◌-◌, ◌*◌, ◌<◌, ◌≤◌, ◌⊎◌, ◌↔◌, List, arith, ℤ, pos, ◌-ℤ◌, ◌≤ℤ◌, inl, inr, ⊎_elim, ap}
+use Rattle.std.proofs.Common.{◌≡◌, ℕ, ◌+◌, ◌-◌, ◌*◌, ◌<◌, ◌≤◌, ◌↔◌, List, arith, ℤ, pos, ◌-ℤ◌, ◌≤ℤ◌, inl, inr, ⊎_elim, ap}
 use Rattle.std.proofs.Math.Nat.{mul-le-mul_right}
 use Rattle.std.proofs.lemmas.Int.{ints}
 use Rattle.tre_pairs.specs.Pairs.{Either, Both, Lasting}

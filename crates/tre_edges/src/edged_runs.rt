@@ -15,27 +15,28 @@ use crate::room::room_for_runs;
 use crate::run_edges::RunEdges;
 use crate::truth_words::truth;
 use std::alloc::{AllocError, Global};
+use tre_packed::AnyTrace;
 use tre_state::{NAMES_MAX, State};
-use tre_trace::{Start, Trace};
+use tre_trace::Start;
 use tre_zone::Interval;
 use tre_zoneset::ZoneSet;
 
 /// The stretches on which the state holds throughout, and that begin and end at these edges: one
 /// zone at most for each longest run, in the order of time. Where there is an interval, those alone
 /// whose duration is in it.
-pub fn run_parts(
+pub fn run_parts<T: AnyTrace>(
     alloc: Global,
     state: &State,
-    trace: &Trace,
+    trace: &T,
     edges: RunEdges,
     interval: Option<Interval>,
 ) -> Result<ZoneSet, AllocError>
     requires { NumbersBelow NAMES_MAX (tree_of state.now) }
     ensures { IfOk result (λ zones. HoldExactly zones (Lasting (LastsIn interval)
-        (IsRunPart edges (tree_of state.now) (whole trace.now)))) }
+        (IsRunPart edges (tree_of state.now) (whole (T.timeline trace.now))))) }
 {
     let words = truth(alloc, state, trace)?;
-    let count = trace.segments().len();
+    let count = trace.count();
     let mut zones = room_for_runs(alloc, &words)?;
     // All runs that begin before `at` were looked at, and times were added up as far as `seen`.
     let mut at = 0;

@@ -13,44 +13,47 @@ use crate::next_place::next_place;
 use crate::room::room_for_runs;
 use crate::truth_words::truth;
 use std::alloc::{AllocError, Global};
+use tre_packed::AnyTrace;
 use tre_state::{NAMES_MAX, State};
-use tre_trace::{Start, Trace};
+use tre_trace::Start;
 use tre_zoneset::ZoneSet;
 
 /// The instants at which the state becomes true, one zone each, in the order of time.
-pub fn rises(alloc: Global, state: &State, trace: &Trace) -> Result<ZoneSet, AllocError>
+pub fn rises<T: AnyTrace>(alloc: Global, state: &State, trace: &T) -> Result<ZoneSet, AllocError>
     requires { NumbersBelow NAMES_MAX (tree_of state.now) }
     ensures matches { IfOk result (λ zones.
-        HoldExactly zones (AtomMatches (whole trace.now) (rise (tree_of state.now)))) }
+        HoldExactly zones
+        (AtomMatches (whole (T.timeline trace.now)) (rise (tree_of state.now)))) }
     ensures instants { IfOk result (λ zones. AreInstants 0 zones) }
 {
     changes(alloc, state, trace, true)
 }
 
 /// The instants at which the state becomes false, one zone each, in the order of time.
-pub fn falls(alloc: Global, state: &State, trace: &Trace) -> Result<ZoneSet, AllocError>
+pub fn falls<T: AnyTrace>(alloc: Global, state: &State, trace: &T) -> Result<ZoneSet, AllocError>
     requires { NumbersBelow NAMES_MAX (tree_of state.now) }
     ensures matches { IfOk result (λ zones.
-        HoldExactly zones (AtomMatches (whole trace.now) (fall (tree_of state.now)))) }
+        HoldExactly zones
+        (AtomMatches (whole (T.timeline trace.now)) (fall (tree_of state.now)))) }
     ensures instants { IfOk result (λ zones. AreInstants 0 zones) }
 {
     changes(alloc, state, trace, false)
 }
 
 // The instants at which the state comes to this truth.
-fn changes(
+fn changes<T: AnyTrace>(
     alloc: Global,
     state: &State,
-    trace: &Trace,
+    trace: &T,
     becomes: bool,
 ) -> Result<ZoneSet, AllocError>
     requires { NumbersBelow NAMES_MAX (tree_of state.now) }
     ensures matches { IfOk result (λ zones.
-        HoldExactly zones (ComesTo becomes (tree_of state.now) (whole trace.now))) }
+        HoldExactly zones (ComesTo becomes (tree_of state.now) (whole (T.timeline trace.now)))) }
     ensures instants { IfOk result (λ zones. AreInstants 0 zones) }
 {
     let words = truth(alloc, state, trace)?;
-    let count = trace.segments().len();
+    let count = trace.count();
     let mut zones = room_for_runs(alloc, &words)?;
     // All edges before the place `at` are in, and the one there is none. Times were added up as far
     // as `seen`.

@@ -9,28 +9,39 @@ ghost use Rattle.tre_edges.specs.Instants.{AreInstants};
 ghost use Rattle.tre_edges.specs.Piece.{rest_of_piece};
 
 use crate::instants::{add_instant, instant_of};
+use crate::next_place::next_place;
 use crate::piece::Piece;
 use std::alloc::{AllocError, Global};
+use tre_packed::AnyTrace;
 use tre_state::NAMES_MAX;
-use tre_trace::Trace;
+use tre_trace::Start;
 use tre_zone::Zone;
 use tre_zoneset::ZoneSet;
 
 /// The instants at which the event of this number happens, one zone each, in the order of time: at
 /// the begin of a segment, or at the end of the trace.
-pub fn events(alloc: Global, number: u8, trace: &Trace) -> Result<ZoneSet, AllocError>
+pub fn events<T: AnyTrace>(alloc: Global, number: u8, trace: &T) -> Result<ZoneSet, AllocError>
     requires { number < NAMES_MAX }
     ensures matches { IfOk result (λ zones.
-        HoldExactly zones (AtomMatches (whole trace.now) (event number))) }
+        HoldExactly zones (AtomMatches (whole (T.timeline trace.now)) (event number))) }
     ensures instants { IfOk result (λ zones. AreInstants 0 zones) }
 {
+    let words = trace.event_plane(alloc, number)?;
+    let count = trace.count();
     let mut zones = ZoneSet::new(alloc);
-    let mut begin = 0;
-    for segment in trace.segments() {
-        add_instant(&mut zones, begin, happens(number, segment.ev))?;
-        begin += segment.len;
+    // All events before the place `at` are in. Times were added up as far as `seen`.
+    let mut at = next_place(&words, true, 0, count);
+    let mut seen = Start { place: 0, time: 0 };
+    while at < count {
+        seen = trace.start_from(seen, at);
+        add_instant(&mut zones, seen.time, true)?;
+        at = next_place(&words, true, at + 1, count);
     }
-    add_instant(&mut zones, begin, happens(number, trace.last_events()))?;
+    add_instant(
+        &mut zones,
+        trace.end(),
+        happens(number, trace.last_events()),
+    )?;
     Ok(zones)
 }
 

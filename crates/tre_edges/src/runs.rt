@@ -17,21 +17,23 @@ use crate::room::room_for_runs;
 use crate::span_within::span_within;
 use crate::truth_words::truth;
 use std::alloc::{AllocError, Global};
+use tre_packed::AnyTrace;
 use tre_state::{NAMES_MAX, State};
-use tre_trace::{Start, Trace};
+use tre_trace::Start;
 use tre_zone::{Interval, Zone};
 use tre_zoneset::ZoneSet;
 
 /// The stretches on which the state holds throughout, one zone for each longest run of segments on
 /// which it is true, in the order of time. None of them is an instant.
-pub fn literal(alloc: Global, state: &State, trace: &Trace) -> Result<ZoneSet, AllocError>
+pub fn literal<T: AnyTrace>(alloc: Global, state: &State, trace: &T) -> Result<ZoneSet, AllocError>
     requires { NumbersBelow NAMES_MAX (tree_of state.now) }
     ensures matches { IfOk result (λ zones.
-        HoldExactly zones (AtomMatches (whole trace.now) (pattern.literal (tree_of state.now)))) }
+        HoldExactly zones
+        (AtomMatches (whole (T.timeline trace.now)) (pattern.literal (tree_of state.now)))) }
     ensures runs { IfOk result (λ zones. AreRuns 0 zones) }
 {
     let words = truth(alloc, state, trace)?;
-    let count = trace.segments().len();
+    let count = trace.count();
     let mut zones = room_for_runs(alloc, &words)?;
     // All runs that begin before `at` are in, and times were added up as far as `seen`.
     let mut at = 0;
@@ -49,18 +51,18 @@ pub fn literal(alloc: Global, state: &State, trace: &Trace) -> Result<ZoneSet, A
 
 /// The stretches of [`literal`] whose duration is in the interval, one zone at most for each
 /// longest run, in the order of time.
-pub fn literal_within(
+pub fn literal_within<T: AnyTrace>(
     alloc: Global,
     state: &State,
-    trace: &Trace,
+    trace: &T,
     interval: &Interval,
 ) -> Result<ZoneSet, AllocError>
     requires { NumbersBelow NAMES_MAX (tree_of state.now) }
     ensures { IfOk result (λ zones. HoldExactly zones (Lasting (LastsWithin interval.now)
-        (AtomMatches (whole trace.now) (pattern.literal (tree_of state.now))))) }
+        (AtomMatches (whole (T.timeline trace.now)) (pattern.literal (tree_of state.now))))) }
 {
     let words = truth(alloc, state, trace)?;
-    let count = trace.segments().len();
+    let count = trace.count();
     let mut zones = room_for_runs(alloc, &words)?;
     // As above: all runs that begin before `at` are in.
     let mut at = 0;

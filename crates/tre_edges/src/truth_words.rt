@@ -7,27 +7,28 @@ ghost use Rattle.tre_edges.specs.WordBits.{AreCleared, AreOpposite, AreOnes};
 
 use std::alloc::{AllocError, Global};
 use tre_lanes::{and_into, not_into, or_into};
+use tre_packed::AnyTrace;
 use tre_state::{NAMES_MAX, State};
-use tre_trace::Trace;
 
 /// How many places one word has bits for.
 const WORD_BITS: usize = 64;
 
 /// Where the state holds on a trace: bit j % 64 of word j / 64 is its truth on the segment at the
 /// place j. It goes as deep as the state does.
-pub fn truth(alloc: Global, state: &State, trace: &Trace) -> Result<Vec<u64>, AllocError>
+pub fn truth<T: AnyTrace>(alloc: Global, state: &State, trace: &T) -> Result<Vec<u64>, AllocError>
     requires { NumbersBelow NAMES_MAX (tree_of state.now) }
-    ensures { IfOk result (λ words. AreTruthOf (tree_of state.now) trace.now.segments words.items) }
+    ensures { IfOk result (λ words.
+        AreTruthOf (tree_of state.now) (T.timeline trace.now).segments words.items) }
 {
     match state {
-        State::Yes => always(alloc, trace.segments().len()),
+        State::Yes => always(alloc, trace.count()),
         State::Prop(number) => {
             let plane = Vec::from_slice(alloc, trace.plane(*number))?;
             Ok(plane)
         }
         State::Not(inner) => {
             let words = truth(alloc, inner, trace)?;
-            complement(alloc, &words, trace.segments().len())
+            complement(alloc, &words, trace.count())
         }
         State::And(left, right) => {
             let mut words = truth(alloc, left, trace)?;

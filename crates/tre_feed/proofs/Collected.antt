@@ -1,5 +1,5 @@
 -- What was read of an input, from no bytes to its end.
-use Rattle.std.proofs.Common.{◌≡◌, ◌≢◌, ◌+◌, ◌<◌, ℕ, Bool, true, false, List, [], ◌∷◌, ◌++◌, All, length, get_or, map, take, Option, None, Some, IsTrue, Result, Err, refl, sym, subst, arith}
+use Rattle.std.proofs.Common.{◌≡◌, ◌∙◌, ◌≢◌, ◌+◌, ◌<◌, ℕ, Bool, true, false, List, [], ◌∷◌, ◌++◌, All, length, get_or, map, take, Option, None, Some, IsTrue, Result, Err, refl, sym, subst, arith}
 use Rattle.std.specs.Io.KnownBytes.{Consumes, IsAtEnd}
 use Rattle.std.proofs.KnownBytes.{Consumes-whole}
 use Rattle.std.proofs.lemmas.List.{length-map}
@@ -31,7 +31,7 @@ module _ {R Terms : Type 0} (terms : R → Terms) (recording : Terms → Bool �
     traces_by traces [] closed bytes asked = record { long = tt; in_time = omega arith }
     traces_by traces (fed ∷ each) closed bytes asked = traces (terms fed.reader) asked closed bytes
 
--- These bytes were fed, and what they say waits.
+-- These bytes were fed, and what they say is packed.
 pub record IsCollected (were_fed : List ℕ → Type 0) (waits : List Stretch → Type 0)
     (recording : Bool → List ℕ → Recording) (limit : ℕ) (file left found : Option (List ℕ))
     (count : ℕ) : Type 0 where
@@ -39,7 +39,7 @@ pub record IsCollected (were_fed : List ℕ → Type 0) (waits : List Stretch �
   pub fed : TurnIsFed were_fed limit file left found count bytes
   pub told : waits (recording false (take limit bytes)).stretches
 
--- what waits before a byte is read
+-- what is packed before a byte is read
 pub told_start : (waits : List Stretch → Type 0) (recording : Bool → List ℕ → Recording)
     (limit : ℕ) → (recording false []).stretches ≡ [] → waits []
     → waits (recording false (take limit [])).stretches
@@ -47,24 +47,44 @@ told_start waits recording limit nothing none =
     subst (λ bytes. waits (recording false bytes).stretches)
     (sym (take-over {X = ℕ} limit [] (omega arith))) (subst waits (sym nothing) none)
 
--- what waits behind a turn
-pub told_more : {waits then_waits : List Stretch → Type 0} {before now : Recording}
-    → TakesOn waits then_waits before now → waits before.stretches → then_waits now.stretches
-told_more {then_waits = then_waits} {before = before} takes told =
-    subst then_waits (sym takes.beyond) (takes.then before.stretches told)
+-- what is packed behind a turn before which nothing waited
+pub told_more : (packs : List Stretch → Type 0) {waits then_waits : List Stretch → Type 0}
+    {before now : Recording} → TakesOn waits then_waits before now → waits []
+    → ((added : List Stretch) → then_waits added → packs (before.stretches ++ added))
+    → packs now.stretches
+told_more packs takes none pack =
+    subst packs (sym takes.beyond) (pack takes.added (takes.then [] none))
 
--- a turn went on
-pub IsCollected-more : {were_fed : List ℕ → Type 0} (recording : Bool → List ℕ → Recording)
-    (limit : ℕ) (file left found : Option (List ℕ)) (count : ℕ) (bytes : List ℕ)
-    {waits then_waits : List Stretch → Type 0}
-    → TurnGoesOn were_fed recording limit file left found count bytes waits then_waits
-    → waits (recording false (take limit bytes)).stretches
-    → IsCollected were_fed then_waits recording limit file left found count
-IsCollected-more recording limit file left found count bytes more told = record {
-  bytes = bytes ++ more.piece;
-  fed = more.fed;
-  told = told_more more.all told;
-}
+-- a turn went on, and what it completed was packed
+pub IsCollected-more : {were_fed then_fed : List ℕ → Type 0}
+    (recording : Bool → List ℕ → Recording) (limit : ℕ) (file left found : Option (List ℕ))
+    (count taken : ℕ) (bytes : List ℕ) (packs : List Stretch → Type 0)
+    {waits then_waits : List Stretch → Type 0} → TurnGoesOn were_fed recording limit file left found count bytes waits then_waits → waits []
+    → ((added : List Stretch) → then_waits added
+    → packs ((recording false (take limit bytes)).stretches ++ added))
+    → ((fed : List ℕ) → were_fed fed → then_fed fed) → taken ≡ count
+    → IsCollected then_fed packs recording limit file left found taken
+IsCollected-more recording limit file left found count taken bytes packs more none pack kept same =
+    record {
+      bytes = bytes ++ more.piece;
+      fed = record {
+        front = more.fed.front;
+        last = more.fed.last;
+        size = more.fed.size ∙ sym same;
+        few = rw same more.fed.few;
+        fed = kept (take limit (bytes ++ more.piece)) more.fed.fed;
+      };
+      told = told_more packs more.all none pack;
+    }
+
+-- so it is by what is asked now, which is the same
+pub IsCollected-as : (were_fed : List ℕ → Type 0) (packs : List Timeline → List Stretch → Type 0)
+    (said now : Bool → List ℕ → Recording) (limit most : ℕ) (traces items : List Timeline)
+    {file left found : Option (List ℕ)} {taken : ℕ} → now ≡ said → most ≡ limit → items ≡ traces
+    → IsCollected were_fed (packs traces) said limit file left found taken
+    → IsCollected were_fed (packs items) now most file left found taken
+IsCollected-as were_fed packs said now limit most traces items same limited are read =
+    rw (same, limited, are) read
 
 -- however a turn ended, what was taken is at most one byte past the limit
 pub HasRead-bounded : {recording : Bool → List ℕ → Recording} {limit : ℕ}

@@ -3,6 +3,7 @@ use Rattle.std.proofs.Common.{◌≡◌, ◌∙◌, ℕ, ◌<◌, Bool, List, []
 use Rattle.tre_feed.specs.declared.view.View.{View}
 use Rattle.tre_trace.specs.Reading.{Recording, Stretch, Vocabulary}
 use Rattle.tre_feed.specs.Each.{RowsAre, all_asked, groups_in}
+use Rattle.tre_feed.specs.Packing.{KeepsViews}
 use Rattle.tre_feed.specs.Standing.{AreFor, IsAsked}
 use Rattle.tre_feed.specs.declared.input.Input.{Input}
 use Rattle.tre_feed.specs.declared.each.Fed.{Fed}
@@ -23,6 +24,16 @@ IsAsked-same names terms recording old new same views limit = record {
   };
   said = recording_same names terms recording new.each.items old.each.items same;
   limit = limit;
+}
+
+-- and by the same views
+pub KeepsViews-same : {R Terms : Type 0} (names : R → Vocabulary) (terms : R → Terms)
+    (old new : Input R)
+    → all_asked names terms new.each.items ≡ all_asked names terms old.each.items
+    → new.views.items ≡ old.views.items → KeepsViews names old new
+KeepsViews-same names terms old new same views = record {
+  groups = groups_same names terms new.each.items old.each.items same;
+  views = views;
 }
 
 -- as many stretches wait, whatever they are

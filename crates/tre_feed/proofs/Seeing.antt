@@ -1,6 +1,7 @@
 -- What views show of the rows, for the names of each who asks.
-use Rattle.std.proofs.Common.{◌≡◌, ◌∙◌, ℕ, zero, suc, ◌+◌, ◌<◌, Bool, List, [], ◌∷◌, All, length, map, get_or, drop, refl, sym, ap, ap₂, subst, arith}
-use Rattle.std.proofs.lemmas.List.{drop_more, length-map}
+use Rattle.std.proofs.Common.{◌≡◌, ◌∙◌, ℕ, zero, suc, ◌+◌, ◌<◌, Bool, List, [], ◌∷◌, ◌++◌, All, length, map, get_or, refl, sym, ap, ap₂, subst, arith}
+use Rattle.std.proofs.lemmas.List.{length-map, map-append}
+use Rattle.std.proofs.lemmas.List.Elements.{All-head, All-tail}
 use Rattle.std.proofs.lemmas.Option.{get_or_from_slice_get, slice_get_within}
 use Rattle.tre_feed.specs.Places.{places_of}
 use Rattle.tre_feed.specs.Shares.{IsViewOf, Shows, group_of}
@@ -9,13 +10,16 @@ use Rattle.tre_feed.specs.declared.view.View.{View}
 use Rattle.tre_feed.proofs.Among.{seen-places}
 use Rattle.tre_trace.specs.Reading.{Recording, Stretch, Vocabulary, events_for, no_names, segment_for, segments_for}
 use Rattle.tre_trace.specs.Segments.{segment_with}
-use Rattle.tre_trace.specs.Trace.{AreLong, IsTrace, Timeline, end_of, timeline_of}
+use Rattle.tre_trace.specs.Trace.{AreLong, IsTrace, Timeline, end_of, quiet, timeline_of}
 use Rattle.tre_trace.specs.declared.segment.Segment.{Segment}
 use Rattle.tre_feed.specs.Each.{LastsAre, RowsAre, groups_in}
-use Rattle.tre_feed.specs.Seen.{RowsAreKept, last_seen, lasts_in, no_segment, row_seen, rows_in, segment_seen, trace_seen}
+use Rattle.tre_feed.specs.Packing.{ArePacked, CanPack, KeepsViews, ended_by, packed_behind, row_shown, trace_shown}
+use Rattle.tre_feed.specs.Seen.{last_seen, lasts_in, no_segment, row_seen, rows_in, segment_seen}
 use Rattle.tre_feed.specs.Standing.{AreFor, stretch_behind}
 use Rattle.tre_feed.specs.Traces.{trace_for}
 use Rattle.tre_feed.specs.declared.each.Fed.{Fed}
+use Rattle.tre_feed.specs.declared.input.Input.{Input}
+use Rattle.tre_feed.proofs.Standing.{segments_more}
 
 pub at_mapped : {A B : Type 0} (f : A → B) (xs : List A) (k : ℕ) (d : A) (e : B) → k < length xs
     → get_or (map f xs) k e ≡ f (get_or xs k d)
@@ -56,33 +60,22 @@ module _ {R : Type 0} (names : R → Vocabulary) where
       (segment_for (get_or (groups_in names each) (group_of view) no_names)) in
       omega (arith, size, below)
 
-  -- what views show of rows that are traces is a trace
-  pub rows_traces : (each : List (Fed R)) (views : List View) (stretches : List Stretch)
-      → All (λ view. group_of view < length each) views → RowsAre names each stretches
-      → ((asked : Vocabulary) → IsTrace (segments_for asked stretches))
-      → All (λ view. IsTrace (map (shown_segment view) (row_seen (rows_in each) view))) views
-  rows_traces each views stretches within rows traces = λ k d inside.
-      let view = get_or views k d in
-      trace_shown view (row_seen (rows_in each) view) (subst IsTrace
-      (sym (row_at each (group_of view) stretches rows (within k d inside)))
-      (traces (get_or (groups_in names each) (group_of view) no_names)))
-    where
-      long_shown : (view : View) (row : List Segment) → AreLong row
-          → AreLong (map (shown_segment view) row)
-      long_shown view [] long = tt
-      long_shown view (segment ∷ row) long = (long.0, long_shown view row long.1)
+-- what a view shows of a trace is one
+IsTrace-shown : (view : View) (row : List Segment) → IsTrace row
+    → IsTrace (map (shown_segment view) row)
+IsTrace-shown view row is = record {
+  long = long_shown row is.long;
+  in_time = omega (arith, is.in_time, end_shown row 0);
+}
+  where
+    long_shown : (row : List Segment) → AreLong row → AreLong (map (shown_segment view) row)
+    long_shown [] long = tt
+    long_shown (segment ∷ row) long = (long.0, long_shown row long.1)
 
-      end_shown : (view : View) (row : List Segment) (start : ℕ)
-          → end_of start (map (shown_segment view) row) ≡ end_of start row
-      end_shown view [] start = refl
-      end_shown view (segment ∷ row) start = end_shown view row (start + segment.len)
-
-      trace_shown : (view : View) (row : List Segment) → IsTrace row
-          → IsTrace (map (shown_segment view) row)
-      trace_shown view row is = record {
-        long = long_shown view row is.long;
-        in_time = omega (arith, is.in_time, end_shown view row 0);
-      }
+    end_shown : (row : List Segment) (start : ℕ)
+        → end_of start (map (shown_segment view) row) ≡ end_of start row
+    end_shown [] start = refl
+    end_shown (segment ∷ row) start = end_shown row (start + segment.len)
 
 -- one who asks, of a group
 module _ (asked all : Vocabulary) (view : View) (shows : Shows asked all view) where
@@ -139,14 +132,12 @@ module _ {R : Type 0} (names : R → Vocabulary) (each : List (Fed R)) where
       ∙ ap (λ (group : Vocabulary). events_for group last) (names_at asked view own))
       ∙ last_shown asked own.all view own.shows last
 
-  row_is : (asked : Vocabulary) (view : View) (stretches : List Stretch)
-      → IsViewOf (groups_in names each) asked view → RowsAre names each stretches
-      → map (shown_segment view) (row_seen (rows_in each) view) ≡ segments_for asked stretches
-  row_is asked view stretches own rows =
-      ap (map (shown_segment view))
-      (row_at names each (group_of view) stretches rows (group_within asked view own)
-      ∙ ap (λ (group : Vocabulary). segments_for group stretches) (names_at asked view own))
-      ∙ segments_shown asked own.all view own.shows stretches
+  shown_is : (asked : Vocabulary) (view : View) (stretches : List Stretch)
+      → IsViewOf (groups_in names each) asked view
+      → trace_shown (groups_in names each) stretches view ≡ quiet (segments_for asked stretches)
+  shown_is asked view stretches own = ap quiet
+      (ap (λ (group : Vocabulary). map (shown_segment view) (segments_for group stretches))
+      (names_at asked view own) ∙ segments_shown asked own.all view own.shows stretches)
 
   -- what all views show is what all who ask are to be told
   pub column_is : (asked : List Vocabulary) (views : List View) (stretches : List Stretch)
@@ -173,50 +164,69 @@ module _ {R : Type 0} (names : R → Vocabulary) (each : List (Fed R)) where
       (lasts_are asked views last are.1 lasts)
 
   pub traces_are : (asked : List Vocabulary) (views : List View) (said : Recording)
-      → AreFor asked (groups_in names each) views → RowsAre names each said.stretches
-      → LastsAre names each said.last
-      → map (trace_seen (rows_in each) (lasts_in each)) views ≡ map (trace_for said) asked
-  traces_are [] [] said are rows lasts = refl
-  traces_are [] (view ∷ views) said are rows lasts = absurd are
-  traces_are (one ∷ asked) [] said are rows lasts = absurd are
-  traces_are (one ∷ asked) (view ∷ views) said are rows lasts =
+      → AreFor asked (groups_in names each) views → LastsAre names each said.last
+      → ended_by (lasts_in each) views
+      (map (trace_shown (groups_in names each) said.stretches) views)
+      ≡ map (trace_for said) asked
+  traces_are [] [] said are lasts = refl
+  traces_are [] (view ∷ views) said are lasts = absurd are
+  traces_are (one ∷ asked) [] said are lasts = absurd are
+  traces_are (one ∷ asked) (view ∷ views) said are lasts =
       ap₂ (λ (first : Timeline) rest. first ∷ rest)
-      (ap₂ timeline_of (row_is one view said.stretches are.0 rows)
+      (ap₂ timeline_of
+      (ap (λ (trace : Timeline). trace.segments) (shown_is one view said.stretches are.0))
       (last_is one view said.last are.0 lasts))
-      (traces_are asked views said are.1 rows lasts)
+      (traces_are asked views said are.1 lasts)
 
--- ---- rows that later views still need
+  -- ---- what waits, behind what was packed
 
-module _ {R : Type 0} {old new : List (Fed R)} where
-  -- what the first of them is of is as it was
-  pub kept_first : (at : ℕ) (views : List View) (d : View) → at < length views
-      → RowsAreKept (drop at views) old new
-      → row_seen (rows_in new) (get_or views at d) ≡ row_seen (rows_in old) (get_or views at d)
-  kept_first zero [] d below kept = absurd (omega (arith, below))
-  kept_first zero (view ∷ views) d below kept = kept.rows 0 d (omega arith)
-  kept_first (suc at) [] d below kept = absurd (omega (arith, below))
-  kept_first (suc at) (view ∷ views) d below kept =
-      kept_first at views d (omega (arith, below)) kept
+  shown_more : (view : View) (told waiting : List Stretch) → group_of view < length each
+      → RowsAre names each waiting
+      → quiet ((trace_shown (groups_in names each) told view).segments
+      ++ row_shown (rows_in each) view)
+      ≡ trace_shown (groups_in names each) (told ++ waiting) view
+  shown_more view told waiting below rows =
+      let group = get_or (groups_in names each) (group_of view) no_names in
+      let front = segments_for group told in
+      let behind = segments_for group waiting in
+      ap quiet (ap (λ (row : List Segment). map (shown_segment view) front
+      ++ map (shown_segment view) row) (row_at names each (group_of view) waiting rows below)
+      ∙ (sym (map-append (shown_segment view) front behind)
+      ∙ ap (map (shown_segment view)) (segments_more group told waiting)))
 
-all_rest : {A : Type 0} (P : A → Type 0) (x : A) (xs : List A) → All P (x ∷ xs) → All P xs
-all_rest P x xs all = λ k d below. all (suc k) d (omega (arith, below))
+  pub can_pack : (views : List View) (told waiting : List Stretch)
+      → All (λ view. group_of view < length each) views → RowsAre names each waiting
+      → ((asked : Vocabulary) → IsTrace (segments_for asked (told ++ waiting)))
+      → CanPack (rows_in each) views (map (trace_shown (groups_in names each) told) views)
+  can_pack [] told waiting within rows is_trace = tt
+  can_pack (view ∷ views) told waiting within rows is_trace =
+      let group = get_or (groups_in names each) (group_of view) no_names in (
+        subst (λ (trace : Timeline). IsTrace trace.segments)
+            (sym (shown_more view told waiting (All-head (λ (one : View). group_of one < length each) view views within) rows))
+            (IsTrace-shown view (segments_for group (told ++ waiting)) (is_trace group)),
+        can_pack views told waiting (All-tail (λ (one : View). group_of one < length each) view views within) rows is_trace,
+      )
 
--- those behind it are of what they were
-pub kept_then : {R : Type 0} {old mid new : List (Fed R)} (at : ℕ) (views : List View)
-    → at < length views → RowsAreKept (drop at views) old mid
-    → RowsAreKept (drop (at + 1) views) mid new → RowsAreKept (drop (at + 1) views) old new
-kept_then {old = old} {mid = mid} {new = new} at views below first second = record {
-  rows = λ k d inside. second.rows k d inside ∙ earlier k d inside;
-  lasts = second.lasts ∙ first.lasts;
-  count = second.count ∙ first.count;
+  pub packed_more : (views : List View) (told waiting : List Stretch)
+      → All (λ view. group_of view < length each) views → RowsAre names each waiting
+      → packed_behind (rows_in each) views (map (trace_shown (groups_in names each) told) views)
+      ≡ map (trace_shown (groups_in names each) (told ++ waiting)) views
+  packed_more [] told waiting within rows = refl
+  packed_more (view ∷ views) told waiting within rows =
+      ap₂ (λ (first : Timeline) rest. first ∷ rest)
+      (shown_more view told waiting (All-head (λ (one : View). group_of one < length each) view views within) rows)
+      (packed_more views told waiting (All-tail (λ (one : View). group_of one < length each) view views within) rows)
+
+-- what is packed stays so while groups and views do
+pub ArePacked-kept : {R : Type 0} (names : R → Vocabulary) (old new : Input R)
+    (traces : List Timeline) (stretches : List Stretch) → KeepsViews names old new
+    → ArePacked names old traces stretches → ArePacked names new traces stretches
+ArePacked-kept names old new traces stretches keeps packed = record {
+  are = rw (keeps.groups, keeps.views) packed.are;
 }
-  where
-    earlier : (k : ℕ) (d : View) → k < length (drop (at + 1) views)
-        → row_seen (rows_in mid) (get_or (drop (at + 1) views) k d)
-        ≡ row_seen (rows_in old) (get_or (drop (at + 1) views) k d)
-    earlier k d inside = all_rest
-        (λ (one : View). row_seen (rows_in mid) one ≡ row_seen (rows_in old) one)
-        (get_or views at d) (drop (at + 1) views)
-        (subst (All (λ (one : View). row_seen (rows_in mid) one ≡ row_seen (rows_in old) one))
-        (drop_more views at d below) first.rows)
-        k d inside
+
+-- no stretch is packed in traces of no segments
+pub ArePacked-none : {R : Type 0} (names : R → Vocabulary) (input : Input R)
+    (traces : List Timeline) → traces ≡ map (λ view. quiet []) input.views.items
+    → ArePacked names input traces []
+ArePacked-none names input traces none = record { are = none }

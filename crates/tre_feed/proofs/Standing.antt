@@ -106,7 +106,7 @@ fed_at_most terms represents fed_of counts each bytes count few were =
     (λ fed. fed_of fed.reader ≤ count)
     (λ fed own. omega (arith, counts fed.reader bytes own.1, few)) each were.stand
 
-segments_more : (asked : Vocabulary) (waiting added : List Stretch)
+pub segments_more : (asked : Vocabulary) (waiting added : List Stretch)
     → segments_for asked waiting ++ segments_for asked added
     ≡ segments_for asked (waiting ++ added)
 segments_more asked waiting added = sym (map-append (segment_for asked) waiting added)

@@ -15,6 +15,7 @@ pub mod Shown
 pub mod Asked
 pub mod Each
 pub mod Seen
+pub mod Packing
 pub mod Stops
 pub mod Taking
 pub mod Growth

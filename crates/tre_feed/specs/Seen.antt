@@ -1,9 +1,8 @@
 -- What each who asks sees of what the readers have read.
-use Rattle.std.specs.Prelude.{◌≡◌, ℕ, List, [], length, map, slice_index_or, All}
+use Rattle.std.specs.Prelude.{ℕ, List, [], map, slice_index_or}
 use Rattle.tre_feed.specs.Shares.{group_of}
 use Rattle.tre_feed.specs.Shown.{shown_events, shown_segment}
 use Rattle.tre_feed.specs.declared.view.View.{View}
-use Rattle.tre_trace.specs.Trace.{Timeline, timeline_of}
 use Rattle.tre_trace.specs.declared.segment.Segment.{Segment}
 use Rattle.tre_feed.specs.declared.each.Fed.{Fed}
 
@@ -39,14 +38,3 @@ segment_seen rows place view = shown_segment view (slice_index_or (row_seen rows
 -- what it shows of the events at the end
 abbrev pub last_seen : List ℕ → View → ℕ
 last_seen lasts view = shown_events view (slice_index_or lasts (group_of view) 0)
-
--- what it shows of a whole row, as a trace
-abbrev pub trace_seen : List (List Segment) → List ℕ → View → Timeline
-trace_seen rows lasts view =
-    timeline_of (map (shown_segment view) (row_seen rows view)) (last_seen lasts view)
-
--- The rows that these views are of are as they were, and so are the events at the end of all.
-pub record RowsAreKept {R : Type 0} (views : List View) (old new : List (Fed R)) : Type 0 where
-  pub rows : All (λ view. row_seen (rows_in new) view ≡ row_seen (rows_in old) view) views
-  pub lasts : lasts_in new ≡ lasts_in old
-  pub count : length new ≡ length old

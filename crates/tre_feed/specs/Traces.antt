@@ -6,26 +6,12 @@ use Rattle.tre_trace.specs.Trace.{Timeline, timeline_of, IsTrace}
 use Rattle.tre_feed.specs.Comes.{InputComesTo, MayGoOn, Outcome, exceeds, refuses}
 use Rattle.tre_feed.specs.Input.{InputTold, AllReadsGood, AreAllBytes}
 use Rattle.tre_feed.specs.Outcome.{IsInputKind}
-use Rattle.tre_feed.specs.Standing.{HasEnded, Wait}
 use Rattle.tre_feed.specs.declared.fault.Fault.{Fault}
 use Rattle.tre_feed.specs.declared.fault.Fault.TheVariants.{Trace, TooLong, Read, Memory}
-use Rattle.tre_feed.specs.declared.input.Input.{Input}
 
 abbrev pub trace_for : Recording → Vocabulary → Timeline
 trace_for said asked =
     timeline_of (segments_for asked said.stretches) (events_for asked said.last)
-
--- All that this recording says waits, up to its end, and for any names it is a trace.
-pub record IsAllRead {R : Type 0} (names : R → Vocabulary) (input : Input R) (said : Recording)
-    : Type 0 where
-  pub wait : Wait names input said.stretches
-  pub ended : HasEnded names input said.last
-  pub is_trace : (asked : Vocabulary) → IsTrace (segments_for asked said.stretches)
-
--- So it is, of some recording.
-pub record IsWholeInput {R : Type 0} (names : R → Vocabulary) (input : Input R) : Type 0 where
-  pub said : Recording
-  pub all : IsAllRead names input said
 
 -- The whole input was read, it is within the limit, and it is these traces: one for each of the
 -- lists of names.

@@ -10,12 +10,13 @@ use crate::PIECE;
 use crate::each::{Fed, clear_each, waiting_in};
 use crate::fault::Fault;
 use crate::piece::buffer_of;
-use crate::seen::{lasts_of, put_column, traces_of};
+use crate::seen::{lasts_of, no_traces, pack_rows, put_column, set_lasts};
 use crate::turn::feed_next;
 use crate::view::View;
 use std::alloc::{AllocError, Global};
 use tre_io::Source;
-use tre_trace::{Segment, Trace, TraceReader};
+use tre_packed::Packed;
+use tre_trace::{Segment, TraceReader};
 
 /// An input, as far as it was read: the readers of its bytes, each for a group of names, and what
 /// of it waits to be taken. Each who asks sees his names by a view of a group.
@@ -49,11 +50,12 @@ fn fed_each<R: TraceReader + Drop>(
 }
 
 impl<R: TraceReader + Drop> Input<R> {
-    ghost use Rattle.std.specs.Prelude.{◌+◌, ℕ, Bool, List, Option, Some, map, get_or, IsTrue, IsErrOf, IfErr, IfSome, OnOk, OnErr, false};
+    ghost use Rattle.std.specs.Prelude.{◌+◌, ◌++◌, ℕ, Bool, List, Option, Some, map, get_or, IsTrue, IsErrOf, IfErr, IfSome, OnOk, OnErr, false};
     ghost use Rattle.tre_trace.specs.Reading.{Stretch, Recording, Vocabulary, events_for, segment_for};
     ghost use Rattle.tre_feed.specs.Input.{HasReadCause, TakesAtMost, input_told};
     ghost use Rattle.tre_feed.specs.Standing.{AreFor, Asks, CanReadOn, HasEnded, HasPlace, HasTaken, IsAsked, IsNew, Wait, WereFed, limit_of, stretch_behind, recording_of, taken_of};
-    ghost use Rattle.tre_feed.specs.Traces.{IsAllRead, IsWhole, IsWholeInput, StopsReading, trace_for};
+    ghost use Rattle.tre_feed.specs.Packing.{ArePacked, CanPackMore, KeepsViews};
+    ghost use Rattle.tre_feed.specs.Traces.{IsWhole, StopsReading, trace_for};
     ghost use Rattle.tre_feed.specs.Turn.{EndsTurn, HasRead, TurnIsFed};
 
     /// An input of which at most `limit` bytes count, and nothing was read. Each who asks has a
@@ -132,6 +134,7 @@ impl<R: TraceReader + Drop> Input<R> {
             (Wait R.names self.old) (Wait R.names self.new) (HasEnded R.names self.new) result }
         ensures taken { IfOk result (λ more. IsTrue more → HasTaken self.old self.new) }
         ensures same { IsAsked R.names R.terms R.recording self.old self.new }
+        ensures views { KeepsViews R.names self.old self.new }
         ensures cause { HasReadCause (S.told source.old).faults (S.told source.new).faults result }
         ensures sound { IsTrue (S.told source.old).sound → IsErrOf result Fault.Read → ⊥ }
         ensures same_opened { (S.told source.new).opened ≡ (S.told source.old).opened }
@@ -183,24 +186,30 @@ impl<R: TraceReader + Drop> Input<R> {
         ensures ended { (last : List ℕ → Bool) → HasEnded R.names self.old last →
             HasEnded R.names self.new last }
         ensures same { IsAsked R.names R.terms R.recording self.old self.new }
+        ensures views { KeepsViews R.names self.old self.new }
         ensures taken { taken_of self.new ≡ taken_of self.old }
     {
         clear_each(&mut self.each);
     }
 
-    /// The trace of each who asks, once all was read and nothing of it was taken.
-    pub fn into_traces(self, alloc: Global) -> Result<Vec<Trace>, AllocError>
-        requires { IsWholeInput R.names self }
-        ensures { (asked : List Vocabulary) (said : Recording) → Asks R.names self asked →
-            IsAllRead R.names self said →
-            IfOk result (λ traces. traces.items ≡ map (trace_for said) asked) }
+    // Puts what waits behind the traces, one for each who asks. The room is to make it in.
+    fn pack(&self, room: &mut Vec<Segment>, traces: &mut [Packed]) -> Result<(), AllocError>
+        requires { CanPackMore R.names self.now traces.old }
+        ensures { (told waiting : List Stretch) → ArePacked R.names self.now traces.old told →
+            Wait R.names self.now waiting →
+            OnOk result (ArePacked R.names self.now traces.new (told ++ waiting)) }
     {
-        let Input {
-            mut each,
-            views,
-            ..
-        } = self;
-        traces_of(alloc, &mut each, &views)
+        pack_rows(&self.each, &self.views, room, traces)
+    }
+
+    // Puts the events at the end into the traces.
+    fn end_traces(&self, traces: &mut [Packed])
+        ensures { (asked : List Vocabulary) (said : Recording) → Asks R.names self.now asked →
+            ArePacked R.names self.now traces.old said.stretches →
+            HasEnded R.names self.now said.last →
+            traces.new ≡ map (trace_for said) asked }
+    {
+        set_lasts(&self.each, &self.views, traces);
     }
 
     /// Reads the traces that the source of this name is: one for each who asks.
@@ -209,7 +218,7 @@ impl<R: TraceReader + Drop> Input<R> {
         alloc: Global,
         name: &str,
         source: &mut S,
-    ) -> Result<Vec<Trace>, Fault>
+    ) -> Result<Vec<Packed>, Fault>
         requires closed { (S.told source.old).opened ≡ false }
         requires new { IsNew R.terms R.represents R.names self }
         ensures read { (asked : List Vocabulary) → Asks R.names self asked →
@@ -222,13 +231,18 @@ impl<R: TraceReader + Drop> Input<R> {
         ensures by_name { IsTrue (S.told source.new).opened →
             IfSome (S.told source.old).name (λ told. told ≡ name.now) }
     {
+        let mut traces = no_traces(alloc, &self.views)?;
+        let mut room = Vec::new(alloc);
         self.open(name, source)?;
         loop {
-            if !self.next(source)? {
+            let more = self.next(source)?;
+            self.pack(&mut room, &mut traces)?;
+            self.clear();
+            if !more {
                 break;
             }
         }
-        let traces = self.into_traces(alloc)?;
+        self.end_traces(&mut traces);
         Ok(traces)
     }
 }

@@ -1,15 +1,17 @@
 // What each who asks sees of what the readers have read.
-ghost use Rattle.std.specs.Prelude.{◌≡◌, ◌≢◌, ◌<◌, All, false, length, map, set, slice_index_or, [], IfOk, OnOk};
+ghost use Rattle.std.specs.Prelude.{◌≡◌, ◌<◌, ◌++◌, All, length, map, slice_index_or, [], IfOk, OnOk};
+ghost use Rattle.std.specs.List.{AllByRecursion};
 ghost use Rattle.tre_feed.specs.Shares.{group_of};
 ghost use Rattle.tre_feed.specs.Shown.{shown_segment};
-ghost use Rattle.tre_trace.specs.Trace.{IsTrace};
-ghost use Rattle.tre_feed.specs.Seen.{RowsAreKept, last_seen, lasts_in, no_segment, row_seen, rows_in, segment_seen, trace_seen};
+ghost use Rattle.tre_trace.specs.Trace.{IsTrace, quiet};
+ghost use Rattle.tre_feed.specs.Packing.{CanPack, ended_by, packed_behind};
+ghost use Rattle.tre_feed.specs.Seen.{last_seen, lasts_in, no_segment, row_seen, rows_in, segment_seen};
 
 use crate::each::Fed;
 use crate::view::View;
 use std::alloc::{AllocError, Global};
-use std::mem;
-use tre_trace::{Segment, Trace};
+use tre_packed::Packed;
+use tre_trace::Segment;
 
 // The segment at this place of the row of one.
 fn segment_at<R: Drop>(each: &[Fed<R>], group: usize, place: usize) -> Segment
@@ -65,93 +67,74 @@ pub fn lasts_of<R: Drop>(
     Ok(lasts)
 }
 
-// A copy of the row of one.
-fn copy_row<R: Drop>(
-    alloc: Global,
-    each: &[Fed<R>],
-    group: usize,
-) -> Result<Vec<Segment>, AllocError>
-    requires { group < length each.now }
-    ensures { IfOk result (λ row. row.items ≡ slice_index_or (rows_in each.now) group []) }
-{
-    let mut row = Vec::new(alloc);
-    row.extend_from_slice(&each[group].row)?;
-    Ok(row)
-}
-
-// The row of one, which has none from then on.
-fn take_row<R: Drop>(alloc: Global, each: &mut [Fed<R>], group: usize) -> Vec<Segment>
-    requires { group < length each.old }
-    ensures row { result.items ≡ slice_index_or (rows_in each.old) group [] }
-    ensures rows { rows_in each.new ≡ set (rows_in each.old) group [] }
-    ensures lasts { lasts_in each.new ≡ lasts_in each.old }
-    ensures count { length each.new ≡ length each.old }
-{
-    mem::replace(&mut each[group].row, Vec::new(alloc))
-}
-
-// Whether one of the views is of this group.
-fn is_needed(group: usize, views: &[View]) -> bool
-    ensures { result ≡ false → All (λ view. group_of view ≢ group) views.now }
-{
-    views.iter().any(|view| view.group() == group)
-}
-
-// The row of one: a copy where a later view is of it.
-fn wide_row<R: Drop>(
-    alloc: Global,
-    each: &mut [Fed<R>],
-    group: usize,
-    later: &[View],
-) -> Result<Vec<Segment>, AllocError>
-    requires { group < length each.old }
-    ensures row { IfOk result (λ row. row.items ≡ slice_index_or (rows_in each.old) group []) }
-    ensures kept { OnOk result (RowsAreKept later.now each.old each.new) }
-{
-    if is_needed(group, later) {
-        return copy_row(alloc, each, group);
-    }
-    Ok(take_row(alloc, each, group))
-}
-
-// The trace that the view shows. From then on only the rows of the later ones are needed.
-fn trace_of<R: Drop>(
-    alloc: Global,
-    each: &mut [Fed<R>],
+// Puts what the view shows of a row behind the trace. The room is to make it in.
+fn pack_row(
+    row: &[Segment],
     view: &View,
-    later: &[View],
-) -> Result<Trace, AllocError>
-    requires within { group_of view.now < length each.old }
-    requires trace { IsTrace (map (shown_segment view.now) (row_seen (rows_in each.old) view.now)) }
-    ensures trace { IfOk result (λ trace. trace
-        ≡ trace_seen (rows_in each.old) (lasts_in each.old) view.now) }
-    ensures kept { OnOk result (RowsAreKept later.now each.old each.new) }
+    room: &mut Vec<Segment>,
+    trace: &mut Packed,
+) -> Result<(), AllocError>
+    requires { IsTrace (trace.old.segments ++ map (shown_segment view.now) row.now) }
+    ensures { OnOk result (trace.new
+        ≡ quiet (trace.old.segments ++ map (shown_segment view.now) row.now)) }
 {
-    let last = view.events(last_at(each, view.group()));
-    let mut row = wide_row(alloc, each, view.group(), later)?;
-    view.narrow(&mut row);
-    let mut trace = Trace::of_segments(alloc, row)?;
-    trace.set_last(last);
-    Ok(trace)
+    room.clear();
+    room.extend_from_slice(row)?;
+    view.narrow(room);
+    trace.add(room)
 }
 
-// The trace that each view shows, out of the rows, which are left in part.
-pub fn traces_of<R: Drop>(
-    alloc: Global,
-    each: &mut [Fed<R>],
+// Puts what each view shows of the rows behind its trace.
+pub fn pack_rows<R: Drop>(
+    each: &[Fed<R>],
     views: &[View],
-) -> Result<Vec<Trace>, AllocError>
-    requires within { All (λ view. group_of view < length each.old) views.now }
-    requires traces { All (λ view. IsTrace
-        (map (shown_segment view) (row_seen (rows_in each.old) view))) views.now }
-    ensures { IfOk result (λ traces. traces.items
-        ≡ map (trace_seen (rows_in each.old) (lasts_in each.old)) views.now) }
+    room: &mut Vec<Segment>,
+    traces: &mut [Packed],
+) -> Result<(), AllocError>
+    requires within { AllByRecursion (λ view. group_of view < length each.now) views.now }
+    requires fits { CanPack (rows_in each.now) views.now traces.old }
+    ensures { OnOk result (traces.new ≡ packed_behind (rows_in each.now) views.now traces.old) }
+{
+    let Some((view, others)) = views.split_first() else {
+        return Ok(());
+    };
+    let Some((trace, later)) = traces.split_first_mut() else {
+        return Ok(());
+    };
+    pack_row(row_at(each, view.group()), view, room, trace)?;
+    pack_rows(each, others, room, later)
+}
+
+// The row of one.
+fn row_at<R: Drop>(each: &[Fed<R>], group: usize) -> &[Segment]
+    requires { group < length each.now }
+    ensures { result.now ≡ slice_index_or (rows_in each.now) group [] }
+{
+    &each[group].row
+}
+
+// Puts what each view shows of the events at the end there, in its trace.
+pub fn set_lasts<R: Drop>(each: &[Fed<R>], views: &[View], traces: &mut [Packed])
+    requires { All (λ view. group_of view < length each.now) views.now }
+    ensures { traces.new ≡ ended_by (lasts_in each.now) views.now traces.old }
+{
+    let Some((view, others)) = views.split_first() else {
+        return;
+    };
+    let Some((trace, later)) = traces.split_first_mut() else {
+        return;
+    };
+    trace.set_last(view.events(last_at(each, view.group())));
+    set_lasts(each, others, later);
+}
+
+// A trace of no segments for each view.
+pub fn no_traces(alloc: Global, views: &[View]) -> Result<Vec<Packed>, AllocError>
+    ensures { IfOk result (λ traces. traces.items ≡ map (λ view. quiet []) views.now) }
 {
     let mut traces = Vec::new(alloc);
-    for place in 0..views.len() {
-        let later = &views[place + 1..];
-        let trace = trace_of(alloc, each, &views[place], later)?;
-        traces.push(trace)?;
+    for _ in views {
+        traces.push(Packed::new(alloc))?;
     }
     Ok(traces)
 }

@@ -19,8 +19,8 @@ use tre_edges::{
     Piece, RunEdges, event_in, events, fall_in, falls, literal, literal_in, literal_within,
     moments, moments_in, rise_in, rises, run_parts,
 };
+use tre_packed::AnyTrace;
 use tre_state::{NAMES_MAX, State};
-use tre_trace::Trace;
 use tre_zone::{Interval, Zone};
 use tre_zoneset::ZoneSet;
 
@@ -94,23 +94,23 @@ pub trait Atoms {
             HoldExactly zones (AtomMatches (rest self.now) (pattern.event number))) };
 }
 
-impl Atoms for Trace {
-    ghost rest = { λ trace. whole trace };
+impl<T: AnyTrace> Atoms for &T {
+    ghost rest = { λ trace. whole (T.timeline trace.now) };
 
     fn begin(&self) -> u64 {
         0
     }
 
     fn end(&self) -> u64 {
-        self.end()
+        AnyTrace::end(*self)
     }
 
     fn moments(&self, alloc: Global) -> Result<ZoneSet, AllocError> {
-        moments(alloc, self)
+        moments(alloc, *self)
     }
 
     fn literal(&self, alloc: Global, state: &State) -> Result<ZoneSet, AllocError> {
-        literal(alloc, state, self)
+        literal(alloc, state, *self)
     }
 
     fn literal_within(
@@ -119,7 +119,7 @@ impl Atoms for Trace {
         state: &State,
         interval: &Interval,
     ) -> Result<ZoneSet, AllocError> {
-        literal_within(alloc, state, self, interval)
+        literal_within(alloc, state, *self, interval)
     }
 
     fn run_parts(
@@ -129,20 +129,20 @@ impl Atoms for Trace {
         edges: RunEdges,
         interval: Option<Interval>,
     ) -> Result<Option<ZoneSet>, AllocError> {
-        let zones = run_parts(alloc, state, self, edges, interval)?;
+        let zones = run_parts(alloc, state, *self, edges, interval)?;
         Ok(Some(zones))
     }
 
     fn rises(&self, alloc: Global, state: &State) -> Result<ZoneSet, AllocError> {
-        rises(alloc, state, self)
+        rises(alloc, state, *self)
     }
 
     fn falls(&self, alloc: Global, state: &State) -> Result<ZoneSet, AllocError> {
-        falls(alloc, state, self)
+        falls(alloc, state, *self)
     }
 
     fn events(&self, alloc: Global, number: u8) -> Result<ZoneSet, AllocError> {
-        events(alloc, number, self)
+        events(alloc, number, *self)
     }
 }
 

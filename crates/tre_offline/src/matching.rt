@@ -18,18 +18,23 @@ use crate::lengths::{goes_first, is_repetition, longest_beside, longest_for};
 use crate::operators::{followed, joined, met, repeated, restricted, shortened};
 use std::alloc::{AllocError, Global};
 use tre_edges::Piece;
+use tre_packed::AnyTrace;
 use tre_state::NAMES_MAX;
 use tre_syntax::{Expr, Pattern};
-use tre_trace::Trace;
 use tre_zoneset::ZoneSet;
 
 /// The matches of the pattern's expression over the whole trace.
 ///
 /// It goes as deep as the expression does, which is at most as deep as a pattern has nodes.
-pub fn matches(alloc: Global, pattern: &Pattern, trace: &Trace) -> Result<ZoneSet, AllocError>
-    ensures { IfOk result (λ zones. IsMatchSet zones (pattern_tree pattern.now) trace.now) }
+pub fn matches<T: AnyTrace>(
+    alloc: Global,
+    pattern: &Pattern,
+    trace: &T,
+) -> Result<ZoneSet, AllocError>
+    ensures { IfOk result (λ zones.
+        IsMatchSet zones (pattern_tree pattern.now) (T.timeline trace.now)) }
 {
-    let zones = matches_of(alloc, pattern.expr(), trace, None)?;
+    let zones = matches_of(alloc, pattern.expr(), &trace, None)?;
     // For the proof: the call says that no zone includes another, and that their bounds are tight.
     let _zones = zones.zones();
     Ok(zones)
@@ -39,8 +44,13 @@ pub fn matches(alloc: Global, pattern: &Pattern, trace: &Trace) -> Result<ZoneSe
 /// it, so it doesn't stand beside what the operators make then.
 ///
 /// It goes as deep as the expression does.
-pub fn into_matches(alloc: Global, pattern: &Pattern, trace: Trace) -> Result<ZoneSet, AllocError>
-    ensures { IfOk result (λ zones. IsMatchSet zones (pattern_tree pattern.now) trace) }
+pub fn into_matches<T: AnyTrace + Drop>(
+    alloc: Global,
+    pattern: &Pattern,
+    trace: T,
+) -> Result<ZoneSet, AllocError>
+    ensures { IfOk result (λ zones.
+        IsMatchSet zones (pattern_tree pattern.now) (T.timeline trace)) }
 {
     let zones = last_matches_of(alloc, pattern.expr(), trace, None)?;
     // For the proof: the call says that no zone includes another, and that their bounds are tight.
@@ -52,17 +62,17 @@ pub fn into_matches(alloc: Global, pattern: &Pattern, trace: Trace) -> Result<Zo
 /// set: no longer ones are looked for than it has.
 ///
 /// It goes as deep as the expression does.
-pub fn matches_among(
+pub fn matches_among<T: AnyTrace>(
     alloc: Global,
     pattern: &Pattern,
-    trace: &Trace,
+    trace: &T,
     set: &ZoneSet,
 ) -> Result<ZoneSet, AllocError>
     ensures { IfOk result (λ zones.
-        AreMatchesAmong zones (pattern_tree pattern.now) trace.now set.now) }
+        AreMatchesAmong zones (pattern_tree pattern.now) (T.timeline trace.now) set.now) }
 {
     let longest = longest_for(set, pattern.expr());
-    let zones = matches_of(alloc, pattern.expr(), trace, longest)?;
+    let zones = matches_of(alloc, pattern.expr(), &trace, longest)?;
     Ok(zones)
 }
 
@@ -184,18 +194,18 @@ fn matches_of<A: Atoms>(
 
 // The same over a whole trace that is not needed any more. Of an operator's two parts the second is
 // the last that looks at it.
-fn last_matches_of(
+fn last_matches_of<T: AnyTrace + Drop>(
     alloc: Global,
     expr: &Expr,
-    trace: Trace,
+    trace: T,
     longest: Option<u64>,
 ) -> Result<ZoneSet, AllocError>
     requires names { NumbersBelow NAMES_MAX (tree_of expr.now) }
     requires longest { IsLongest longest }
     ensures { IfOk result (λ zones. HoldExactly zones
-        (Lasting (LastsUpTo longest) (MatchesRest (tree_of expr.now) (whole trace)))) }
+        (Lasting (LastsUpTo longest) (MatchesRest (tree_of expr.now) (whole (T.timeline trace))))) }
 {
-    if let Some(found) = edged_matches(alloc, expr, &trace)? {
+    if let Some(found) = edged_matches(alloc, expr, &&trace)? {
         return shortened(found, longest);
     }
     match expr {
@@ -203,23 +213,23 @@ fn last_matches_of(
             if is_iterated(left, right) {
                 return last_matches_of(alloc, left, trace, longest);
             }
-            let first = matches_of(alloc, left, &trace, longest)?;
+            let first = matches_of(alloc, left, &&trace, longest)?;
             let second = last_matches_of(alloc, right, trace, longest)?;
             followed(alloc, &first, &second, longest)
         }
         Expr::Alt(left, right) => {
-            let one = matches_of(alloc, left, &trace, longest)?;
+            let one = matches_of(alloc, left, &&trace, longest)?;
             let other = last_matches_of(alloc, right, trace, longest)?;
             joined(one, &other)
         }
         Expr::Meet(left, right) => {
             if goes_first(right, left) {
-                let other = matches_of(alloc, right, &trace, longest)?;
+                let other = matches_of(alloc, right, &&trace, longest)?;
                 let inner = longest_beside(&other, left, longest);
                 let last = last_matches_of(alloc, left, trace, inner)?;
                 return met(&other, &last);
             }
-            let one = matches_of(alloc, left, &trace, longest)?;
+            let one = matches_of(alloc, left, &&trace, longest)?;
             let inner = longest_beside(&one, right, longest);
             let other = last_matches_of(alloc, right, trace, inner)?;
             met(&one, &other)
@@ -233,19 +243,19 @@ fn last_matches_of(
                     return last_matches_of(alloc, more, trace, longest);
                 }
             }
-            let begin = Atoms::begin(&trace);
-            let end = Atoms::end(&trace);
+            let begin = Atoms::begin(&&trace);
+            let end = Atoms::end(&&trace);
             let step = last_matches_of(alloc, step, trace, longest)?;
             repeated(alloc, &step, begin, end, longest)
         }
         Expr::Within(all, interval) => {
             if let Expr::Lit(_) = &**all {
-                return matches_of(alloc, expr, &trace, longest);
+                return matches_of(alloc, expr, &&trace, longest);
             }
             let inner = interval.up_to(longest);
             let all = last_matches_of(alloc, all, trace, inner)?;
             restricted(all, interval)
         }
-        _ => matches_of(alloc, expr, &trace, longest),
+        _ => matches_of(alloc, expr, &&trace, longest),
     }
 }

@@ -12,14 +12,8 @@ use itoa::write_digits;
 use std::alloc::AllocError;
 use tre_zone::{Bound, Zone};
 
-/// How many numbers stand on a line.
-pub(crate) const LINE_NUMBERS: usize = 6;
-
-/// How many bytes a line has besides: brackets, commas, blanks and its end.
-pub(crate) const LINE_SIGNS: usize = 12;
-
 /// How many bytes a line has at the most, with numbers of up to 20 digits, a point and 9 decimals.
-pub(crate) const LINE_MAX: usize = 192;
+pub const LINE_MAX: usize = 192;
 
 /// Appends the line of the zone: its begins, its ends and its durations, each as an interval.
 pub fn zone_line(zone: &Zone, scale: u8, out: &mut String) -> Result<(), AllocError>
@@ -68,7 +62,7 @@ fn write_one_line(zone: &Zone, scale: u8, buffer: &mut [u8]) -> usize
 }
 
 /// Writes the line of the zone, so that it ends at `end`. Says where it begins.
-pub(crate) fn write_line(zone: &Zone, scale: u8, buffer: &mut [u8], end: usize) -> usize
+pub fn write_line(zone: &Zone, scale: u8, buffer: &mut [u8], end: usize) -> usize
     requires scale { scale ≤ SCALE_MAX }
     requires room { (LINE_MAX ≤ end) × (end ≤ length buffer.old) }
     ensures line { drop result buffer.new ≡ line_of scale zone.now ++ drop end buffer.old }
@@ -101,7 +95,7 @@ fn write_between(low: &Bound, high: &Bound, scale: u8, buffer: &mut [u8], end: u
     write_sign(opening(is_weak(low)), buffer, end)
 }
 
-fn write_number(units: u64, scale: u8, buffer: &mut [u8], end: usize) -> usize
+pub(crate) fn write_number(units: u64, scale: u8, buffer: &mut [u8], end: usize) -> usize
     requires scale { scale ≤ SCALE_MAX }
     requires room { (30 ≤ end) × (end ≤ length buffer.old) }
     ensures text { drop result buffer.new ≡ number_text scale units ++ drop end buffer.old }
@@ -129,7 +123,8 @@ fn write_last(number: u64, count: u8, buffer: &mut [u8], end: usize) -> usize
     write_last(number / 10, count - 1, buffer, begin)
 }
 
-fn write_sign(sign: u8, buffer: &mut [u8], end: usize) -> usize
+#[inline(always)]
+pub(crate) fn write_sign(sign: u8, buffer: &mut [u8], end: usize) -> usize
     requires { (1 ≤ end) × (end ≤ length buffer.old) }
     ensures text { drop result buffer.new ≡ sign ∷ drop end buffer.old }
     ensures begin { result + 1 ≡ end }
@@ -138,12 +133,14 @@ fn write_sign(sign: u8, buffer: &mut [u8], end: usize) -> usize
     end - 1
 }
 
+#[inline(always)]
 fn opening(weak: bool) -> u8
     ensures { result ∷ [] ≡ (if weak then codes "[" else codes "(") }
 {
     if weak { b'[' } else { b'(' }
 }
 
+#[inline(always)]
 fn closing(weak: bool) -> u8
     ensures { result ∷ [] ≡ (if weak then codes "]" else codes ")") }
 {
@@ -151,12 +148,14 @@ fn closing(weak: bool) -> u8
 }
 
 // How far the bound's number is from 0.
+#[inline(always)]
 fn magnitude(bound: &Bound) -> u64
     ensures { result ≡ nat_abs (value_of bound.now) }
 {
     bound.value().unsigned_abs()
 }
 
+#[inline(always)]
 fn is_weak(bound: &Bound) -> bool
     ensures { result ≡ (weakness_of bound.now == 1) }
 {

@@ -105,8 +105,9 @@ fn move_forward(zones: &mut [Zone], place: usize) -> usize
     place - at
 }
 
-// Whether the line of no zone comes behind that of the next.
-fn are_rising(zones: &[Zone]) -> bool
+/// Whether the line of no zone comes behind that of the next, so that they stand in the order in
+/// which they are printed.
+pub fn are_rising(zones: &[Zone]) -> bool
     ensures { IsTrue result → IsRising zones.now }
 {
     for place in 1..zones.len() {

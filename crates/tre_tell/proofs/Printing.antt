@@ -1,121 +1,85 @@
--- The lines of sets, put one behind the other.
-use Rattle.std.proofs.Common.{◌≡◌, ◌∙◌, ◌<◌, ℕ, ◌+◌, Some, min, take, slice_get, List, [], ◌∷◌, ◌++◌, length, map, refl, sym, ap, arith, append_assoc, append-nil}
-use Rattle.std.proofs.lemmas.List.{map-append, length-map, take_more, length-take}
+-- The lines of sets, put one before the other.
+use Rattle.std.proofs.Common.{◌≡◌, ◌∙◌, ◌≤◌, ℕ, ◌+◌, Some, drop, slice_get, List, [], ◌∷◌, ◌++◌, length, refl, sym, ap, arith, append_assoc, append-nil}
+use Rattle.std.specs.List.{slice_range}
+use Rattle.std.proofs.lemmas.List.{drop_all, drop_more}
+use Rattle.std.proofs.lemmas.List.Folds.{drop_split}
 use Rattle.std.proofs.lemmas.Option.{get_or_from_slice_get, slice_get_within}
-use Rattle.std.specs.List.{zip}
-use Rattle.std.proofs.lemmas.List.Elements.{AllZip-push, length_all_zip}
 use Rattle.std.proofs.lemmas.List.Sorted.{IsPermutation-refl}
+use Rattle.tre_show.specs.Line.{line_of}
 use Rattle.tre_show.specs.Order.{IsRising}
 use Rattle.tre_zone.specs.ZoneList.{AreTight}
 use Rattle.tre_zoneset.specs.ZoneSet.{IsZoneSet}
 use Rattle.tre_zone.specs.declared.zone_bounds.ZoneBounds.{ZoneBounds}
 use Rattle.tre_tell.specs.Blocks.{lines_with}
-use Rattle.tre_tell.specs.Printed.{IsPrinted, lines_behind, IsToldPut, AreLinesPut}
-use Rattle.tre_tell.proofs.Lists.{map-map}
+use Rattle.tre_tell.specs.Printed.{IsPrinted, IsSetPut, IsTextOf}
+
+-- the bytes of a room from a place on
+pub from_place : (bytes room : List ℕ) (place : ℕ) → bytes ≡ room → place ≤ length room
+    → slice_range bytes place (length bytes) ≡ drop place room
+from_place bytes room place same within =
+    rw same (sym (drop_split room place (length room) within
+    ∙ (ap (λ rest. slice_range room place (length room) ++ rest)
+    (drop_all (length room) room (omega arith))
+    ∙ append-nil (slice_range room place (length room)))))
 
 module _ (scale : ℕ) where
-  lines_behind-more : (labels : List (List ℕ)) (printed : List (List ZoneBounds))
-      (label : List ℕ) (zones : List ZoneBounds) → length labels ≡ length printed
-      → lines_behind scale (labels ++ label ∷ []) (printed ++ zones ∷ [])
-      ≡ lines_behind scale labels printed ++ lines_with scale label zones
-  lines_behind-more [] [] label zones same = append-nil (lines_with scale label zones)
-  lines_behind-more [] (first ∷ printed) label zones same = absurd (omega (arith, same))
-  lines_behind-more (first ∷ labels) [] label zones same = absurd (omega (arith, same))
-  lines_behind-more (first ∷ labels) (others ∷ printed) label zones same =
-      rw (lines_behind-more labels printed label zones (omega (arith, same)))
-      (sym (append_assoc (lines_with scale first others) (lines_behind scale labels printed)
-      (lines_with scale label zones)))
+  -- ---- the lines of one set
 
-  -- one set more
-  put_more : (labels : List (List ℕ)) (sets : List (List ZoneBounds)) (label : List ℕ)
-      (set zones : List ZoneBounds) (old now new : List ℕ) → length labels ≡ length sets
-      → AreLinesPut scale labels sets old now → IsPrinted set zones
-      → new ≡ now ++ lines_with scale label zones
-      → AreLinesPut scale (labels ++ label ∷ []) (sets ++ set ∷ []) old new
-  put_more labels sets label set zones old now new same so_far printed text =
-      let count : length labels ≡ length so_far.printed =
-      same ∙ length_all_zip IsPrinted sets so_far.printed so_far.are in
-      record {
-        printed = so_far.printed ++ zones ∷ [];
-        are = AllZip-push IsPrinted sets so_far.printed set zones so_far.are printed;
-        text = text ∙ (ap (λ bytes. bytes ++ lines_with scale label zones) so_far.text
-            ∙ (append_assoc old _ (lines_with scale label zones)
-            ∙ ap (λ bytes. old ++ bytes) (sym (lines_behind-more labels so_far.printed
-            label zones count))));
-      }
+  pub lines_none : (label text : List ℕ) (zones : List ZoneBounds) (place : ℕ)
+      → length zones ≤ place → text ≡ lines_with scale label (drop place zones) ++ text
+  lines_none label text zones place past = rw (drop_all place zones past) refl
 
-  pub AreLinesPut-more : {X : Type 0} (label_of : X → List ℕ) (set_of : X → List ZoneBounds)
-      (xs : List X) (x : X) (zones : List ZoneBounds) (old now new : List ℕ)
-      → AreLinesPut scale (map label_of xs) (map set_of xs) old now → IsPrinted (set_of x) zones
-      → new ≡ now ++ lines_with scale (label_of x) zones
-      → AreLinesPut scale (map label_of (xs ++ x ∷ [])) (map set_of (xs ++ x ∷ [])) old new
-  AreLinesPut-more label_of set_of xs x zones old now new so_far printed text =
-      rw (map-append label_of xs (x ∷ []), map-append set_of xs (x ∷ []))
-      (put_more (map label_of xs) (map set_of xs) (label_of x) (set_of x) zones old now new
-      (length-map xs label_of ∙ sym (length-map xs set_of)) so_far printed text)
+  -- one line more, before the others
+  pub lines_before : (label text now new : List ℕ) (zones : List ZoneBounds) (place : ℕ)
+      (zone : ZoneBounds) → slice_get zones place ≡ Some zone
+      → now ≡ lines_with scale label (drop (place + 1) zones) ++ text
+      → new ≡ (label ++ line_of scale zone) ++ now
+      → new ≡ lines_with scale label (drop place zones) ++ text
+  lines_before label text now new zones place zone at so_far line =
+      let first : drop place zones ≡ zone ∷ drop (place + 1) zones =
+      drop_more zones place zone (slice_get_within zones place zone at)
+      ∙ ap (λ x. x ∷ drop (place + 1) zones) (get_or_from_slice_get zones place zone zone at) in
+      rw first (line ∙ (ap (λ bytes. (label ++ line_of scale zone) ++ bytes) so_far
+      ∙ sym (append_assoc (label ++ line_of scale zone)
+      (lines_with scale label (drop (place + 1) zones)) text)))
 
-  -- what was told of the pattern at a place, behind those before it
-  pub AreLinesPut-next : (labels : List (List ℕ)) (sets : List (List ZoneBounds)) (place : ℕ)
-      (label old now new : List ℕ) → length sets ≡ length labels
-      → slice_get labels place ≡ Some label
-      → AreLinesPut scale (take place labels) (take place sets) old now
-      → IsToldPut scale label sets place now new
-      → AreLinesPut scale (take (place + 1) labels) (take (place + 1) sets) old new
-  AreLinesPut-next labels sets place label old now new same at so_far told =
-      let below = slice_get_within labels place label at in
-      let first : take (place + 1) labels ≡ take place labels ++ label ∷ [] =
-      take_more labels place label below
-      ∙ ap (λ x. take place labels ++ x ∷ []) (get_or_from_slice_get labels place label label at) in
-      let second : take (place + 1) sets ≡ take place sets ++ told.set ∷ [] =
-      take_more sets place told.set (slice_get_within sets place told.set told.at)
-      ∙ ap (λ x. take place sets ++ x ∷ [])
-      (get_or_from_slice_get sets place told.set told.set told.at) in
-      let count : length (take place labels) ≡ length (take place sets) =
-      length-take place labels ∙ sym (ap (min place) same) ∙ sym (length-take place sets) in
-      rw (first, second) (put_more (take place labels) (take place sets) label told.set
-      told.put.zones old now new count so_far told.put.printed told.put.text)
+  -- ---- the lines of sets
 
--- of less than two zones
-rising_few : (zones : List ZoneBounds) → length zones < 2 → IsRising zones
-unfolding IsRising
-rising_few zones few = λ k d low below. absurd (omega (arith, few, below))
+  pub sets_none : (labels : List (List ℕ)) (sets : List (List ZoneBounds)) (text : List ℕ)
+      (place : ℕ) → length labels ≤ place → length sets ≡ length labels
+      → IsTextOf scale (drop place labels) (drop place sets) text text
+  sets_none labels sets text place past same =
+      rw (drop_all place labels past, drop_all place sets (omega (arith, same, past)))
+      (record { printed = []; are = tt; is_text = refl })
 
-pub printed_few : (zones : List ZoneBounds) → length zones < 2 → IsZoneSet zones → AreTight zones
+  -- one set more, before the others
+  pub sets_before : (labels : List (List ℕ)) (sets : List (List ZoneBounds)) (place : ℕ)
+      (label : List ℕ) (set : List ZoneBounds) (text now new : List ℕ)
+      → slice_get labels place ≡ Some label → slice_get sets place ≡ Some set
+      → IsTextOf scale (drop (place + 1) labels) (drop (place + 1) sets) text now
+      → IsSetPut scale label set now new
+      → IsTextOf scale (drop place labels) (drop place sets) text new
+  sets_before labels sets place label set text now new at set_at so_far put =
+      let first : drop place labels ≡ label ∷ drop (place + 1) labels =
+      drop_more labels place label (slice_get_within labels place label at)
+      ∙ ap (λ x. x ∷ drop (place + 1) labels) (get_or_from_slice_get labels place label label at) in
+      let second : drop place sets ≡ set ∷ drop (place + 1) sets =
+      drop_more sets place set (slice_get_within sets place set set_at)
+      ∙ ap (λ x. x ∷ drop (place + 1) sets) (get_or_from_slice_get sets place set set set_at) in
+      rw (first, second) (record {
+        printed = put.zones ∷ so_far.printed;
+        are = (put.printed, so_far.are);
+        is_text = put.is_text
+            ∙ (ap (λ bytes. lines_with scale label put.zones ++ bytes) so_far.is_text
+            ∙ sym (append_assoc (lines_with scale label put.zones) _ text));
+      })
+
+pub printed_rising : (zones : List ZoneBounds) → IsRising zones → IsZoneSet zones → AreTight zones
     → IsPrinted zones zones
-printed_few zones few set tight = record {
+printed_rising zones rising set tight = record {
   same = IsPermutation-refl zones;
   held = λ a b n. ((λ h. h), (λ h. h));
   apart = set.apart;
   tight = tight;
-  rising = rising_few zones few;
+  rising = rising;
 }
-
--- the parts of pairs of two lists
-zip_first : {A B C : Type 0} (f : A → C) (xs : List A) (ys : List B) → length xs ≡ length ys
-    → map (λ (both : A × B). f both.0) (zip xs ys) ≡ map f xs
-zip_first f [] ys same = refl
-zip_first f (x ∷ xs) [] same = absurd (omega (arith, same))
-zip_first f (x ∷ xs) (y ∷ ys) same =
-    ap (λ rest. f x ∷ rest) (zip_first f xs ys (omega (arith, same)))
-
-zip_second : {A B : Type 0} (xs : List A) (ys : List B) → length xs ≡ length ys
-    → map (λ (both : A × B). both.1) (zip xs ys) ≡ ys
-zip_second [] [] same = refl
-zip_second [] (y ∷ ys) same = absurd (omega (arith, same))
-zip_second (x ∷ xs) [] same = absurd (omega (arith, same))
-zip_second (x ∷ xs) (y ∷ ys) same = ap (λ rest. y ∷ rest) (zip_second xs ys (omega (arith, same)))
-
--- the parts of what a loop over two lists has yielded at its end
-pub firsts_of : {A B C D : Type 0} (v : A → C) (f : C → D) (yielded : List (A × B))
-    (xs : List C) (ys : List B) → map (λ both. (v both.0, both.1)) yielded ≡ zip xs ys
-    → length xs ≡ length ys → map (λ both. f (v both.0)) yielded ≡ map f xs
-firsts_of {A} {B} {C} v f yielded xs ys all same =
-    sym (map-map (λ (both : A × B). (v both.0, both.1)) (λ (both : C × B). f both.0) yielded)
-    ∙ (ap (map (λ (both : C × B). f both.0)) all ∙ zip_first f xs ys same)
-
-pub seconds_of : {A B C : Type 0} (v : A → C) (yielded : List (A × B)) (xs : List C) (ys : List B)
-    → map (λ both. (v both.0, both.1)) yielded ≡ zip xs ys → length xs ≡ length ys
-    → map (λ both. both.1) yielded ≡ ys
-seconds_of {A} {B} {C} v yielded xs ys all same =
-    sym (map-map (λ (both : A × B). (v both.0, both.1)) (λ (both : C × B). both.1) yielded)
-    ∙ (ap (map (λ (both : C × B). both.1)) all ∙ zip_second xs ys same)

@@ -25,28 +25,21 @@ lines_behind scale labels lists = []
 abbrev pub time_line : ℕ → List ℕ → ℕ → List ℕ
 time_line scale word time = word ++ number_text scale time ++ codes "\n"
 
--- Behind the old text stand the lines of what was told, each behind the label.
-pub record IsSetPut (scale : ℕ) (label : List ℕ) (told : List ZoneBounds) (old new : List ℕ)
+-- The text is the lines of what was told, each behind the label, and then what stood there before.
+pub record IsSetPut (scale : ℕ) (label : List ℕ) (told : List ZoneBounds) (before text : List ℕ)
     : Type 0 where
   pub zones : List ZoneBounds
   pub printed : IsPrinted told zones
-  pub text : new ≡ old ++ lines_with scale label zones
+  pub is_text : text ≡ lines_with scale label zones ++ before
 
 -- The same of what was told of the pattern at the place.
 pub record IsToldPut (scale : ℕ) (label : List ℕ) (told : List (List ZoneBounds)) (place : ℕ)
-    (old new : List ℕ) : Type 0 where
+    (before text : List ℕ) : Type 0 where
   pub set : List ZoneBounds
   pub at : slice_get told place ≡ Some set
-  pub put : IsSetPut scale label set old new
+  pub put : IsSetPut scale label set before text
 
--- Behind the old text stand the lines of what was told of each pattern.
-pub record AreLinesPut (scale : ℕ) (labels : List (List ℕ)) (told : List (List ZoneBounds))
-    (old new : List ℕ) : Type 0 where
-  pub printed : List (List ZoneBounds)
-  pub are : AllZip IsPrinted told printed
-  pub text : new ≡ old ++ lines_behind scale labels printed
-
--- The text is the lines of what was told of each pattern, and then the line of a time.
+-- The text is the lines of what was told of each pattern, and then those behind them.
 pub record IsTextOf (scale : ℕ) (labels : List (List ℕ)) (told : List (List ZoneBounds))
     (line text : List ℕ) : Type 0 where
   pub printed : List (List ZoneBounds)

@@ -6,7 +6,7 @@ ghost use Rattle.tre_tell.specs.Sought.{Sought};
 ghost use Rattle.tre_tell.specs.Telling.{timelines, CanTell, HasRows, HasTold, StopsAtColumn, HasWriteCause, HasClosed, StopsAtEnd};
 ghost use Rattle.tre_trace.specs.declared.segment.Segment.{Segment};
 
-use crate::output::write_text;
+use crate::output::write_bytes;
 use crate::text::{write_sets, write_told};
 use tre_feed::Fault;
 use tre_io::Sink;
@@ -37,7 +37,7 @@ pub fn tell_block<O: Sink>(
     labels: &[String],
     scale: u8,
     watch: Watch,
-    text: &mut String,
+    text: &mut Vec<u8>,
     out: &mut O,
 ) -> Result<Watch, Fault>
     requires comes { CanTell watch column.now }
@@ -61,8 +61,8 @@ pub fn tell_block<O: Sink>(
     ensures cause { HasWriteCause (O.told out.old).faults (O.told out.new).faults result }
 {
     let watch = step(column, watch)?;
-    write_told(labels, &watch, "at ", watch.at(), scale, text)?;
-    write_text(text.as_str(), out)?;
+    let begin = write_told(labels, &watch, "at ", watch.at(), scale, text)?;
+    write_bytes(&text[begin..], out)?;
     Ok(watch)
 }
 
@@ -72,7 +72,7 @@ pub fn tell_end<O: Sink>(
     labels: &[String],
     scale: u8,
     watch: Watch,
-    text: &mut String,
+    text: &mut Vec<u8>,
     out: &mut O,
 ) -> Result<(), Fault>
     requires reads { HasRows watch }
@@ -95,7 +95,7 @@ pub fn tell_end<O: Sink>(
 {
     let end = watch.at();
     let told = watch.close(lasts)?;
-    write_sets(labels, told.into_sets(), "end ", end, scale, text)?;
-    write_text(text.as_str(), out)?;
+    let begin = write_sets(labels, &told.into_sets(), "end ", end, scale, text)?;
+    write_bytes(&text[begin..], out)?;
     Ok(())
 }

@@ -19,5 +19,5 @@ mod output;
 mod telling;
 mod text;
 
-pub use output::write_text;
+pub use output::{write_bytes, write_text};
 pub use telling::tell_matches;

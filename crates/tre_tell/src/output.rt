@@ -16,7 +16,21 @@ pub fn write_text<O: Sink>(text: &str, out: &mut O) -> Result<(), Fault>
     ensures cause { OnErr result ((O.told out.new).faults ≡ count_after (O.told out.old).faults) }
     ensures fault { IfErr result (λ fault. fault ≡ Fault.Write) }
 {
-    match put_all(out, text.as_bytes()) {
+    write_bytes(text.as_bytes(), out)
+}
+
+/// The same of bytes.
+#[inline(always)]
+pub fn write_bytes<O: Sink>(bytes: &[u8], out: &mut O) -> Result<(), Fault>
+    ensures all { OnOk result (Appends (O.told out.old).written (O.told out.new).written
+        bytes.now) }
+    ensures good { OnOk result ((O.told out.new).faults ≡ (O.told out.old).faults) }
+    ensures part { OnErr result (AppendsPart (O.told out.old).written (O.told out.new).written
+        bytes.now) }
+    ensures cause { OnErr result ((O.told out.new).faults ≡ count_after (O.told out.old).faults) }
+    ensures fault { IfErr result (λ fault. fault ≡ Fault.Write) }
+{
+    match put_all(out, bytes) {
         Ok(()) => Ok(()),
         Err(_) => Err(Fault::Write),
     }

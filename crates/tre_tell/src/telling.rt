@@ -21,17 +21,17 @@ use tre_syntax::Pattern;
 use tre_trace::{Segment, TraceReader};
 
 // Room that each column and each text is made in.
-#[derive(Debug, Drop)]
+#[derive(Drop)]
 struct Room {
     column: Vec<Segment>,
-    text: String,
+    text: Vec<u8>,
 }
 
 impl Room {
     fn new(alloc: Global) -> Room {
         Room {
             column: Vec::new(alloc),
-            text: String::new(alloc),
+            text: Vec::new(alloc),
         }
     }
 }

@@ -1,15 +1,16 @@
-use Rattle.std.proofs.Common.{◌+◌, length, refl, ap, arith, inr, ⊎_elim}
+use Rattle.std.proofs.Common.{◌+◌, length, refl, arith, inr, ⊎_elim}
+use Rattle.tre_packed.proofs.Adding.{count-limit}
 use Rattle.tre_state.specs.State.{tree_of}
 use Rattle.tre_zone.proofs.ZoneListLemmas.{SetHolds-empty}
 use Rattle.tre_edges.proofs.EndsOfLists.{EndBefore-empty, EndBefore-later}
 use Rattle.tre_edges.proofs.InstantLists.{AreInstants-empty}
 use Rattle.tre_edges.proofs.NextTurns.{edge_found, calm_then, lt_test}
-use Rattle.tre_edges.proofs.Places.{time_of, time_of-mono, time_of-limit, count-limit, later}
+use Rattle.tre_edges.proofs.Places.{time_of, time_of-mono, time_of-limit, later}
 use Rattle.tre_edges.proofs.Turns.{exact_closed}
 use Rattle.tre_edges.proofs.edges.changes.Goals as goal
 
 pub loop-at-init : goal.loop-at-init
-loop-at-init c =
+loop-at-init g c =
     rw c.in_ok-zones.ensures (record {
       exact = λ a b n some rising. (
         λ matches. inr matches,
@@ -23,19 +24,25 @@ loop-at-init c =
     })
 
 pub next_place-other-requires-clause-limit : goal.next_place-other-requires-clause-limit
-next_place-other-requires-clause-limit c =
-    let segments = c.segments-count.ensures in
-    omega (arith, ap length segments.segments, count-limit c.args.trace.now.segments segments.trace)
+next_place-other-requires-clause-limit g c =
+    omega (
+      arith,
+      c.count-count.ensures.count,
+      count-limit (g.T.AnyTrace.timeline c.args.trace.now).segments c.count-count.ensures.trace,
+    )
 
 pub next_place-turn-requires-clause-limit : goal.next_place-turn-requires-clause-limit
-next_place-turn-requires-clause-limit c =
-    let segments = c.segments-count.ensures in
-    omega (arith, ap length segments.segments, count-limit c.args.trace.now.segments segments.trace)
+next_place-turn-requires-clause-limit g c =
+    omega (
+      arith,
+      c.count-count.ensures.count,
+      count-limit (g.T.AnyTrace.timeline c.args.trace.now).segments c.count-count.ensures.trace,
+    )
 
 pub add_instant-requires-clause-ended : goal.add_instant-requires-clause-ended
-add_instant-requires-clause-ended c =
-    let trace = c.args.trace.now.segments in
-    let count = ap length c.segments-count.ensures.segments in
+add_instant-requires-clause-ended g c =
+    let trace = (g.T.AnyTrace.timeline c.args.trace.now).segments in
+    let count = c.count-count.ensures.count in
     rw c.start_from-seen.ensures.time
     (EndBefore-later (time_of trace c.loop-at.at) (time_of trace c.next_place-turn.result)
     (time_of-mono trace c.loop-at.at c.next_place-turn.result
@@ -43,29 +50,38 @@ add_instant-requires-clause-ended c =
     c.loop-at.zones (c.loop-at.invariant.ended (omega (arith, c.loop-at-test.true, count))))
 
 pub add_instant-requires-clause-limit : goal.add_instant-requires-clause-limit
-add_instant-requires-clause-limit c =
+add_instant-requires-clause-limit g c =
     omega (
       arith,
       c.start_from-seen.ensures.time,
-      time_of-limit c.args.trace.now.segments c.next_place-turn.result
-          c.segments-count.ensures.trace,
+      time_of-limit (g.T.AnyTrace.timeline c.args.trace.now).segments c.next_place-turn.result
+          c.count-count.ensures.trace,
+    )
+
+pub overflow_add-at : goal.overflow_add-at
+overflow_add-at g c =
+    omega (
+      arith,
+      c.next_place-turn.ensures.within,
+      c.count-count.ensures.count,
+      count-limit (g.T.AnyTrace.timeline c.args.trace.now).segments c.count-count.ensures.trace,
     )
 
 pub loop-at-preserved : goal.loop-at-preserved
-loop-at-preserved c =
-    let trace = c.args.trace.now.segments in
+loop-at-preserved g c =
+    let trace = (g.T.AnyTrace.timeline c.args.trace.now).segments in
     let other = c.next_place-other.result in
     let turn = c.next_place-turn.result in
     let words = c.in_ok-words.words.items in
     let truth = c.in_ok-words.ensures in
     let state = tree_of c.args.state.now in
     let first =
-    rw (c.deref-in-loop-at.ensures.value, c.segments-count.ensures.segments) at
+    rw (c.deref-in-loop-at.ensures.value, c.count-count.ensures.count) at
     c.next_place-other.ensures in
     let last =
-    rw (c.deref-in-loop-at-2.ensures.value, c.segments-count.ensures.segments) at
+    rw (c.deref-in-loop-at-2.ensures.value, c.count-count.ensures.count) at
     c.next_place-turn.ensures in
-    let held = rw (c.start_from-seen.ensures.time, c.segments-count.ensures.segments) at
+    let held = rw (c.start_from-seen.ensures.time, c.count-count.ensures.count) at
     c.in_ok-add_instant.ensures.held in
     record {
       exact = λ a b n some rising.
@@ -78,7 +94,7 @@ loop-at-preserved c =
       seen = rw c.start_from-seen.ensures.place c.start_from-seen.ensures.time;
       ended = λ inside.
           EndBefore-later (time_of trace turn + 1) (time_of trace (turn + 1))
-          (later trace turn (omega (arith, inside)) c.segments-count.ensures.trace) _
+          (later trace turn (omega (arith, inside)) c.count-count.ensures.trace) _
           (rw c.start_from-seen.ensures.time at c.in_ok-add_instant.ensures.ended);
       calm = λ inside.
           calm_then state trace words truth c.args.becomes c.loop-at.at other turn first last

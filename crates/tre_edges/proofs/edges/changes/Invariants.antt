@@ -11,19 +11,20 @@ use Rattle.tre_edges.proofs.edges.changes.Given as goal
 
 -- The zones hold the edges before the place `at`; before it the state hasn't the other truth.
 abbrev pub invariant-loop-at : goal.invariant-loop-at
-invariant-loop-at l =
+invariant-loop-at g l =
+    let trace = g.T.AnyTrace.timeline l.trace in
     let is = HasTruth l.becomes (tree_of l.state) in
     let is_other = HasTruth (not l.becomes) (tree_of l.state) in
     record {
       exact : (a b n : ℕ) → 0 < n → a ≤ b
-          → ComesTo l.becomes (tree_of l.state) (whole l.trace) a b n
-          ↔ (SetHolds l.zones a b n ⊎ EdgesFrom is_other is l.trace.segments l.at a b n);
+          → ComesTo l.becomes (tree_of l.state) (whole trace) a b n
+          ↔ (SetHolds l.zones a b n ⊎ EdgesFrom is_other is trace.segments l.at a b n);
       instants : AreInstants 0 l.zones;
       passed : l.seen.place ≤ l.at;
-      seen : l.seen.time ≡ time_of l.trace.segments l.seen.place;
-      ended : l.at < length l.trace.segments → EndBefore (time_of l.trace.segments l.at) l.zones;
-      calm : l.at < length l.trace.segments → IsSomeAnd (before_at l.trace.segments l.at) is_other → ⊥;
+      seen : l.seen.time ≡ time_of trace.segments l.seen.place;
+      ended : l.at < length trace.segments → EndBefore (time_of trace.segments l.at) l.zones;
+      calm : l.at < length trace.segments → IsSomeAnd (before_at trace.segments l.at) is_other → ⊥;
     }
 
 abbrev pub decreases-loop-at : goal.decreases-loop-at
-decreases-loop-at l = l.count - l.at
+decreases-loop-at g l = l.count - l.at

@@ -1,4 +1,5 @@
-use Rattle.std.proofs.Common.{◌+◌, length, refl, ap, arith, inr, ⊎_elim}
+use Rattle.std.proofs.Common.{◌+◌, refl, arith, inr, ⊎_elim}
+use Rattle.tre_packed.proofs.Adding.{count-limit}
 use Rattle.tre_state.specs.State.{tree_of}
 use Rattle.tre_state.specs.StateTree.{HoldsOn}
 use Rattle.tre_zone.specs.Interval.{LastsWithin}
@@ -8,14 +9,14 @@ use Rattle.tre_zoneset.proofs.Unions.{Lasting-additive}
 use Rattle.tre_edges.proofs.EndsOfLists.{EndBefore-empty, EndBefore-later}
 use Rattle.tre_edges.proofs.Literals.{HoldsFrom-literal}
 use Rattle.tre_edges.proofs.NextTurns.{run_found}
-use Rattle.tre_edges.proofs.Places.{time_of, time_of-mono, time_of-limit, count-limit, later}
+use Rattle.tre_edges.proofs.Places.{time_of, time_of-mono, time_of-limit, later}
 use Rattle.tre_edges.proofs.RunsOfTraces.{FromPlace}
 use Rattle.tre_edges.proofs.Turns.{exact_closed}
 use Rattle.tre_edges.proofs.runs.literal_within.Goals as goal
 
 pub loop-at-init : goal.loop-at-init
-loop-at-init c =
-    let start = HoldsFrom-literal (HoldsOn (tree_of c.args.state.now)) c.args.trace.now.segments in
+loop-at-init g c =
+    let start = HoldsFrom-literal (HoldsOn (tree_of c.args.state.now)) (g.T.AnyTrace.timeline c.args.trace.now).segments in
     rw c.in_ok-zones.ensures (record {
       exact = λ a b n some rising. (
         λ matches. inr (record {
@@ -34,54 +35,69 @@ loop-at-init c =
     })
 
 pub next_place-begin-requires-clause-limit : goal.next_place-begin-requires-clause-limit
-next_place-begin-requires-clause-limit c =
-    let segments = c.segments-count.ensures in
-    omega (arith, ap length segments.segments, count-limit c.args.trace.now.segments segments.trace)
+next_place-begin-requires-clause-limit g c =
+    omega (
+      arith,
+      c.count-count.ensures.count,
+      count-limit (g.T.AnyTrace.timeline c.args.trace.now).segments c.count-count.ensures.trace,
+    )
 
 pub next_place-end-requires-clause-limit : goal.next_place-end-requires-clause-limit
-next_place-end-requires-clause-limit c =
-    let segments = c.segments-count.ensures in
-    omega (arith, ap length segments.segments, count-limit c.args.trace.now.segments segments.trace)
+next_place-end-requires-clause-limit g c =
+    omega (
+      arith,
+      c.count-count.ensures.count,
+      count-limit (g.T.AnyTrace.timeline c.args.trace.now).segments c.count-count.ensures.trace,
+    )
 
 pub close_within-requires-clause-ended : goal.close_within-requires-clause-ended
-close_within-requires-clause-ended c =
-    let trace = c.args.trace.now.segments in
-    let count = ap length c.segments-count.ensures.segments in
+close_within-requires-clause-ended g c =
+    let trace = (g.T.AnyTrace.timeline c.args.trace.now).segments in
+    let count = c.count-count.ensures.count in
     rw c.start_from-from.ensures.time
     (EndBefore-later (time_of trace c.loop-at.at) (time_of trace c.next_place-begin.result)
     (time_of-mono trace c.loop-at.at c.next_place-begin.result c.next_place-begin.ensures.late)
     c.loop-at.zones (c.loop-at.invariant.ended (omega (arith, c.loop-at-test.true, count))))
 
 pub close_within-requires-clause-order : goal.close_within-requires-clause-order
-close_within-requires-clause-order c =
+close_within-requires-clause-order g c =
     omega (
       arith,
       c.start_from-from.ensures.time,
       c.start_from-seen.ensures.time,
-      time_of-mono c.args.trace.now.segments c.next_place-begin.result c.next_place-end.result
+      time_of-mono (g.T.AnyTrace.timeline c.args.trace.now).segments c.next_place-begin.result c.next_place-end.result
           c.next_place-end.ensures.late,
     )
 
 pub close_within-requires-clause-limit : goal.close_within-requires-clause-limit
-close_within-requires-clause-limit c =
+close_within-requires-clause-limit g c =
     omega (
       arith,
       c.start_from-seen.ensures.time,
-      time_of-limit c.args.trace.now.segments c.next_place-end.result
-          c.segments-count.ensures.trace,
+      time_of-limit (g.T.AnyTrace.timeline c.args.trace.now).segments c.next_place-end.result
+          c.count-count.ensures.trace,
+    )
+
+pub overflow_add-at : goal.overflow_add-at
+overflow_add-at g c =
+    omega (
+      arith,
+      c.next_place-end.ensures.within,
+      c.count-count.ensures.count,
+      count-limit (g.T.AnyTrace.timeline c.args.trace.now).segments c.count-count.ensures.trace,
     )
 
 pub loop-at-preserved : goal.loop-at-preserved
-loop-at-preserved c =
-    let trace = c.args.trace.now.segments in
+loop-at-preserved g c =
+    let trace = (g.T.AnyTrace.timeline c.args.trace.now).segments in
     let begin = c.next_place-begin.result in
     let end = c.next_place-end.result in
     let holds = HoldsOn (tree_of c.args.state.now) in
     let first =
-    rw (c.deref-in-loop-at.ensures.value, c.segments-count.ensures.segments) at
+    rw (c.deref-in-loop-at.ensures.value, c.count-count.ensures.count) at
     c.next_place-begin.ensures in
     let last =
-    rw (c.deref-in-loop-at-2.ensures.value, c.segments-count.ensures.segments) at
+    rw (c.deref-in-loop-at-2.ensures.value, c.count-count.ensures.count) at
     c.next_place-end.ensures in
     let held =
     rw (c.start_from-from.ensures.time, c.start_from-seen.ensures.time) at
@@ -100,6 +116,6 @@ loop-at-preserved c =
       seen = rw c.start_from-seen.ensures.place c.start_from-seen.ensures.time;
       ended = λ inside.
           EndBefore-later (time_of trace end + 1) (time_of trace (end + 1))
-          (later trace end (omega (arith, inside)) c.segments-count.ensures.trace) _
+          (later trace end (omega (arith, inside)) c.count-count.ensures.trace) _
           (rw c.start_from-seen.ensures.time at c.in_ok-close_within.ensures.ended);
     }

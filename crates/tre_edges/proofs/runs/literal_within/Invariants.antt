@@ -12,17 +12,18 @@ use Rattle.tre_edges.proofs.runs.literal_within.Given as goal
 
 -- The zones hold those stretches that have ended before the place `at`.
 abbrev pub invariant-loop-at : goal.invariant-loop-at
-invariant-loop-at l =
+invariant-loop-at g l =
+    let trace = g.T.AnyTrace.timeline l.trace in
     let holds = HoldsOn (tree_of l.state) in
     record {
       exact : (a b n : ℕ) → 0 < n → a ≤ b
-          → Lasting (LastsWithin l.interval) (LiteralMatches holds 0 l.trace.segments) a b n
+          → Lasting (LastsWithin l.interval) (LiteralMatches holds 0 trace.segments) a b n
           ↔ (SetHolds l.zones a b n ⊎ Lasting (LastsWithin l.interval)
-          (FromPlace holds l.trace.segments (time_of l.trace.segments l.at) l.at) a b n);
+          (FromPlace holds trace.segments (time_of trace.segments l.at) l.at) a b n);
       passed : l.seen.place ≤ l.at;
-      seen : l.seen.time ≡ time_of l.trace.segments l.seen.place;
-      ended : l.at < length l.trace.segments → EndBefore (time_of l.trace.segments l.at) l.zones;
+      seen : l.seen.time ≡ time_of trace.segments l.seen.place;
+      ended : l.at < length trace.segments → EndBefore (time_of trace.segments l.at) l.zones;
     }
 
 abbrev pub decreases-loop-at : goal.decreases-loop-at
-decreases-loop-at l = l.count - l.at
+decreases-loop-at g l = l.count - l.at

@@ -5,12 +5,12 @@ use Rattle.tre_edges.proofs.StateWords.{of_proposition, of_conjunction, of_disju
 use Rattle.tre_edges.proofs.truth_words.+truth.Goals as goal
 
 pub returns-in_ok-plane-in-Prop : goal.returns-in_ok-plane-in-Prop
-returns-in_ok-plane-in-Prop t c =
+returns-in_ok-plane-in-Prop g t c =
     rw (c.in-Prop.is, c.in_ok-plane-in-Prop.ensures.items)
-    (of_proposition c.args.trace.now.segments c.in-Prop.number c.plane.result.now c.plane.ensures)
+    (of_proposition (g.T.AnyTrace.timeline c.args.trace.now).segments c.in-Prop.number c.plane.result.now c.plane.ensures)
 
 pub returns-in_ok-other-in-And : goal.returns-in_ok-other-in-And
-returns-in_ok-other-in-And t c =
+returns-in_ok-other-in-And g t c =
     let words = c.in_ok-words-in-And.words in
     let other = c.in_ok-other-in-And.other in
     let new = c.and_into.new.a in
@@ -19,12 +19,12 @@ returns-in_ok-other-in-And t c =
     let same : length new ≡ words.len =
     omega (arith, c.and_into.auto.a, c.deref_mut.ensures.len) in
     rw (c.in-And.is, with_items_is words new same, combined)
-    (of_conjunction c.args.trace.now.segments _ _ words.items other.items
+    (of_conjunction (g.T.AnyTrace.timeline c.args.trace.now).segments _ _ words.items other.items
     (rw c.deref-in-And.ensures at c.in_ok-words-in-And.ensures)
     (rw c.deref-in-And-2.ensures at c.in_ok-other-in-And.ensures))
 
 pub returns-in_ok-other-in-Or : goal.returns-in_ok-other-in-Or
-returns-in_ok-other-in-Or t c =
+returns-in_ok-other-in-Or g t c =
     let words = c.in_ok-words-in-Or.words in
     let other = c.in_ok-other-in-Or.other in
     let new = c.or_into.new.a in
@@ -33,6 +33,6 @@ returns-in_ok-other-in-Or t c =
     let same : length new ≡ words.len =
     omega (arith, c.or_into.auto.a, c.deref_mut-in-Or.ensures.len) in
     rw (c.in-Or.is, with_items_is words new same, combined)
-    (of_disjunction c.args.trace.now.segments _ _ words.items other.items
+    (of_disjunction (g.T.AnyTrace.timeline c.args.trace.now).segments _ _ words.items other.items
     (rw c.deref-in-Or.ensures at c.in_ok-words-in-Or.ensures)
     (rw c.deref-in-Or-2.ensures at c.in_ok-other-in-Or.ensures))

@@ -8,8 +8,8 @@ use Rattle.tre_offline.proofs.Operations.{nested_exact, iteration_exact, iterate
 use Rattle.tre_offline.proofs.matching.+last_matches_of.Goals as goal
 
 pub returns-then-is_iterated : goal.returns-then-is_iterated
-returns-then-is_iterated t c =
-    let rest = whole c.args.trace in
+returns-then-is_iterated g t c =
+    let rest = whole (g.T.AnyTrace.timeline c.args.trace) in
     let left = tree_of c.deref-then-is_iterated.result.now in
     let right = tree_of c.deref-in-Seq.result.now in
     let tree : tree_of c.args.expr.now ≡ sequence left right =
@@ -25,8 +25,8 @@ returns-then-is_iterated t c =
     c.last_matches_of.ensures
 
 pub returns-in_ok-second-in-Seq : goal.returns-in_ok-second-in-Seq
-returns-in_ok-second-in-Seq t c =
-    let rest = whole c.args.trace in
+returns-in_ok-second-in-Seq g t c =
+    let rest = whole (g.T.AnyTrace.timeline c.args.trace) in
     let left = tree_of c.deref-in-Seq-2.result.now in
     let right = tree_of c.deref-in-Seq-3.result.now in
     let tree : tree_of c.args.expr.now ≡ sequence left right =
@@ -37,8 +37,8 @@ returns-in_ok-second-in-Seq t c =
     c.followed.ensures
 
 pub returns-in_ok-other-in-Alt : goal.returns-in_ok-other-in-Alt
-returns-in_ok-other-in-Alt t c =
-    let rest = whole c.args.trace in
+returns-in_ok-other-in-Alt g t c =
+    let rest = whole (g.T.AnyTrace.timeline c.args.trace) in
     let left = tree_of c.deref-in-Alt.result.now in
     let right = tree_of c.deref-in-Alt-2.result.now in
     let tree : tree_of c.args.expr.now ≡ alternation left right =
@@ -49,8 +49,8 @@ returns-in_ok-other-in-Alt t c =
     c.joined.ensures
 
 pub returns-then-goes_first : goal.returns-then-goes_first
-returns-then-goes_first t c =
-    let rest = whole c.args.trace in
+returns-then-goes_first g t c =
+    let rest = whole (g.T.AnyTrace.timeline c.args.trace) in
     let left = tree_of c.deref-then-goes_first-3.result.now in
     let right = tree_of c.deref-then-goes_first.result.now in
     let tree : tree_of c.args.expr.now ≡ intersection left right =
@@ -63,8 +63,8 @@ returns-then-goes_first t c =
     c.met.ensures
 
 pub returns-in_ok-other-in-Meet-2 : goal.returns-in_ok-other-in-Meet-2
-returns-in_ok-other-in-Meet-2 t c =
-    let rest = whole c.args.trace in
+returns-in_ok-other-in-Meet-2 g t c =
+    let rest = whole (g.T.AnyTrace.timeline c.args.trace) in
     let left = tree_of c.deref-in-Meet-3.result.now in
     let right = tree_of c.deref-in-Meet-5.result.now in
     let tree : tree_of c.args.expr.now ≡ intersection left right =
@@ -76,8 +76,8 @@ returns-in_ok-other-in-Meet-2 t c =
     c.met-in-Meet.ensures
 
 pub returns-then-is_repetition : goal.returns-then-is_repetition
-returns-then-is_repetition t c =
-    let rest = whole c.args.trace in
+returns-then-is_repetition g t c =
+    let rest = whole (g.T.AnyTrace.timeline c.args.trace) in
     let step = tree_of c.deref-then-is_repetition.result.now in
     let tree : tree_of c.args.expr.now ≡ repetition step =
     rw c.deref-then-is_repetition.ensures (ap tree_of c.in-Star.is) in
@@ -89,8 +89,8 @@ returns-then-is_repetition t c =
     c.last_matches_of-then-is_repetition.ensures
 
 pub returns-then-repeats : goal.returns-then-repeats
-returns-then-repeats t c =
-    let rest = whole c.args.trace in
+returns-then-repeats g t c =
+    let rest = whole (g.T.AnyTrace.timeline c.args.trace) in
     let once = tree_of c.deref-in-Seq-deref-2.result.now in
     let more = tree_of c.deref-then-repeats.result.now in
     let step : tree_of c.deref-in-Star-2.result.now ≡ sequence once more =
@@ -108,8 +108,8 @@ returns-then-repeats t c =
     c.last_matches_of-then-repeats.ensures
 
 pub returns-in_ok-step-in-Star : goal.returns-in_ok-step-in-Star
-returns-in_ok-step-in-Star t c =
-    let rest = whole c.args.trace in
+returns-in_ok-step-in-Star g t c =
+    let rest = whole (g.T.AnyTrace.timeline c.args.trace) in
     let step = tree_of c.deref-in-Star-3.result.now in
     let tree : tree_of c.args.expr.now ≡ repetition step =
     rw c.deref-in-Star-3.ensures (ap tree_of c.in-Star.is) in
@@ -119,8 +119,8 @@ returns-in_ok-step-in-Star t c =
     c.repeated.ensures
 
 pub returns-in_ok-all-in-Within : goal.returns-in_ok-all-in-Within
-returns-in_ok-all-in-Within t c =
-    let rest = whole c.args.trace in
+returns-in_ok-all-in-Within g t c =
+    let rest = whole (g.T.AnyTrace.timeline c.args.trace) in
     let all = tree_of c.deref-in-Within-2.result.now in
     let tree : tree_of c.args.expr.now ≡ restriction all c.in-Within.interval =
     rw c.deref-in-Within-2.ensures (ap tree_of c.in-Within.is) in
@@ -130,8 +130,8 @@ returns-in_ok-all-in-Within t c =
     c.restricted.ensures
 
 pub returns-in-Some : goal.returns-in-Some
-returns-in-Some t c =
-    let rest = whole c.args.trace in
+returns-in-Some g t c =
+    let rest = whole (g.T.AnyTrace.timeline c.args.trace) in
     short_of_form c.shortened.result c.args.longest rest refl _
     (λ zones told. told (tree_of c.args.expr.now) rest (rw c.in-Some.is at c.in_ok-found.ensures))
     c.shortened.ensures

@@ -2,7 +2,7 @@ use Rattle.tre_star.proofs.Short.{HoldExactly-unbounded}
 use Rattle.tre_offline.proofs.matching.matches.Goals as goal
 
 pub returns : goal.returns
-returns c = record {
+returns g c = record {
   apart = c.zones-zones.ensures.set.apart;
   tight = c.zones-zones.ensures.tight;
   exact = HoldExactly-unbounded c.in_ok-zones.zones _

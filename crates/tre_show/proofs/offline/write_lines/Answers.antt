@@ -1,6 +1,4 @@
-use Rattle.std.proofs.Common.{◌≡◌, ◌-◌, ◌+◌, ◌++◌, ◌∙◌, ap, sym, drop, length, arith}
-use Rattle.std.proofs.lemmas.List.{drop_all}
-use Rattle.std.proofs.lemmas.Str.{IsUtf8-nil, IsUtf8-append}
+use Rattle.std.proofs.Common.{◌≡◌, ◌-◌, ◌+◌, ◌++◌, ◌∙◌, ap, append_assoc, sym, drop, length, arith}
 use Rattle.tre_show.specs.Line.{line_of, lines_of}
 use Rattle.tre_show.proofs.Lines.{lines_none, lines_before}
 use Rattle.tre_show.proofs.offline.write_lines.Goals as goal
@@ -8,14 +6,13 @@ use Rattle.tre_show.proofs.offline.write_lines.Goals as goal
 pub loop-left-init : goal.loop-left-init
 loop-left-init c =
     let zones = c.args.zones.now in
-    let buffer = c.args.buffer.now in
-    let none = lines_none c.args.scale zones (length zones) (omega arith) in
+    let rest = drop c.args.end c.args.buffer.now in
     record {
       count = omega arith;
-      room = c.requires.room;
+      room = c.requires.room.0;
       within = omega arith;
-      lines = drop_all (length buffer) buffer (omega arith) ∙ sym none;
-      text = rw none IsUtf8-nil;
+      lines = ap (λ s. s ++ rest)
+          (sym (lines_none c.args.scale zones (length zones) (omega arith)));
     }
 
 pub loop-left-preserved : goal.loop-left-preserved
@@ -24,6 +21,7 @@ loop-left-preserved c =
     let zones = c.args.zones.now in
     let left = c.loop-left.left in
     let zone = c.index-zones-left.result in
+    let rest = drop c.args.end c.args.buffer.now in
     let old = c.loop-left.invariant in
     let next : left - 1 + 1 ≡ left = omega (arith, c.loop-left-test.true) in
     let lines = lines_before scale zones (left - 1) zone
@@ -35,7 +33,6 @@ loop-left-preserved c =
           omega (arith, old.room, c.write_line-begin.ensures.begin, c.loop-left-test.true);
       within = omega (arith, old.within, c.write_line-begin.ensures.begin);
       lines = c.write_line-begin.ensures.line ∙ ap (λ s. line_of scale zone ++ s) old.lines
-          ∙ sym lines;
-      text = rw lines (IsUtf8-append (line_of scale zone) (lines_of scale (drop left zones))
-          c.write_line-begin.ensures.text old.text);
+          ∙ sym (append_assoc (line_of scale zone) (lines_of scale (drop left zones)) rest)
+          ∙ ap (λ s. s ++ rest) (sym lines);
     }

@@ -1,26 +1,35 @@
-use Rattle.std.proofs.Common.{◌∙◌, sym, ap, length}
+use Rattle.std.proofs.Common.{◌∙◌, sym, ap, length, subst}
+use Rattle.std.specs.Io.KnownBytes.{Appends}
 use Rattle.std.proofs.lemmas.Result.{err_from_is_err_and}
 use Rattle.tre_tell.proofs.Closing.{count_told, HasClosed-told, ClosingIsCut-told}
+use Rattle.tre_io.specs.Written.{AppendsPart}
+use Rattle.tre_tell.proofs.Printing.{from_place}
 use Rattle.tre_tell.proofs.block.tell_end.Goals as goal
 
 pub write_sets-requires-clause-count : goal.write_sets-requires-clause-count
 write_sets-requires-clause-count g c =
-    ap length c.into_sets.ensures
+    ap length (c.deref.ensures.value ∙ c.into_sets.ensures)
     ∙ (count_told _ _ _ _ _ (c.in_ok-told.ensures c.requires.reads.rows c.requires.reads.stands)
     ∙ sym c.requires.labels)
 
-pub returns-in_err-write_text-clause-stops : goal.returns-in_err-write_text-clause-stops
-returns-in_err-write_text-clause-stops g c =
-    let p = err_from_is_err_and c.from_residual-in_err-write_text.result
-    c.from_residual-in_err-write_text.ensures.1 in
+pub returns-in_err-write_bytes-clause-stops : goal.returns-in_err-write_bytes-clause-stops
+returns-in_err-write_bytes-clause-stops g c =
+    let p = err_from_is_err_and c.from_residual-in_err-write_bytes.result
+    c.from_residual-in_err-write_bytes.ensures.1 in
     λ patterns rows before so_far.
-    rw (p.1, p.2, c.in_err-write_text.ensures.fault) (ClosingIsCut-told c.args.lasts.now _ _ _
+    rw (p.1, p.2, c.in_err-write_bytes.ensures.fault) (ClosingIsCut-told c.args.lasts.now _ _ _
     so_far (c.in_ok-told.ensures rows so_far.stands)
-    (rw (c.into_sets.ensures, c.at-end.ensures) at c.in_ok-write_sets.ensures)
-    (rw c.as_str.ensures.value at c.in_err-write_text.ensures.part))
+    (rw (c.deref.ensures.value, c.into_sets.ensures, c.at-end.ensures) at c.in_ok-begin.ensures.text)
+    (subst (λ bytes. AppendsPart (g.O.Sink.told c.args.out.now).written
+    (g.O.Sink.told c.write_bytes.new.out).written bytes)
+    (from_place _ _ _ c.deref-2.ensures.value c.in_ok-begin.ensures.within)
+    c.in_err-write_bytes.ensures.part))
 
 pub returns-clause-told : goal.returns-clause-told
 returns-clause-told g c = λ patterns rows before so_far. HasClosed-told c.args.lasts.now _ _ _
     so_far (c.in_ok-told.ensures rows so_far.stands)
-    (rw (c.into_sets.ensures, c.at-end.ensures) at c.in_ok-write_sets.ensures)
-    (rw c.as_str.ensures.value at c.in_ok-write_text.ensures.all)
+    (rw (c.deref.ensures.value, c.into_sets.ensures, c.at-end.ensures) at c.in_ok-begin.ensures.text)
+    (subst (λ bytes. Appends (g.O.Sink.told c.args.out.now).written
+    (g.O.Sink.told c.write_bytes.new.out).written bytes)
+    (from_place _ _ _ c.deref-2.ensures.value c.in_ok-begin.ensures.within)
+    c.in_ok-write_bytes.ensures.all)

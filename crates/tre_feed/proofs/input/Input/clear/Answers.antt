@@ -2,7 +2,7 @@ use Rattle.std.proofs.Common.{◌≡◌, ◌∙◌, List, length, refl, sym, ap,
 use Rattle.std.proofs.lemmas.List.{with_items_is}
 use Rattle.tre_feed.specs.Each.{AllStand, LastsAre, all_asked}
 use Rattle.tre_feed.specs.declared.each.Fed.{Fed}
-use Rattle.tre_feed.proofs.Inputs.{IsAsked-same}
+use Rattle.tre_feed.proofs.Inputs.{IsAsked-same, KeepsViews-same}
 use Rattle.tre_feed.proofs.input.Input.clear.Goals as goal
 
 pub returns-clause-fed : goal.returns-clause-fed
@@ -49,3 +49,15 @@ returns-clause-same g c =
     IsAsked-same reader.names reader.terms reader.recording c.args.self.now _
     (ap asked (with_items_is own cleared same)
     ∙ (c.clear_each.ensures.same ∙ ap asked c.deref_mut.ensures.value)) refl refl
+
+pub returns-clause-views : goal.returns-clause-views
+returns-clause-views g c =
+    let reader = g.R.TraceReader in
+    let own = c.args.self.now.each in
+    let cleared = c.clear_each.new.each in
+    let same : length cleared ≡ own.len =
+    omega (arith, c.clear_each.auto.each, c.deref_mut.ensures.len) in
+    let asked = λ (each : List (Fed g.row.R.Denot)). all_asked reader.names reader.terms each in
+    KeepsViews-same reader.names reader.terms c.args.self.now _
+    (ap asked (with_items_is own cleared same)
+    ∙ (c.clear_each.ensures.same ∙ ap asked c.deref_mut.ensures.value)) refl

@@ -2,7 +2,7 @@ use Rattle.std.proofs.Common.{◌≡◌, ◌∙◌, List, length, refl, ap, arit
 use Rattle.std.proofs.lemmas.List.{with_items_is}
 use Rattle.tre_feed.specs.Each.{all_asked}
 use Rattle.tre_feed.specs.declared.each.Fed.{Fed}
-use Rattle.tre_feed.proofs.Inputs.{IsAsked-same}
+use Rattle.tre_feed.proofs.Inputs.{IsAsked-same, KeepsViews-same}
 use Rattle.tre_feed.proofs.input.Input.next.Goals as goal
 
 pub returns-clause-same : goal.returns-clause-same
@@ -16,3 +16,15 @@ returns-clause-same g c =
     IsAsked-same reader.names reader.terms reader.recording c.args.self.now _
     (ap asked (with_items_is own fed same)
     ∙ (c.feed_next.ensures.same ∙ ap asked c.deref_mut-2.ensures.value)) refl refl
+
+pub returns-clause-views : goal.returns-clause-views
+returns-clause-views g c =
+    let reader = g.R.TraceReader in
+    let own = c.args.self.now.each in
+    let fed = c.feed_next.new.each in
+    let same : length fed ≡ own.len =
+    omega (arith, c.feed_next.auto.each, c.deref_mut-2.ensures.len) in
+    let asked = λ (each : List (Fed g.row.R.Denot)). all_asked reader.names reader.terms each in
+    KeepsViews-same reader.names reader.terms c.args.self.now _
+    (ap asked (with_items_is own fed same)
+    ∙ (c.feed_next.ensures.same ∙ ap asked c.deref_mut-2.ensures.value)) refl

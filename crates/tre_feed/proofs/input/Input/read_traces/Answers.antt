@@ -1,15 +1,20 @@
-use Rattle.std.proofs.Common.{◌∙◌, ℕ, Bool, true, [], List, Err, take, refl, sym, ap, subst}
+use Rattle.std.proofs.Common.{◌≡◌, ◌∙◌, ◌++◌, ℕ, Bool, false, true, [], List, Err, length, take, refl, sym, ap, subst, arith}
+use Rattle.std.proofs.lemmas.List.{take_at}
 use Rattle.std.proofs.lemmas.Result.{err_from_is_err_and}
-use Rattle.tre_trace.specs.Reading.{Recording}
+use Rattle.tre_trace.specs.Reading.{Stretch, segments_for}
+use Rattle.tre_trace.specs.Trace.{IsTrace}
 use Rattle.tre_feed.specs.Input.{HasReadCause, input_told}
+use Rattle.tre_feed.specs.Packing.{ArePacked}
 use Rattle.tre_feed.specs.Standing.{Wait, WereFed, recording_of}
-use Rattle.tre_feed.proofs.Collected.{HasRead-bounded, IsCollected, IsCollected-more, IsWhole-ended, StopsReading-turn, StopsReading-unread, starts_by, told_more, told_start, traces_by}
+use Rattle.tre_feed.proofs.Collected.{HasRead-bounded, IsCollected-as, IsCollected-more, IsWhole-ended, StopsReading-turn, StopsReading-unread, starts_by, told_more, told_start, traces_by}
+use Rattle.tre_feed.proofs.Seeing.{ArePacked-kept, ArePacked-none}
 use Rattle.tre_feed.proofs.Standing.{faultless_by}
 use Rattle.tre_feed.proofs.input.Input.read_traces.Goals as goal
 
 pub returns-in_err-open-clause-stops : goal.returns-in_err-open-clause-stops
 returns-in_err-open-clause-stops g c =
-    let p = err_from_is_err_and c.from_residual.result c.from_residual.ensures.1 in
+    let p = err_from_is_err_and c.from_residual-in_err-open.result
+    c.from_residual-in_err-open.ensures.1 in
     let reader = g.R.TraceReader in
     let input = input_told (g.S.Source.told c.args.source.now)
     (g.S.Source.told c.open.new.source) in
@@ -20,18 +25,21 @@ returns-in_err-open-clause-stops g c =
     c.in_err-open.ensures.refused c.in_err-open.ensures.cause
     (λ good named is. c.in_err-open.ensures.sound good named (ap Err is)))
 
-pub loop-self-init : goal.loop-self-init
-loop-self-init g c =
+pub loop-room-init : goal.loop-room-init
+loop-room-init g c =
     let reader = g.R.TraceReader in
     record {
       collected = record {
         bytes = [];
         fed = c.in_ok-open.ensures.fed c.requires.new;
-        told = told_start (Wait reader.names c.args.self)
+        told = told_start (ArePacked reader.names c.args.self c.in_ok-traces.traces.items)
             (recording_of reader.recording reader.terms c.args.self) c.args.self.limit
             (starts_by reader.terms reader.recording g.met.R.TraceReader.starts
-            c.args.self.each.items) c.requires.new.none;
+            c.args.self.each.items)
+            (ArePacked-none reader.names c.args.self c.in_ok-traces.traces.items
+            (rw c.deref.ensures.value at c.in_ok-traces.ensures));
       };
+      none = c.requires.new.none;
       same = record { asks = λ asked asks. asks; said = refl; limit = refl };
       opened = c.in_ok-open.ensures.opened;
       sound = c.in_ok-open.ensures.same_sound;
@@ -40,128 +48,159 @@ loop-self-init g c =
 
 pub next-requires-clause-reads_on : goal.next-requires-clause-reads_on
 next-requires-clause-reads_on g c =
-    let so_far = c.loop-self.invariant.collected in
+    let so_far = c.loop-room.invariant.collected in
     record { bytes = so_far.bytes; size = so_far.fed.size; fed = so_far.fed.fed }
 
-pub returns-in_err-next-clause-stops : goal.returns-in_err-next-clause-stops
-returns-in_err-next-clause-stops g c =
-    let p = err_from_is_err_and c.from_residual-in_err-next.result
-    c.from_residual-in_err-next.ensures.1 in
+pub returns-in_err-more-clause-stops : goal.returns-in_err-more-clause-stops
+returns-in_err-more-clause-stops g c =
+    let p = err_from_is_err_and c.from_residual-in_err-more.result
+    c.from_residual-in_err-more.ensures.1 in
     let reader = g.R.TraceReader in
-    let inv = c.loop-self.invariant in
+    let inv = c.loop-room.invariant in
     let so_far = inv.collected in
     let file = (g.S.Source.told c.args.source.now).file in
     let input = input_told (g.S.Source.told c.args.source.now)
     (g.S.Source.told c.next.new.source) in
     rw (p.1, p.2) (StopsReading-turn (recording_of reader.recording reader.terms c.args.self)
-    c.args.self.limit c.args.name.now input so_far.bytes (Wait reader.names c.loop-self.self)
-    (Wait reader.names c.next.new.self) c.in_err-next.field-0.0
+    c.args.self.limit c.args.name.now input so_far.bytes (Wait reader.names c.loop-room.self)
+    (Wait reader.names c.next.new.self) c.in_err-more.field-0.0
     (c.next.ensures.same_opened ∙ inv.opened)
-    (subst (λ n. HasReadCause {T = Bool} n input.now.faults (Err c.in_err-next.field-0.0))
-    inv.no_fault c.in_err-next.ensures.cause)
-    (λ good is. c.in_err-next.ensures.sound (rw inv.sound good) (ap Err is))
+    (subst (λ n. HasReadCause {T = Bool} n input.now.faults (Err c.in_err-more.field-0.0))
+    inv.no_fault c.in_err-more.ensures.cause)
+    (λ good is. c.in_err-more.ensures.sound (rw inv.sound good) (ap Err is))
     (rw (inv.same.said, inv.same.limit) at (faultless_by reader.terms reader.recording
-    reader.represents g.met.R.TraceReader.faultless c.loop-self.self.each.items
-    (take c.loop-self.self.limit so_far.bytes) so_far.fed.fed))
+    reader.represents g.met.R.TraceReader.faultless c.loop-room.self.each.items
+    (take c.loop-room.self.limit so_far.bytes) so_far.fed.fed))
     (rw (inv.same.said, inv.same.limit) at
-    (c.in_err-next.ensures.ends file so_far.bytes so_far.fed)))
+    (c.in_err-more.ensures.ends file so_far.bytes so_far.fed)))
 
-pub returns-in_err-next-clause-bounded : goal.returns-in_err-next-clause-bounded
-returns-in_err-next-clause-bounded g c =
-    let inv = c.loop-self.invariant in
+pub returns-in_err-more-clause-bounded : goal.returns-in_err-more-clause-bounded
+returns-in_err-more-clause-bounded g c =
+    let inv = c.loop-room.invariant in
     let so_far = inv.collected in
     let file = (g.S.Source.told c.args.source.now).file in
     λ opened. HasRead-bounded (rw inv.same.limit at
-    (c.in_err-next.ensures.read file so_far.bytes so_far.fed))
+    (c.in_err-more.ensures.read file so_far.bytes so_far.fed))
 
-pub returns-in_err-traces-clause-bounded : goal.returns-in_err-traces-clause-bounded
-returns-in_err-traces-clause-bounded g c =
-    let inv = c.loop-self.invariant in
+pub pack-requires : goal.pack-requires
+pack-requires g c =
+    let reader = g.R.TraceReader in
+    let inv = c.loop-room.invariant in
+    let so_far = inv.collected in
+    let old = c.loop-room.self in
+    let file = (g.S.Source.told c.args.source.now).file in
+    let read = c.in_ok-more.ensures.read file so_far.bytes so_far.fed in
+    record {
+      told = (recording_of reader.recording reader.terms old false
+          (take old.limit so_far.bytes)).stretches;
+      waiting = read.adds.added;
+      packed = rw c.deref_mut.ensures.value (ArePacked-kept reader.names old c.next.new.self
+          c.loop-room.traces.items _ c.in_ok-more.ensures.views so_far.told);
+      wait = read.adds.then [] inv.none;
+      is_trace = λ asked. subst (λ (all : List Stretch). IsTrace (segments_for asked all))
+          read.adds.beyond
+          (traces_by reader.terms reader.recording g.met.R.TraceReader.is_trace old.each.items
+          read.closed (take old.limit (so_far.bytes ++ read.piece)) asked);
+    }
+
+pub returns-in_err-pack-clause-bounded : goal.returns-in_err-pack-clause-bounded
+returns-in_err-pack-clause-bounded g c =
+    let inv = c.loop-room.invariant in
     let so_far = inv.collected in
     let file = (g.S.Source.told c.args.source.now).file in
     λ opened. HasRead-bounded (rw inv.same.limit at
-    (c.in_ok-next.ensures.read file so_far.bytes so_far.fed))
+    (c.in_ok-more.ensures.read file so_far.bytes so_far.fed))
 
-pub returns-clause-bounded : goal.returns-clause-bounded
-returns-clause-bounded g c =
-    let inv = c.loop-self.invariant in
-    let so_far = inv.collected in
-    let file = (g.S.Source.told c.args.source.now).file in
-    λ opened. HasRead-bounded (rw inv.same.limit at
-    (c.in_ok-next.ensures.read file so_far.bytes so_far.fed))
-
-pub loop-self-preserved : goal.loop-self-preserved
-loop-self-preserved g c =
+pub loop-room-preserved : goal.loop-room-preserved
+loop-room-preserved g c =
     let reader = g.R.TraceReader in
     let source = g.S.Source in
-    let inv = c.loop-self.invariant in
+    let inv = c.loop-room.invariant in
     let so_far = inv.collected in
     let file = (source.told c.args.source.now).file in
-    let old = c.loop-self.self in
-    let new = c.next.new.self in
-    let same = c.next.ensures.same in
-    let read = IsCollected-more (recording_of reader.recording reader.terms old) old.limit file
-    (source.told c.next.new.source).left (source.told c.next.new.source).found new.taken
-    so_far.bytes
-    (rw c.if-not-branch.false at (c.in_ok-next.ensures.ends file so_far.bytes so_far.fed))
-    so_far.told in
+    let old = c.loop-room.self in
+    let mid = c.next.new.self in
+    let new = c.clear.new.self in
+    let said = recording_of reader.recording reader.terms old in
+    let told = (said false (take old.limit so_far.bytes)).stretches in
+    let traces = c.loop-room.traces in
+    let packed : ArePacked reader.names mid c.deref_mut.result.now told =
+    rw c.deref_mut.ensures.value (ArePacked-kept reader.names old mid traces.items told
+    c.in_ok-more.ensures.views so_far.told) in
+    let pack : (added : List Stretch) → Wait reader.names mid added
+    → ArePacked reader.names new c.pack.new.traces (told ++ added) =
+    λ added wait. ArePacked-kept reader.names mid new c.pack.new.traces (told ++ added)
+    c.clear.ensures.views (c.in_ok-pack.ensures told added packed wait) in
+    let size : length c.pack.new.traces ≡ traces.len =
+    omega (arith, c.pack.auto.traces, c.deref_mut.ensures.len) in
+    let same = c.in_ok-more.ensures.same in
+    let cleared = c.clear.ensures.same in
+    let read = IsCollected-more said old.limit file (source.told c.next.new.source).left
+    (source.told c.next.new.source).found mid.taken new.taken so_far.bytes
+    (ArePacked reader.names new c.pack.new.traces)
+    (rw c.if-not-more.false at (c.in_ok-more.ensures.ends file so_far.bytes so_far.fed)) inv.none
+    pack c.clear.ensures.fed c.clear.ensures.taken in
     record {
-      collected = subst (λ (said : Bool → List ℕ → Recording).
-          IsCollected (WereFed reader.terms reader.represents new) (Wait reader.names new) said
-          new.limit file (source.told c.next.new.source).left (source.told c.next.new.source).found
-          new.taken) (sym same.said)
-          (subst (λ limit. IsCollected (WereFed reader.terms reader.represents new)
-          (Wait reader.names new) (recording_of reader.recording reader.terms old) limit file
-          (source.told c.next.new.source).left (source.told c.next.new.source).found new.taken)
-          (sym same.limit) read);
+      collected = IsCollected-as (WereFed reader.terms reader.represents new)
+          (ArePacked reader.names new) said (recording_of reader.recording reader.terms new)
+          old.limit new.limit c.pack.new.traces _ (cleared.said ∙ same.said)
+          (cleared.limit ∙ same.limit) (take_at c.pack.new.traces _ traces.len size) read;
+      none = c.clear.ensures.none;
       same = record {
-        asks = λ asked asks. same.asks asked (inv.same.asks asked asks);
-        said = same.said ∙ inv.same.said;
-        limit = same.limit ∙ inv.same.limit;
+        asks = λ asked asks. cleared.asks asked (same.asks asked (inv.same.asks asked asks));
+        said = cleared.said ∙ same.said ∙ inv.same.said;
+        limit = cleared.limit ∙ same.limit ∙ inv.same.limit;
       };
       opened = c.next.ensures.same_opened ∙ inv.opened;
       sound = c.next.ensures.same_sound ∙ inv.sound;
-      no_fault = c.in_ok-next.ensures.cause ∙ inv.no_fault;
+      no_fault = c.in_ok-more.ensures.cause ∙ inv.no_fault;
     }
 
-pub into_traces-requires : goal.into_traces-requires
-into_traces-requires g c =
-    let reader = g.R.TraceReader in
-    let so_far = c.loop-self.invariant.collected in
+pub returns-clause-bounded : goal.returns-clause-bounded
+returns-clause-bounded g c =
+    let inv = c.loop-room.invariant in
+    let so_far = inv.collected in
     let file = (g.S.Source.told c.args.source.now).file in
-    let said = recording_of reader.recording reader.terms c.loop-self.self in
-    let ended = rw c.if-not-branch.true at
-    (c.in_ok-next.ensures.ends file so_far.bytes so_far.fed) in
-    record {
-      said = said true so_far.bytes;
-      all = record {
-        wait = told_more ended.all so_far.told;
-        ended = ended.ended;
-        is_trace = traces_by reader.terms reader.recording g.met.R.TraceReader.is_trace
-            c.loop-self.self.each.items true so_far.bytes;
-      };
-    }
+    λ opened. HasRead-bounded (rw inv.same.limit at
+    (c.in_ok-more.ensures.read file so_far.bytes so_far.fed))
 
 pub returns-clause-read : goal.returns-clause-read
 returns-clause-read g c =
     let reader = g.R.TraceReader in
-    let inv = c.loop-self.invariant in
+    let source = g.S.Source in
+    let inv = c.loop-room.invariant in
     let so_far = inv.collected in
-    let file = (g.S.Source.told c.args.source.now).file in
-    let input = input_told (g.S.Source.told c.args.source.now)
-    (g.S.Source.told c.next.new.source) in
-    let said = recording_of reader.recording reader.terms c.loop-self.self in
-    let ended = rw c.if-not-branch.true at
-    (c.in_ok-next.ensures.ends file so_far.bytes so_far.fed) in
-    let is_trace = traces_by reader.terms reader.recording g.met.R.TraceReader.is_trace
-    c.loop-self.self.each.items true so_far.bytes in
+    let file = (source.told c.args.source.now).file in
+    let old = c.loop-room.self in
+    let mid = c.next.new.self in
+    let new = c.clear.new.self in
+    let said = recording_of reader.recording reader.terms old in
+    let told = (said false (take old.limit so_far.bytes)).stretches in
+    let traces = c.loop-room.traces in
+    let packed : ArePacked reader.names mid c.deref_mut.result.now told =
+    rw c.deref_mut.ensures.value (ArePacked-kept reader.names old mid traces.items told
+    c.in_ok-more.ensures.views so_far.told) in
+    let pack : (added : List Stretch) → Wait reader.names mid added
+    → ArePacked reader.names new c.pack.new.traces (told ++ added) =
+    λ added wait. ArePacked-kept reader.names mid new c.pack.new.traces (told ++ added)
+    c.clear.ensures.views (c.in_ok-pack.ensures told added packed wait) in
+    let size : length c.pack.new.traces ≡ traces.len =
+    omega (arith, c.pack.auto.traces, c.deref_mut.ensures.len) in
+    let input = input_told (source.told c.args.source.now) (source.told c.next.new.source) in
+    let ended = rw c.if-not-more.true at
+    (c.in_ok-more.ensures.ends file so_far.bytes so_far.fed) in
+    let whole = said true so_far.bytes in
+    let all : ArePacked reader.names new c.deref_mut-2.result.now whole.stretches =
+    rw (c.deref_mut-2.ensures.value, take_at c.pack.new.traces _ traces.len size)
+    (told_more (ArePacked reader.names new c.pack.new.traces) ended.all inv.none pack) in
+    let final : length c.end_traces.new.traces ≡ traces.len =
+    omega (arith, c.end_traces.auto.traces, c.deref_mut-2.ensures.len) in
     λ asked asks.
-    rw (← inv.same.said, ← inv.same.limit) (IsWhole-ended asked said c.loop-self.self.limit input
-    so_far.bytes c.in_ok-traces.traces.items (c.next.ensures.same_opened ∙ inv.opened)
-    (c.in_ok-next.ensures.cause ∙ inv.no_fault) ended
-    (c.in_ok-traces.ensures asked (said true so_far.bytes)
-    (c.next.ensures.same.asks asked (inv.same.asks asked asks)) (record {
-      wait = told_more ended.all so_far.told;
-      ended = ended.ended;
-      is_trace = is_trace;
-    })) is_trace)
+    rw (← inv.same.said, ← inv.same.limit) (IsWhole-ended asked said old.limit input so_far.bytes _
+    (c.next.ensures.same_opened ∙ inv.opened) (c.in_ok-more.ensures.cause ∙ inv.no_fault) ended
+    (take_at c.end_traces.new.traces _ traces.len final
+    ∙ c.end_traces.ensures asked whole (c.clear.ensures.same.asks asked
+    (c.in_ok-more.ensures.same.asks asked (inv.same.asks asked asks))) all
+    (c.clear.ensures.ended whole.last ended.ended))
+    (traces_by reader.terms reader.recording g.met.R.TraceReader.is_trace old.each.items true
+    so_far.bytes))

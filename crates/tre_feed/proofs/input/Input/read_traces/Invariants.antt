@@ -1,25 +1,28 @@
-use Rattle.std.proofs.Common.{◌≡◌, ◌+◌, ◌-◌, true}
+use Rattle.std.proofs.Common.{◌≡◌, ◌+◌, ◌-◌, [], true}
+use Rattle.tre_feed.specs.Packing.{ArePacked}
 use Rattle.tre_feed.specs.Standing.{IsAsked, Wait, WereFed, recording_of}
 use Rattle.tre_feed.proofs.Collected.{IsCollected}
 use Rattle.tre_feed.proofs.input.Input.read_traces.Given as goal
 
--- the bytes so far were fed as far as the limit, and what they say waits; no fault was counted, and
--- the input is asked what it was
-abbrev pub invariant-loop-self : goal.invariant-loop-self
-invariant-loop-self g l =
+-- the bytes so far were fed as far as the limit, what they say is packed, and nothing waits; no
+-- fault was counted, and the input is asked what it was
+abbrev pub invariant-loop-room : goal.invariant-loop-room
+invariant-loop-room g l =
     let source = g.S.Source in
     let reader = g.R.TraceReader in
     record {
       collected : IsCollected (WereFed reader.terms reader.represents l.self)
-          (Wait reader.names l.self) (recording_of reader.recording reader.terms l.self)
+          (ArePacked reader.names l.self l.traces.items)
+          (recording_of reader.recording reader.terms l.self)
           l.self.limit (source.told l.fn.source).file (source.told l.source).left
           (source.told l.source).found
           l.self.taken;
+      none : Wait reader.names l.self [];
       same : IsAsked reader.names reader.terms reader.recording l.fn.self l.self;
       opened : (source.told l.source).opened ≡ true;
       sound : (source.told l.source).sound ≡ (source.told l.fn.source).sound;
       no_fault : (source.told l.source).faults ≡ (source.told l.fn.source).faults;
     }
 
-abbrev pub decreases-loop-self : goal.decreases-loop-self
-decreases-loop-self g l = l.self.limit + 1 - l.self.taken
+abbrev pub decreases-loop-room : goal.decreases-loop-room
+decreases-loop-room g l = l.self.limit + 1 - l.self.taken

@@ -1,0 +1,18 @@
+-- How the writing of a text ends that needs no memory.
+use Rattle.std.specs.Prelude.{◌≡◌, ℕ, List, Result, Ok, Err}
+use Rattle.tre_feed.specs.declared.fault.Fault.{Fault}
+use Rattle.tre_feed.specs.declared.fault.Fault.TheVariants.{Write}
+use Rattle.tre_io.specs.Faults.{count_after}
+use Rattle.tre_io.specs.Written.{AppendsPart}
+use Rattle.tre_tell.specs.Outputs.{OutputTold}
+use Rattle.tre_answer.specs.Streams.{IsWritten}
+
+-- A write failed, and a first part of the text was written.
+pub record IsPartlyPut (text : List ℕ) (output : OutputTold) : Type 0 where
+  pub cause : output.now.faults ≡ count_after output.before.faults
+  pub part : AppendsPart output.before.written output.now.written text
+
+abbrev pub EndsPutting : {T : Type 0} → List ℕ → OutputTold → Result T Fault → Type 0
+EndsPutting text output (Ok value) = IsWritten output text
+EndsPutting text output (Err Write) = IsPartlyPut text output
+EndsPutting text output (Err fault) = ⊥

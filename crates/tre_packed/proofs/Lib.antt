@@ -1,0 +1,5 @@
+pub mod Numbers
+pub mod Times
+pub mod Sayings
+pub mod Unpacking
+pub mod Adding
