@@ -22,7 +22,7 @@ from cases import (ALL, are_in_order, declared, end_of, forms_of, holds, key_of,
                    read_zone, spelled, star_of_turns, with_names)
 from meaning import FINE, STEP, cuts, front, strip_zones
 
-TRACES = 36
+TRACES = 42
 NAMES = ["at", "end", "p", "_", "b.c_1", *("check%d" % place for place in range(59))]
 
 pairs = lru_cache(maxsize=1000)(meaning.pairs)

@@ -126,6 +126,48 @@ def dump_of(trace):
     return text + "#%d %s\n" % (ends[-1], "".join("1%s " % name for name in trace.last))
 
 
+# Propositions as a bit, a comparison and a path that is no name, and an event as changes.
+DEFINED = "p = top.v[2]; q = top.n==0b101 ; r = top.g[1].\\r! "
+CHANGES = "; a = top.e changes"
+
+
+def changes_of(trace, name):
+    """Whether each event of the name can be a change: at the first time none is."""
+    return bool(trace.segments) and name not in trace.segments[0].events
+
+
+def moments_of(events, turn):
+    """A value that changes with each `a`, and the events themselves."""
+    return "b{:02b} e ".format(turn % 4) + "".join("1%s " % name for name in events) + "\n"
+
+
+def defined_dump_of(trace):
+    """The trace as a dump of signals that DEFINED and CHANGES read."""
+    wires = [("wire 4 v", "v [3:0]"), ("reg 4 n", "n"), ("reg 2 e", "e [0:1]")]
+    wires += [("event 1 %s" % name, name) for name in "ab"]
+    text = "$scope module top $end\n"
+    text += "".join("$var %s %s $end\n" % wire for wire in wires[:3])
+    text += "$scope module g[1] $end\n$var wire 1 r \\r! $end\n$upscope $end\n$upscope $end\n"
+    text += "".join("$var %s %s $end\n" % wire for wire in wires[3:])
+    text += "$enddefinitions $end\n"
+    ends, turn = cuts(trace, 1), 0
+    for place, (segment, begin) in enumerate(zip(trace.segments, ends)):
+        turn += "a" in segment.events
+        text += "#%d b%d%d01 v " % (begin, place % 2, "p" in segment.on)
+        text += "%s n %dr " % ("b101" if "q" in segment.on else "bx01", "r" in segment.on)
+        text += moments_of(segment.events, turn)
+    return text + "#%d " % ends[-1] + moments_of(trace.last, turn + ("a" in trace.last))
+
+
+def dump_form(trace, place, scale):
+    """A dump of the names themselves, or of what they are defined by."""
+    options = ("--format", "vcd", *scale_words(scale))
+    if place % 4 not in (1, 2):
+        return Form(options, scale, 10 ** scale, dump_of(trace))
+    defined = DEFINED + (CHANGES if changes_of(trace, "a") else "")
+    return Form((*options, "--define", defined), scale, 10 ** scale, defined_dump_of(trace))
+
+
 LETS = "p = one >= 1; q = two != 0 ; r=three<-5"
 
 
@@ -164,7 +206,7 @@ def forms_of(trace, place):
     """Lines of text and columns in units, and a dump in ticks, each at some scale."""
     fine, coarse = (place % 10, 0) if place % 3 else (0, place * 7 % 10)
     return [Form(scale_words(fine), fine, 1, lines_of(trace, fine)),
-            Form(("--format", "vcd", *scale_words(coarse)), coarse, 10 ** coarse, dump_of(trace)),
+            dump_form(trace, place, coarse),
             Form(("--format", "csv", "--let", LETS, *scale_words(fine)), fine, 1,
                  columns_of(trace, fine))]
 
