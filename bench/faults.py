@@ -27,6 +27,7 @@ OPTIONS = [[], ["--online"], ["--minus", "{p && q}"], ["--normal"],
            ["--normal", "--minus", "p;q", "--scale", "1"]]
 PATTERN = "(<:p:> | q;r | event(a) | p % [1,2])+ & true % (0,9)"
 LONG = "<:p:>;q"
+CLOSED = [(0,), (1,), (2,), (0, 1), (0, 2), (1, 2), (0, 1, 2)]
 REFUSED = [["p;"], ["--minus", "p;", "p"], ["--nothing"], ["--show", "p % [2,1]"],
            ["--generate", "0"], ["--format", "csv", "--let", "p", "p"],
            ["--input", "nowhere", "p"], ["--input", ".", "p"],
@@ -61,7 +62,7 @@ def all_cases():
     cases += [columns + options + ["(p;q)* | {r && !q}"] for options in OPTIONS
               if "--online" not in options and "--minus" not in options]
     signals = ["--format", "vcd", "--input", "dump", "--define", SIGNALS]
-    cases += [signals + options + ["(v;w)* | event(c);v"] for options in OPTIONS[:4]]
+    cases += [signals + options + ["(v;w)* | event(c);v"] for options in OPTIONS]
     cases.append(["--watch", *signals, "checks"])
     for form, name in (("text", "text"), ("vcd", "dump")):
         words = ["--watch", "--format", form, "--input", name]
@@ -94,10 +95,10 @@ class Runs:
                 return "hangs", b"", ""
         return done.returncode, done.stdout, done.stderr.decode()
 
-    def run_closed(self, words, stream):
-        """A run with one of its three streams closed."""
+    def run_closed(self, words, closed):
+        """A run with some of its three streams closed."""
         self.count += 1
-        command = 'exec "$@" %s' % ("<&-", ">&-", "2>&-")[stream]
+        command = 'exec "$@" ' + " ".join(("<&-", ">&-", "2>&-")[stream] for stream in closed)
         with open(os.path.join(self.folder, "text"), "rb") as given:
             done = subprocess.run(["sh", "-c", command, "sh", self.montre, *words], stdin=given,
                                   capture_output=True, cwd=self.folder, timeout=SECONDS)
@@ -145,17 +146,18 @@ def try_case(runs, words):
 
 
 def try_closed(runs, words):
-    """Each stream closed in turn: the run ends as where that stream can't be read or written."""
+    """Some streams closed: the run ends as where the first of them can't be read or written."""
     whole = runs.run(words, "")
-    reads = whole[0] == 0 and "--input" not in words
-    unread = (READ[0], b"", READ[1]) if reads else whole
-    unwritten = (WRITE[0], b"", WRITE[1]) if whole[1] else whole
-    wanted = (unread, unwritten, (whole[0], whole[1], ""))
-    for stream in range(3):
-        found = runs.run_closed(words, stream)
-        if found != wanted[stream]:
+    reads = "-" in words or (whole[0] in (0, 4, 5, 9)
+                             and not {"--input", "--show", "--generate"} & set(words))
+    for closed in CLOSED:
+        wanted = (WRITE[0], b"", WRITE[1]) if 1 in closed and whole[1] else whole
+        wanted = (READ[0], b"", READ[1]) if 0 in closed and reads else wanted
+        wanted = (*wanted[:2], "") if 2 in closed else wanted
+        found = runs.run_closed(words, closed)
+        if found != wanted:
             runs.wrong += 1
-            print("wrong: %s with stream %d closed: %s %r" % (words, stream, found[0], found[2]))
+            print("wrong: %s with streams %s closed: %s %r" % (words, closed, found[0], found[2]))
 
 
 def main():
@@ -166,8 +168,11 @@ def main():
         runs = Runs(os.path.abspath(sys.argv[1]), folder)
         for words in all_cases():
             try_case(runs, words)
-        for words in ([PATTERN], ["--online", PATTERN], ["--watch", "checks"], ["p;"],
-                      ["--input", "text", PATTERN], ["--watch", "--input", "text", "checks"]):
+        for words in (*([*options, PATTERN] for options in OPTIONS), ["--watch", "checks"],
+                      ["--show", PATTERN], ["--generate", "7"], *REFUSED,
+                      ["--input", "text", PATTERN], ["--watch", "--input", "text", "checks"],
+                      ["--watch", "-", "--input", "text"],
+                      ["--format", "vcd", "--define", SIGNALS, "--input", "dump", "v;w"]):
             try_closed(runs, words)
     print("%d runs, %d wrong" % (runs.count, runs.wrong))
     sys.exit(1 if runs.wrong else 0)

@@ -4,7 +4,7 @@
     python3 bench/limits.py PATH_OF_MONTRE
 
 Each pattern is run at the end, online, as the one to take away, by --show and as a check of a
-file, on a stack of 8 MB. For Linux.
+file, on a stack of 8 MB. At last runs of each form and mode have less and less memory. For Linux.
 """
 
 import os
@@ -13,11 +13,12 @@ import subprocess
 import sys
 import tempfile
 
-from cases import lines_of, make_trace
+from cases import LETS, columns_of, dump_of, lines_of, make_trace
 
 SECONDS = 60     # a run that takes longer hangs
 SLOW = 1         # processor seconds that are told
 STACK = 8 << 20  # bytes
+MEMORY = (8, b"montre: out of memory\n")
 MOST = 16384     # bytes of a pattern
 LAST = 1 << 40   # the last unit of a trace
 
@@ -147,6 +148,30 @@ NUMBERS = [
 ]
 
 
+# Names for what a dump of a wide vector says.
+BITS = [("0b" + "1" * 64, 0, b""), ("0b1" + "0" * 64, 11, BAD_LET), ("0x" + "f" * 16, 0, b""),
+        ("0x1" + "0" * 16, 11, BAD_LET), (str((1 << 64) - 1), 0, b""), (str(1 << 64), 11, BAD_LET),
+        ("0b" + "0" * 60000 + "1", 0, b""), ("0x", 11, BAD_LET), ("", 11, BAD_LET)]
+PLACES = [("[65535]", 0), ("[65535:0]", 0), ("[65536]", 4), ("[0:1]", 4), ("[-1]", 4),
+          ("[%d]" % (1 << 31), 4), ("[" + "9" * 60000 + "]", 4)]
+
+
+def wide_vectors():
+    """Definitions at their limits, as INPUTS: numbers, bits, and as many as arguments may have."""
+    dump = b"$var reg 65536 ! v [65535:0] $end\n" + HEAD + b"#0 b1" + b"0" * 65534 + b" !\n#1"
+    define, unknown = ["--format", "vcd", "--define"], b"montre: trace: UnknownName at 34\n"
+    for number, status, line in BITS:
+        yield [*define, "a = v == " + number, "a"], dump, status, line
+    for bits, status in PLACES:
+        yield [*define, "a = v%s >= 0" % bits, "a"], dump, status, unknown if status else b""
+    many = ";".join("n%d = v == %d" % (number, number) for number in range(6000))
+    yield [*define, many, names("n%d", 64)], dump, 0, b""
+    yield [*define, many + ";n0 = v", "n0"], b"", 11, b"montre: definitions: Twice at 6001\n"
+    yield [*define, many + ";n = v ==", "n0"], b"", 11, b"montre: definitions: BadLet at 6001\n"
+    lets = ";".join("n%d = x < %d" % (number, number) for number in range(6000))
+    yield ["--format", "csv", "--let", lets, names("n%d", 64)], b"dt,x\n1,5", 0, b""
+
+
 def check_files(folder):
     """Files of checks at their limits, as INPUTS."""
     checks = b"".join(b"c%d = p\n" % number for number in range(64))
@@ -158,6 +183,28 @@ def check_files(folder):
         with open(os.path.join(folder, name), "wb") as file:
             file.write(text)
         yield ["--watch", name], b"3 p", status, line
+
+
+def memory_runs(folder):
+    """Words, and standard input: runs that need more memory the longer they are."""
+    trace = make_trace(6, 20000, True)
+    dump = dump_of(trace).replace("$var", "".join(
+        "$var wire 8 x%d x%d $end\n" % (number, number) for number in range(20000)) + "$var", 1)
+    with open(os.path.join(folder, "checks"), "w", encoding="utf-8") as file:
+        file.write("".join("c%d = (p;q)* %% [0,%d]\n" % (number, number) for number in range(6)))
+    signals = ["--define", "q = x19999 >= 3; r = x7 changes"]
+    forms = [([], lines_of(trace)), (["--format", "vcd"], dump),
+             (["--format", "vcd", *signals], dump),
+             (["--format", "csv", "--let", LETS], columns_of(trace))]
+    for form, text in forms:
+        for mode in ([], ["--normal"], ["--normal", "--max-zones", "9"], ["--scale", "1"]):
+            yield [*mode, *form, "(p;q)* | p"], text.encode()
+    for form, text in forms[:3]:
+        for mode in (["--online"], ["--minus", "p;p"]):
+            yield [*mode, *form, "(p;q)* | p"], text.encode()
+        yield ["--watch", *form, "checks"], text.encode()
+    yield ["p"], b"1 " + b"x" * 65534
+    yield ["--generate", "3000"], b""
 
 
 class Runs:
@@ -182,6 +229,40 @@ class Runs:
         if after.ru_utime - before.ru_utime > SLOW:
             self.slow += 1
             print("slow: %s: %.1f s" % (told, after.ru_utime - before.ru_utime))
+
+    def run_within(self, words, given, kilobytes):
+        """The end of a run that may have so much memory: the status and both outputs."""
+        def limit():
+            resource.setrlimit(resource.RLIMIT_AS, (kilobytes << 10, kilobytes << 10))
+
+        self.count += 1
+        try:
+            done = subprocess.run([self.montre, *words], input=given, capture_output=True,
+                                  cwd=self.folder, timeout=SECONDS, preexec_fn=limit)
+        except subprocess.TimeoutExpired:
+            return "hangs", b"", b""
+        return done.returncode, done.stdout, done.stderr
+
+    def least(self):
+        """With so many kilobytes the system starts the program, and there is room for its stack."""
+        kilobytes = 1000
+        while self.run_within(["--show", nested("(p;", ")", 199)], b"", kilobytes)[0] != 0:
+            kilobytes += 100
+        return kilobytes
+
+    def compare_memory(self, words, given, least):
+        """More and more memory, up to enough: until then there is too little, and that is told."""
+        whole, kilobytes, found = self.run_within(words, given, 4 << 20), least, None
+        assert whole[0] in (0, 9)
+        while found != whole:
+            found = self.run_within(words, given, kilobytes)
+            as_it_comes = "--online" in words or "--watch" in words
+            is_cut = whole[1].startswith(found[1]) if as_it_comes else found[1] == b""
+            if found != whole and not ((found[0], found[2]) == MEMORY and is_cut):
+                self.wrong += 1
+                print("wrong: %s within %d kB: %s %r, and %d of %d bytes are printed"
+                      % (words, kilobytes, found[0], found[2], len(found[1]), len(whole[1])))
+            kilobytes += kilobytes // 12
 
     def compare_pattern(self, pattern, refusal):
         """A pattern in each place in which one may stand."""
@@ -213,10 +294,13 @@ def main():
         runs = Runs(os.path.abspath(sys.argv[1]), folder)
         for pattern, refusal in AT_LIMITS:
             runs.compare_pattern(pattern, refusal)
-        for words, given, status, line in [*INPUTS, *check_files(folder)]:
+        for words, given, status, line in [*INPUTS, *wide_vectors(), *check_files(folder)]:
             runs.compare(words, given, status, line)
         for words, status, line in NUMBERS:
             runs.compare(words, b"1 p\n1\n1 p", status, line)
+        least = runs.least()
+        for words, given in memory_runs(folder):
+            runs.compare_memory(words, given, least)
     print("%d patterns, %d runs, %d slow, %d wrong"
           % (len(AT_LIMITS), runs.count, runs.slow, runs.wrong))
     sys.exit(1 if runs.wrong else 0)

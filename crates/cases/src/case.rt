@@ -31,6 +31,8 @@ pub(crate) struct Case {
     pub(crate) pairs: Vec<Pair>,
     /// What the output ends with.
     pub(crate) ends: Vec<u8>,
+    /// How many zones it has.
+    pub(crate) zones: Option<usize>,
     /// The input of the case before.
     before: Vec<u8>,
 }
@@ -55,6 +57,7 @@ impl Case {
             cuts: 0,
             pairs: Vec::new(alloc),
             ends: Vec::new(alloc),
+            zones: None,
             before,
         })
     }
@@ -114,7 +117,7 @@ impl Case {
 
     // Takes in a line of numbers.
     fn set(&mut self, word: &str, text: &str) -> bool {
-        if word == "=" || word == "alike" || word == "cuts" {
+        if word == "=" || word == "alike" || word == "cuts" || word == "zones" {
             return self.set_number(word, text);
         }
         let Some(device) = device_of(text) else {
@@ -137,6 +140,7 @@ impl Case {
         match word {
             "=" => self.code = number,
             "cuts" => self.cuts = usize::from(number),
+            "zones" => self.zones = Some(usize::from(number)),
             _ => self.alike = Some(u64::from(number)),
         }
         true

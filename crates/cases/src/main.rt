@@ -17,7 +17,7 @@
 //! - `again`: those of the case before.
 //! - `checks`: the bytes of the file `f` of checks; where there is no such line, to open it fails.
 //! - `>` and `!`: what the output and standard error are given.
-//! - `ends`, in the place of `>`: what the output ends with.
+//! - `ends`, in the place of `>`: what the output ends with, and `zones`, how many zones it has.
 //! - `=`: the code with which the run ends, where it isn't 0.
 //! - `file`: the name of the input, where it isn't `-`.
 //! - `reads`, `asks`, `writes`, `tells`: how many bytes a call takes at most, and which call fails

@@ -8,6 +8,7 @@ use crate::pairs::tells;
 use crate::says::says;
 use std::alloc::{AllocError, Global};
 use std::io;
+use tests_support::zone_of;
 use tre_io::{MemSink, MemSource};
 use tre_tool::run_all;
 
@@ -151,7 +152,16 @@ fn is_out(ran: &Ran, case: &Case) -> bool {
     if case.ends.is_empty() {
         return ran.out == case.out;
     }
-    ran.out.ends_with(&case.ends)
+    ran.out.ends_with(&case.ends) && has_zones(&ran.out, case.zones)
+}
+
+// Whether the output has so many zones, where that is said.
+fn has_zones(out: &[u8], zones: Option<usize>) -> bool {
+    let Some(zones) = zones else {
+        return true;
+    };
+    let lines = str::from_utf8(out).unwrap_or_default().lines();
+    lines.filter(|line| zone_of(line).is_some()).count() == zones
 }
 
 /// How a run over memory ended, and what it wrote.

@@ -1,101 +1,97 @@
 // Tests of tre_decimal.
+use crate::decimal::Spelling::{Decimal, Digits, Numeral};
 use std::alloc::{AllocError, Global};
 use std::test::Fail;
 use tre_decimal::{SCALE_MAX, push_units, read_digits, read_numeral, read_units};
 
-const NUMERALS: [(&str, Option<u64>); 7] = [
-    ("0", Some(0)),
-    ("0071", Some(71)),
-    ("18446744073709551615", Some(u64::MAX)),
-    ("99999999999999999999", Some(u64::MAX)),
-    ("", None),
-    ("1.5", None),
-    ("-1", None),
-];
-
-#[test]
-fn numerals(rt: HostRuntime) {
-    for (digits, number) in &NUMERALS {
-        assert!(rt; read_numeral(digits.as_bytes()) == *number, "{digits}");
-    }
+// How a number is spelt.
+#[derive(Clone, Copy)]
+enum Spelling {
+    Numeral,
+    Decimal,
+    // Digits without a point.
+    Digits,
 }
 
 // Texts, a scale, and the number of units.
-const DECIMALS: [(&str, u8, Option<u64>); 47] = [
-    ("0", 0, Some(0)),
-    ("007", 0, Some(7)),
-    ("007", 1, Some(70)),
-    ("007", 9, Some(7_000_000_000)),
-    ("3.0", 0, Some(3)),
-    ("3.000", 0, Some(3)),
-    ("3.0", 1, Some(30)),
-    ("3.1", 0, None),
-    ("3.", 0, None),
-    ("3.", 1, None),
-    (".5", 1, None),
-    (".", 3, None),
-    ("0.5", 1, Some(5)),
-    ("0.50", 1, Some(5)),
-    ("0.55", 1, None),
-    ("0.55", 3, Some(550)),
-    ("000.500", 3, Some(500)),
-    ("00.0", 1, Some(0)),
-    ("1.25", 1, None),
-    ("1.25", 3, Some(1_250)),
-    ("1.2000", 1, Some(12)),
-    ("1.20000000000000000000000", 1, Some(12)),
-    ("1.20000000000000000000001", 1, None),
-    ("1.2001", 3, None),
-    ("1.2001", 9, Some(1_200_100_000)),
-    ("0.000000001", 9, Some(1)),
-    ("0.0000000010", 9, Some(1)),
-    ("0.0000000001", 9, None),
-    ("1099511627776", 0, Some(1_099_511_627_776)),
-    ("1099511627777", 0, Some(1_099_511_627_777)),
-    ("109951162777.6", 1, Some(1_099_511_627_776)),
-    ("109951162777.7", 1, Some(1_099_511_627_777)),
-    ("1099511627.776", 3, Some(1_099_511_627_776)),
-    ("1099.511627776", 9, Some(1_099_511_627_776)),
-    ("1099.511627777", 9, Some(1_099_511_627_777)),
-    ("18446744073.709551614", 9, Some(u64::MAX - 1)),
-    ("18446744073.709551615", 9, Some(u64::MAX)),
-    ("18446744073.709551616", 9, Some(u64::MAX)),
-    ("99999999999999999999999999.5", 1, Some(u64::MAX)),
-    ("99999999999999999999999999.05", 1, None),
-    ("1.5.0", 1, None),
-    ("1..2", 1, None),
-    ("1,5", 1, None),
-    ("-1.5", 1, None),
-    ("+1.5", 1, None),
-    (" 1.5", 1, None),
-    ("", 1, None),
+const READ: [(Spelling, &str, u8, Option<u64>); 62] = [
+    (Numeral, "0", 0, Some(0)),
+    (Numeral, "0071", 0, Some(71)),
+    (Numeral, "18446744073709551615", 0, Some(u64::MAX)),
+    (Numeral, "99999999999999999999", 0, Some(u64::MAX)),
+    (Numeral, "", 0, None),
+    (Numeral, "1.5", 0, None),
+    (Numeral, "-1", 0, None),
+    (Decimal, "0", 0, Some(0)),
+    (Decimal, "007", 0, Some(7)),
+    (Decimal, "007", 1, Some(70)),
+    (Decimal, "007", 9, Some(7_000_000_000)),
+    (Decimal, "3.0", 0, Some(3)),
+    (Decimal, "3.000", 0, Some(3)),
+    (Decimal, "3.0", 1, Some(30)),
+    (Decimal, "3.1", 0, None),
+    (Decimal, "3.", 0, None),
+    (Decimal, "3.", 1, None),
+    (Decimal, ".5", 1, None),
+    (Decimal, ".", 3, None),
+    (Decimal, "0.5", 1, Some(5)),
+    (Decimal, "0.50", 1, Some(5)),
+    (Decimal, "0.55", 1, None),
+    (Decimal, "0.55", 3, Some(550)),
+    (Decimal, "000.500", 3, Some(500)),
+    (Decimal, "00.0", 1, Some(0)),
+    (Decimal, "1.25", 1, None),
+    (Decimal, "1.25", 3, Some(1_250)),
+    (Decimal, "1.2000", 1, Some(12)),
+    (Decimal, "1.20000000000000000000000", 1, Some(12)),
+    (Decimal, "1.20000000000000000000001", 1, None),
+    (Decimal, "1.2001", 3, None),
+    (Decimal, "1.2001", 9, Some(1_200_100_000)),
+    (Decimal, "0.000000001", 9, Some(1)),
+    (Decimal, "0.0000000010", 9, Some(1)),
+    (Decimal, "0.0000000001", 9, None),
+    (Decimal, "1099511627776", 0, Some(1_099_511_627_776)),
+    (Decimal, "1099511627777", 0, Some(1_099_511_627_777)),
+    (Decimal, "109951162777.6", 1, Some(1_099_511_627_776)),
+    (Decimal, "109951162777.7", 1, Some(1_099_511_627_777)),
+    (Decimal, "1099511627.776", 3, Some(1_099_511_627_776)),
+    (Decimal, "1099.511627776", 9, Some(1_099_511_627_776)),
+    (Decimal, "1099.511627777", 9, Some(1_099_511_627_777)),
+    (Decimal, "18446744073.709551614", 9, Some(u64::MAX - 1)),
+    (Decimal, "18446744073.709551615", 9, Some(u64::MAX)),
+    (Decimal, "18446744073.709551616", 9, Some(u64::MAX)),
+    (Decimal, "99999999999999999999999999.5", 1, Some(u64::MAX)),
+    (Decimal, "99999999999999999999999999.05", 1, None),
+    (Decimal, "1.5.0", 1, None),
+    (Decimal, "1..2", 1, None),
+    (Decimal, "1,5", 1, None),
+    (Decimal, "-1.5", 1, None),
+    (Decimal, "+1.5", 1, None),
+    (Decimal, " 1.5", 1, None),
+    (Decimal, "", 1, None),
+    (Digits, "5", 0, Some(5)),
+    (Digits, "5", 3, Some(5_000)),
+    (Digits, "18446744073", 9, Some(18_446_744_073_000_000_000)),
+    (Digits, "18446744074", 9, Some(u64::MAX)),
+    (Digits, "99999999999999999999999999", 9, Some(u64::MAX)),
+    (Digits, "5.0", 1, None),
+    (Digits, "", 1, None),
+    (Digits, "x", 1, None),
 ];
 
-#[test]
-fn decimals_are_read(rt: HostRuntime) {
-    for (text, scale, units) in &DECIMALS {
-        let read = read_units(text.as_bytes(), (*scale).min(SCALE_MAX));
-        assert!(rt; read == *units, "{text} {scale}");
+fn read(spelling: Spelling, text: &str, scale: u8) -> Option<u64> {
+    let scale = scale.min(SCALE_MAX);
+    match spelling {
+        Numeral => read_numeral(text.as_bytes()),
+        Decimal => read_units(text.as_bytes(), scale),
+        Digits => read_digits(text.as_bytes(), scale),
     }
 }
 
-// Digits without a point, a scale, and the number of units.
-const DIGITS: [(&str, u8, Option<u64>); 8] = [
-    ("5", 0, Some(5)),
-    ("5", 3, Some(5_000)),
-    ("18446744073", 9, Some(18_446_744_073_000_000_000)),
-    ("18446744074", 9, Some(u64::MAX)),
-    ("99999999999999999999999999", 9, Some(u64::MAX)),
-    ("5.0", 1, None),
-    ("", 1, None),
-    ("x", 1, None),
-];
-
 #[test]
-fn digits_are_read(rt: HostRuntime) {
-    for (digits, scale, units) in &DIGITS {
-        let read = read_digits(digits.as_bytes(), (*scale).min(SCALE_MAX));
-        assert!(rt; read == *units, "{digits} {scale}");
+fn numbers_are_read(rt: HostRuntime) {
+    for (spelling, text, scale, units) in &READ {
+        assert!(rt; read(*spelling, *text, *scale) == *units, "{text}");
     }
 }
 

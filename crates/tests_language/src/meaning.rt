@@ -18,16 +18,14 @@ fn boxed(alloc: Global, expr: Expr) -> Result<Box<Expr>, AllocError> {
     Ok(Box::new(alloc, expr)?)
 }
 
-fn sequence(alloc: Global, first: Expr, second: Expr) -> Result<Expr, AllocError> {
-    let first = boxed(alloc, first)?;
+fn in_turn(alloc: Global, first: Box<Expr>, second: Expr) -> Result<Expr, AllocError> {
     let second = boxed(alloc, second)?;
     Ok(Expr::Seq(first, second))
 }
 
-fn either(alloc: Global, first: Expr, second: Expr) -> Result<Expr, AllocError> {
+fn sequence(alloc: Global, first: Expr, second: Expr) -> Result<Expr, AllocError> {
     let first = boxed(alloc, first)?;
-    let second = boxed(alloc, second)?;
-    Ok(Expr::Alt(first, second))
+    in_turn(alloc, first, second)
 }
 
 // This many negations of p.
@@ -95,8 +93,6 @@ enum Form {
     Turns,
     // `q ; p`
     Back,
-    // As many events from number 0 on, one or another.
-    Events(u8),
     // The event of this number.
     Event(u8),
     // As many negations of p.
@@ -113,7 +109,6 @@ fn made(alloc: Global, form: Form) -> Result<Expr, AllocError> {
         Form::P => Ok(p()),
         Form::Turns => sequence(alloc, p(), q()),
         Form::Back => sequence(alloc, q(), p()),
-        Form::Events(count) => events(alloc, count),
         Form::Event(number) => Ok(Expr::Event(number)),
         Form::Negations(count) => negations(alloc, count),
         Form::LeftComb(count) => left_comb(alloc, count),
@@ -121,12 +116,27 @@ fn made(alloc: Global, form: Form) -> Result<Expr, AllocError> {
     }
 }
 
-// The same of an expression that is made.
-fn nodes_of(alloc: Global, form: Form, names: &str, events: &str) -> Result<Option<u64>, Fail> {
+fn nodes_with(
+    alloc: Global,
+    form: Form,
+    names: Names,
+    events: Names,
+) -> Result<Option<u64>, AllocError> {
+    let expr = made(alloc, form)?;
+    nodes(alloc, expr, names, events)
+}
+
+// Whether the pattern of the expression that is made has so many.
+fn has_nodes(
+    alloc: Global,
+    form: Form,
+    names: &str,
+    events: &str,
+    count: Option<u64>,
+) -> Result<bool, Fail> {
     let names = names_of(alloc, names)?;
     let events = names_of(alloc, events)?;
-    let expr = made(alloc, form)?;
-    Ok(nodes(alloc, expr, names, events)?)
+    Ok(nodes_with(alloc, form, names, events)? == count)
 }
 
 // Expressions, the names of their propositions and of their events, and how many nodes there are.
@@ -150,59 +160,38 @@ const NODES: [(Form, &str, &str, Option<u64>); 11] = [
 fn a_pattern_has_its_nodes(rt: HostRuntime) -> Result<(), Fail> {
     for (form, names, events, count) in &NODES {
         assert!(rt;
-            nodes_of(rt.alloc(), *form, *names, *events)? == *count,
-            "{names} {events} {count:?}"
+            has_nodes(rt.alloc(), *form, *names, *events, *count)?,
+            "{names} {events}"
         );
     }
     Ok(())
 }
 
-// The events of this many numbers from 0, one or another.
-fn events(alloc: Global, count: u8) -> Result<Expr, AllocError> {
-    let mut expr = Expr::Event(0);
-    for number in 1..count {
-        expr = either(alloc, expr, Expr::Event(number))?;
-    }
-    Ok(expr)
+// Whether the copy of the pattern is the same, with these second names of its propositions and of
+// its events.
+fn is_same(copy: &Pattern, pattern: &Pattern, name: &str, event: &str) -> bool {
+    copy.expr() == pattern.expr()
+        && copy.names().name(1) == Some(name)
+        && copy.events().name(1) == Some(event)
 }
 
-// The names e0 to e9, e10 and on, with a space between two.
-fn event_names(alloc: Global, count: u8) -> Result<String, AllocError> {
-    let mut text = String::new(alloc);
-    for number in 0..count {
-        let name = format!(in alloc; "e{number} ")?;
-        text.push_str(name.as_str())?;
-    }
-    Ok(text)
-}
-
-// How many nodes there are of so many events, with 64 names.
-fn event_nodes(alloc: Global, count: u8) -> Result<Option<u64>, Fail> {
-    let names = event_names(alloc, 64)?;
-    nodes_of(alloc, Form::Events(count), "", names.as_str())
-}
-
-#[test]
-fn a_pattern_has_a_name_for_each_event(rt: HostRuntime) -> Result<(), Fail> {
-    assert!(rt; event_nodes(rt.alloc(), 64)? == Some(127));
-    assert!(rt; event_nodes(rt.alloc(), 65)?.is_none());
-    Ok(())
-}
-
-// Whether a copy of the pattern is the same, with these second names of its propositions and of its
-// events.
-fn is_copied(alloc: Global, text: &str, name: &str, event: &str) -> Result<bool, Fail> {
-    let pattern = parse(alloc, text, 0)?;
+fn is_copied(
+    alloc: Global,
+    pattern: &Pattern,
+    name: &str,
+    event: &str,
+) -> Result<bool, AllocError> {
     let copy = pattern.try_clone(alloc)?;
-    Ok(
-        copy.expr() == pattern.expr()
-            && copy.names().name(1) == Some(name)
-            && copy.events().name(1) == Some(event),
-    )
+    Ok(is_same(&copy, pattern, name, event))
+}
+
+fn is_text_copied(alloc: Global, text: &str, name: &str, event: &str) -> Result<bool, Fail> {
+    let pattern = parse(alloc, text, 0)?;
+    Ok(is_copied(alloc, &pattern, name, event)?)
 }
 
 #[test]
 fn a_copy_of_a_pattern_is_the_pattern(rt: HostRuntime) -> Result<(), Fail> {
-    assert!(rt; is_copied(rt.alloc(), "p;q;event(a);event(p)", "q", "p")?);
+    assert!(rt; is_text_copied(rt.alloc(), "p;q;event(a);event(p)", "q", "p")?);
     Ok(())
 }

@@ -1,71 +1,52 @@
 // Tests of tre_parse.
-use std::alloc::{AllocError, Global};
+use std::alloc::Global;
 use std::test::Fail;
-use tre_parse::{ParseFault, parse};
+use tre_parse::parse;
 use tre_state::Names;
 use tre_syntax::Expr;
 
-// How many nodes the pattern has that the text spells.
-fn node_count(alloc: Global, text: &str) -> Result<u64, ParseFault> {
-    let pattern = parse(alloc, text, 0)?;
-    Ok(pattern.nodes())
-}
-
-// Seven times "once or more" is a pattern still.
-#[test]
-fn nodes(rt: HostRuntime) {
-    assert!(rt; node_count(rt.alloc(), "p+++++++") == Ok(510));
-}
-
-// The names in the order of their numbers.
-fn joined(alloc: Global, names: &Names) -> Result<String, AllocError> {
-    let mut text = String::new(alloc);
-    for number in 0..names.len() {
-        text.push_str(names.name(number as u8).unwrap_or("?"))?;
-        text.push_str(" ")?;
-    }
-    Ok(text)
-}
-
 // Patterns, the names of their propositions, and those of their events.
-const KINDS: [(&str, &str, &str); 4] = [
-    ("p;event(p)", "p ", "p "),
-    ("event(b);a;event(a);event(b)", "a ", "b a "),
-    ("event(a)&event(b)", "", "a b "),
-    ("rise(q);p;(event ( p ))*", "q p ", "p "),
+const KINDS: [(&str, &[&str], &[&str]); 4] = [
+    ("p;event(p)", &["p"], &["p"]),
+    ("event(b);a;event(a);event(b)", &["a"], &["b", "a"]),
+    ("event(a)&event(b)", &[], &["a", "b"]),
+    ("rise(q);p;(event ( p ))*", &["q", "p"], &["p"]),
 ];
 
-// Whether the names are these, in the order of their numbers, each with a space behind it.
-fn are(alloc: Global, names: &Names, text: &str) -> bool {
-    match joined(alloc, names) {
-        Ok(joined) => joined.as_str() == text,
-        Err(_) => false,
+// Whether the names are these, in the order of their numbers.
+fn are(names: &Names, wanted: &[&str]) -> bool {
+    for number in 0..names.len() {
+        if names.name(number as u8) != wanted.get(number).copied() {
+            return false;
+        }
     }
+    names.len() == wanted.len()
 }
 
 // Whether the pattern that the text spells has these propositions and these events.
 fn has_names(
     alloc: Global,
     text: &str,
-    propositions: &str,
-    events: &str,
-) -> Result<bool, ParseFault> {
+    propositions: &[&str],
+    events: &[&str],
+) -> Result<bool, Fail> {
     let pattern = parse(alloc, text, 0)?;
-    Ok(are(alloc, pattern.names(), propositions) && are(alloc, pattern.events(), events))
+    Ok(are(pattern.names(), propositions) && are(pattern.events(), events))
 }
 
 #[test]
-fn propositions_and_events_have_names_of_their_own(rt: HostRuntime) {
+fn propositions_and_events_have_names_of_their_own(rt: HostRuntime) -> Result<(), Fail> {
     for (text, propositions, events) in &KINDS {
-        let same = has_names(rt.alloc(), *text, *propositions, *events);
-        assert!(rt; same == Ok(true), "{text}");
+        assert!(rt;
+            has_names(rt.alloc(), *text, *propositions, *events)?,
+            "{text}"
+        );
     }
+    Ok(())
 }
 
-// The operator at the root of an expression.
-fn root(alloc: Global, text: &str) -> Result<&'static str, ParseFault> {
-    let pattern = parse(alloc, text, 0)?;
-    Ok(match pattern.expr() {
+fn root(expr: &Expr) -> &'static str {
+    match expr {
         Expr::Eps => "eps",
         Expr::Lit(_) => "literal",
         Expr::Rise(_) => "rise",
@@ -76,7 +57,13 @@ fn root(alloc: Global, text: &str) -> Result<&'static str, ParseFault> {
         Expr::Meet(_, _) => "&",
         Expr::Star(_) => "*",
         Expr::Within(_, _) => "%",
-    })
+    }
+}
+
+// Whether this is the operator at the root of the expression.
+fn has_root(alloc: Global, text: &str, want: &str) -> Result<bool, Fail> {
+    let pattern = parse(alloc, text, 0)?;
+    Ok(root(pattern.expr()) == want)
 }
 
 const ROOTS: [(&str, &str); 36] = [
@@ -121,7 +108,7 @@ const ROOTS: [(&str, &str); 36] = [
 #[test]
 fn roots(rt: HostRuntime) -> Result<(), Fail> {
     for (text, want) in &ROOTS {
-        assert!(rt; root(rt.alloc(), *text)? == *want, "{text}");
+        assert!(rt; has_root(rt.alloc(), *text, *want)?, "{text}");
     }
     Ok(())
 }

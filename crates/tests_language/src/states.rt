@@ -72,36 +72,6 @@ fn names_are_numbered_once(rt: HostRuntime) -> Result<(), Fail> {
     Ok(())
 }
 
-// The names p0 to p63.
-fn sixty_four(alloc: Global) -> Result<Names, Fail> {
-    let mut names = Names::new(alloc);
-    for i in 0u32..64 {
-        let name = format!(in alloc; "p{i}")?;
-        if is_name(name.as_str()) {
-            names.number(name.as_str())?;
-        }
-    }
-    Ok(names)
-}
-
-// Whether p63 is the last of the names, and no other gets a number.
-fn are_all(names: &mut Names) -> bool {
-    numbered(names, "p63") == Some(Ok(63))
-        && numbered(names, "q") == Some(Err(NameFault::TooMany))
-        && names.len() == 64
-}
-
-fn are_sixty_four(alloc: Global) -> Result<bool, Fail> {
-    let mut names = sixty_four(alloc)?;
-    Ok(are_all(&mut names))
-}
-
-#[test]
-fn the_sixty_fifth_name_is_refused(rt: HostRuntime) -> Result<(), Fail> {
-    assert!(rt; are_sixty_four(rt.alloc())?);
-    Ok(())
-}
-
 fn is_message(alloc: Global, text: &str) -> Result<bool, AllocError> {
     let message = format!(in alloc; "{}", NameFault::TooMany)?;
     Ok(message.as_str() == text)
@@ -113,13 +83,21 @@ fn a_fault_has_its_name(rt: HostRuntime) -> Result<(), Fail> {
     Ok(())
 }
 
-// `!(p && q)`
-fn not_both(alloc: Global) -> Result<State, AllocError>
+// `p && q`
+fn both(alloc: Global) -> Result<State, AllocError>
     ensures { IfOk result (λ state. NumbersBelow NAMES_MAX (tree_of state)) }
 {
     let p = Box::new(alloc, State::Prop(0))?;
     let q = Box::new(alloc, State::Prop(1))?;
-    let both = Box::new(alloc, State::And(p, q))?;
+    Ok(State::And(p, q))
+}
+
+// `!(p && q)`
+fn not_both(alloc: Global) -> Result<State, AllocError>
+    ensures { IfOk result (λ state. NumbersBelow NAMES_MAX (tree_of state)) }
+{
+    let both = both(alloc)?;
+    let both = Box::new(alloc, both)?;
     Ok(State::Not(both))
 }
 

@@ -1,2 +1,2 @@
--- What the functions inside promise each other: IsReady.
+-- What the functions inside promise each other: IsReady, ComesBehind.
 pub mod Ready

@@ -1,6 +1,6 @@
 // The constructors of residuals: each means its form.
 
-use std::alloc::Global;
+use std::alloc::{AllocError, Global};
 use std::test::Fail;
 use tests_support::set_of;
 use tre_residual::Residual;
@@ -8,28 +8,19 @@ use tre_syntax::Expr;
 use tre_zone::Interval;
 use tre_zoneset::ZoneSet;
 
-/// The residuals of the rows, at the tick 2.
-#[derive(Clone, Copy)]
-enum Case {
-    /// The pair (0,2) in this form.
-    Whole(Form),
-    /// The pair (0,2) within so many ticks.
-    Lasting(u32),
-    /// The pair of the line, and then (1,2), or (1,2) and then `eps`.
-    Before(&'static str),
-}
-
 /// Forms around a residual.
 #[derive(Clone, Copy)]
 enum Form {
-    /// The empty set, and then the residual.
-    AfterNone,
+    /// The pairs of the lines, and then the residual.
+    After,
     /// The residual, or nothing.
     Choice,
     /// The residual, and nothing.
     Nothing,
     /// The residual, and then `eps`.
     Followed,
+    /// The residual, within so many ticks.
+    Lasting,
 }
 
 // Lines of one pair.
@@ -39,36 +30,37 @@ const FIRST: &str = "[0,0] [1,1] [1,1]";
 
 const SECOND: &str = "[1,1] [2,2] [1,1]";
 
-fn residual(alloc: Global, case: Case) -> Result<Residual, Fail> {
-    match case {
-        Case::Whole(form) => whole(alloc, form),
-        Case::Lasting(ticks) => lasting(alloc, ticks),
-        Case::Before(line) => before(alloc, line),
+/// A residual at the tick 2 in a form, and what of it holds.
+struct Case {
+    name: &'static str,
+    /// The pair of this line, which ends now.
+    line: &'static str,
+    /// That pair, or the same and then `eps`.
+    is_choice: bool,
+    form: Form,
+    /// The pairs of the form.
+    lines: &'static [&'static str],
+    /// Its ticks.
+    ticks: u32,
+    /// Whether the pair (0,2) is there.
+    is_whole: bool,
+}
+
+// The form around the residual, with these pairs and this interval.
+fn around(
+    alloc: Global,
+    form: Form,
+    first: ZoneSet,
+    interval: Interval,
+    inner: Residual,
+) -> Result<Residual, AllocError> {
+    match form {
+        Form::After => Residual::pre(alloc, first, inner),
+        Form::Choice => Residual::or(alloc, Residual::Nil, inner),
+        Form::Nothing => Residual::both(alloc, Residual::Nil, inner),
+        Form::Followed => Residual::post(alloc, inner, Expr::Eps),
+        Form::Lasting => Residual::dur(alloc, inner, interval),
     }
-}
-
-fn whole(alloc: Global, form: Form) -> Result<Residual, Fail> {
-    let whole = here(alloc, WHOLE)?;
-    let residual = match form {
-        Form::AfterNone => Residual::pre(alloc, ZoneSet::new(alloc), whole),
-        Form::Choice => Residual::or(alloc, Residual::Nil, whole),
-        Form::Nothing => Residual::both(alloc, Residual::Nil, whole),
-        Form::Followed => Residual::post(alloc, whole, Expr::Eps),
-    };
-    Ok(residual?)
-}
-
-fn lasting(alloc: Global, ticks: u32) -> Result<Residual, Fail> {
-    let ticks = u64::from(ticks);
-    let interval = Interval::new(ticks, true, Some(ticks), true).ok_or("no interval")?;
-    let whole = here(alloc, WHOLE)?;
-    Ok(Residual::dur(alloc, whole, interval)?)
-}
-
-fn before(alloc: Global, line: &str) -> Result<Residual, Fail> {
-    let first = set_of(alloc, &[line])?;
-    let choice = choice(alloc)?;
-    Ok(Residual::pre(alloc, first, choice)?)
 }
 
 // The pair of the line, which ends now.
@@ -76,11 +68,26 @@ fn here(alloc: Global, line: &str) -> Result<Residual, Fail> {
     Ok(Residual::Here(set_of(alloc, &[line])?))
 }
 
-// The pair (1,2), which ends now, or that pair and then `eps`.
-fn choice(alloc: Global) -> Result<Residual, Fail> {
-    let begun = set_of(alloc, &[SECOND])?;
-    let here = here(alloc, SECOND)?;
-    Ok(Residual::or(alloc, here, Residual::At(begun, Expr::Eps))?)
+// The pair of the line, which ends now, or that pair and then `eps`.
+fn choice(alloc: Global, line: &str) -> Result<Residual, Fail> {
+    let ended = set_of(alloc, &[line])?;
+    let begun = set_of(alloc, &[line])?;
+    Ok(Residual::or(alloc, Residual::Here(ended), Residual::At(begun, Expr::Eps))?)
+}
+
+fn inner(alloc: Global, case: &Case) -> Result<Residual, Fail> {
+    if case.is_choice {
+        return choice(alloc, case.line);
+    }
+    here(alloc, case.line)
+}
+
+fn residual(alloc: Global, case: &Case) -> Result<Residual, Fail> {
+    let ticks = u64::from(case.ticks);
+    let interval = Interval::new(ticks, true, Some(ticks), true).ok_or("no interval")?;
+    let first = set_of(alloc, case.lines)?;
+    let inner = inner(alloc, case)?;
+    Ok(around(alloc, case.form, first, interval, inner)?)
 }
 
 // Whether the residual at the tick 2 holds the pair of ticks, where nothing comes and the only
@@ -100,15 +107,79 @@ fn holds(residual: &Residual, a: u64, b: u64) -> bool {
     }
 }
 
-const CASES: [(&str, Case, bool); 8] = [
-    ("nothing before it", Case::Whole(Form::AfterNone), false),
-    ("it or nothing", Case::Whole(Form::Choice), true),
-    ("it and nothing", Case::Whole(Form::Nothing), false),
-    ("too long", Case::Lasting(1), false),
-    ("as long", Case::Lasting(2), true),
-    ("nothing behind it", Case::Whole(Form::Followed), true),
-    ("two parts", Case::Before(FIRST), true),
-    ("parts that don't meet", Case::Before(WHOLE), false),
+const CASES: [Case; 8] = [
+    Case {
+        name: "nothing before it",
+        line: WHOLE,
+        is_choice: false,
+        form: Form::After,
+        lines: &[],
+        ticks: 0,
+        is_whole: false,
+    },
+    Case {
+        name: "it or nothing",
+        line: WHOLE,
+        is_choice: false,
+        form: Form::Choice,
+        lines: &[],
+        ticks: 0,
+        is_whole: true,
+    },
+    Case {
+        name: "it and nothing",
+        line: WHOLE,
+        is_choice: false,
+        form: Form::Nothing,
+        lines: &[],
+        ticks: 0,
+        is_whole: false,
+    },
+    Case {
+        name: "too long",
+        line: WHOLE,
+        is_choice: false,
+        form: Form::Lasting,
+        lines: &[],
+        ticks: 1,
+        is_whole: false,
+    },
+    Case {
+        name: "as long",
+        line: WHOLE,
+        is_choice: false,
+        form: Form::Lasting,
+        lines: &[],
+        ticks: 2,
+        is_whole: true,
+    },
+    Case {
+        name: "nothing behind it",
+        line: WHOLE,
+        is_choice: false,
+        form: Form::Followed,
+        lines: &[],
+        ticks: 0,
+        is_whole: true,
+    },
+    Case {
+        name: "two parts",
+        line: SECOND,
+        is_choice: true,
+        form: Form::After,
+        lines: &[FIRST],
+        ticks: 0,
+        is_whole: true,
+    },
+    Case {
+        name: "parts that don't meet",
+        line: SECOND,
+        is_choice: true,
+        form: Form::After,
+        lines: &[WHOLE],
+        ticks: 0,
+        is_whole: false,
+    },
 ];
 
 // Whether the residual holds the pair (0,2) or not, as this says, and no other.
@@ -123,15 +194,16 @@ fn means(residual: &Residual, whole: bool) -> bool {
     true
 }
 
-fn is_as_said(alloc: Global, case: Case, whole: bool) -> Result<bool, Fail> {
+fn is_as_said(alloc: Global, case: &Case) -> Result<bool, Fail> {
     let residual = residual(alloc, case)?;
-    Ok(means(&residual, whole))
+    Ok(means(&residual, case.is_whole))
 }
 
 #[test]
 fn constructors_mean_their_forms(rt: HostRuntime) -> Result<(), Fail> {
-    for (name, case, whole) in &CASES {
-        assert!(rt; is_as_said(rt.alloc(), *case, *whole)?, "{name}");
+    for case in &CASES {
+        let name = case.name;
+        assert!(rt; is_as_said(rt.alloc(), case)?, "{name}");
     }
     Ok(())
 }

@@ -5,49 +5,39 @@ use std::alloc::Global;
 use std::test::Fail;
 use tre_online::Session;
 use tre_trace::{PushFault, Segment};
-use tre_zoneset::ZoneSet;
 
 fn session(alloc: Global, text: &str) -> Result<Session, Fail> {
-    let session = Session::new(alloc, pattern(alloc, text)?)?;
-    Ok(session)
+    Ok(Session::new(alloc, pattern(alloc, text)?)?)
 }
 
-// What is told of a segment of this length and valuation.
-fn read(session: &mut Session, len: u64, val: u64) -> Result<ZoneSet, PushFault> {
-    session.segment(Segment::plain(len, val))
-}
-
-// Why the session refuses a segment of p, if it does.
-fn fault(session: &mut Session, len: u64) -> Option<PushFault> {
-    read(session, len, 1).err()
+// Whether a segment of p of this length is refused for this, and the session stays at this time.
+fn refuses(session: &mut Session, len: u64, why: PushFault, at: u64) -> bool {
+    session.segment(Segment::plain(len, 1)).err() == Some(why) && session.at() == at
 }
 
 // Whether two more ticks of p make a match from the start to this time.
-fn tells_until(session: &mut Session, end: u64) -> Result<bool, PushFault> {
-    let told = read(session, 2, 1)?;
-    Ok(told.holds(0, end, 1))
+fn tells_until(session: &mut Session, end: u64) -> bool {
+    match session.segment(Segment::plain(2, 1)) {
+        Ok(told) => told.holds(0, end, 1),
+        Err(_) => false,
+    }
 }
 
-// Whether a segment of this length is refused for this, and the session stays at this time.
-fn refuses(session: &mut Session, len: u64, why: PushFault, at: u64) -> bool {
-    fault(session, len) == Some(why) && session.at() == at
-}
-
-fn is_unchanged(session: &mut Session) -> Result<bool, PushFault> {
+fn is_unchanged(session: &mut Session) -> bool {
     let late = PushFault::TooLate {
         end: 1_099_511_627_778,
     };
-    let zero = refuses(session, 0, PushFault::Zero, 0);
-    let first = tells_until(session, 2)?;
-    let long = refuses(session, 1 << 40, late, 2);
-    let second = tells_until(session, 4)?;
-    let nodes = session.pattern().nodes() == 2 && session.kept_nodes() == 1;
-    Ok(zero && first && long && second && nodes)
+    refuses(session, 0, PushFault::Zero, 0)
+        && tells_until(session, 2)
+        && refuses(session, 1 << 40, late, 2)
+        && tells_until(session, 4)
+        && session.pattern().nodes() == 2
+        && session.kept_nodes() == 1
 }
 
 fn refuses_unchanged(alloc: Global) -> Result<bool, Fail> {
     let mut session = session(alloc, "p")?;
-    Ok(is_unchanged(&mut session)?)
+    Ok(is_unchanged(&mut session))
 }
 
 #[test]
@@ -56,40 +46,76 @@ fn a_refused_segment_changes_nothing(rt: HostRuntime) -> Result<(), Fail> {
     Ok(())
 }
 
-// How many nodes are kept after one more tick of this valuation.
-fn kept_behind(session: &mut Session, val: u64) -> Result<u64, PushFault> {
-    read(session, 1, val)?;
-    Ok(session.kept_nodes())
+// Whether so many nodes are kept after one more tick of this valuation.
+fn keeps(session: &mut Session, val: u64, nodes: u64) -> bool {
+    session.segment(Segment::plain(1, val)).is_ok() && session.kept_nodes() == nodes
 }
 
-// How many nodes are kept after each of the ticks on which these hold in turn: the fewest and the
-// most.
-fn kept(alloc: Global, text: &str, vals: [u64; 2], turns: u16) -> Result<(u64, u64), Fail> {
-    let mut session = session(alloc, text)?;
-    let mut fewest = u64::MAX;
-    let mut most = 0;
+// Whether so many are kept after each of the ticks on which these hold in turn.
+fn keeps_always(session: &mut Session, vals: [u64; 2], turns: u16, nodes: u64) -> bool {
     for _ in 0..turns {
-        for val in vals {
-            let kept = kept_behind(&mut session, val)?;
-            fewest = fewest.min(kept);
-            most = most.max(kept);
+        if !keeps(session, vals[0], nodes) || !keeps(session, vals[1], nodes) {
+            return false;
         }
     }
-    Ok((fewest, most))
+    true
 }
 
-/// Patterns, what holds on ticks in turn, how many turns there are, and the fewest and the most
-/// nodes that are kept after one of the ticks.
-const KEPT: [(&str, [u64; 2], u16, (u64, u64)); 3] = [
-    ("(p;q)*", [1, 2], 500, (4, 4)),
-    ("p % [0,3]", [1, 1], 50, (2, 2)),
-    ("p & p", [1, 1], 50, (3, 3)),
+/// A pattern, what holds on ticks in turn, how many turns there are, and how many nodes are kept
+/// before the first tick and after each of them.
+struct Kept {
+    text: &'static str,
+    vals: [u64; 2],
+    turns: u16,
+    first: u64,
+    nodes: u64,
+}
+
+fn is_small(alloc: Global, row: &Kept) -> Result<bool, Fail> {
+    let mut session = session(alloc, row.text)?;
+    Ok(
+        session.kept_nodes() == row.first
+            && keeps_always(&mut session, row.vals, row.turns, row.nodes),
+    )
+}
+
+const KEPT: [Kept; 4] = [
+    Kept {
+        text: "(p;q)*",
+        vals: [1, 2],
+        turns: 500,
+        first: 4,
+        nodes: 4,
+    },
+    Kept {
+        text: "p % [0,3]",
+        vals: [1, 1],
+        turns: 50,
+        first: 1,
+        nodes: 2,
+    },
+    Kept {
+        text: "p & p",
+        vals: [1, 1],
+        turns: 50,
+        first: 1,
+        nodes: 3,
+    },
+    // A node for each form, whether or not it has begun.
+    Kept {
+        text: "p;q",
+        vals: [1, 2],
+        turns: 1,
+        first: 3,
+        nodes: 3,
+    },
 ];
 
 #[test]
 fn what_is_kept_stays_small(rt: HostRuntime) -> Result<(), Fail> {
-    for (text, vals, turns, want) in &KEPT {
-        assert!(rt; kept(rt.alloc(), *text, *vals, *turns)? == *want, "{text}");
+    for row in &KEPT {
+        let text = row.text;
+        assert!(rt; is_small(rt.alloc(), row)?, "{text}");
     }
     Ok(())
 }

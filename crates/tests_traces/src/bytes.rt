@@ -15,83 +15,93 @@ fn trace(alloc: Global, bytes: &[u8], most: usize, fails: &[u64]) -> Result<MemS
     Ok(MemSource::new(name, bytes.to_vec(alloc)?, most, fails.to_vec(alloc)?))
 }
 
-// All that is left, in at most eight pieces.
-fn rest<S: Source>(alloc: Global, source: &mut S) -> Result<Vec<u8>, Fail>
-    requires { IsTrue (S.told source.old).opened }
+// Whether so many bytes are read into the buffer, and they are these.
+fn reads(source: &mut MemSource, wanted: &[u8]) -> bool
+    requires { IsTrue source.old.opened }
+    ensures { IsTrue source.new.opened }
 {
-    let mut all = Vec::new(alloc);
-    for _ in 0..8 {
-        let mut buffer = [0u8; 4];
-        let count = source.read(&mut buffer)?;
-        all.extend_from_slice(&buffer[..count])?;
+    let mut buffer = [0u8; 3];
+    match source.read(&mut buffer) {
+        Ok(count) => &buffer[..count] == wanted,
+        Err(_) => false,
     }
-    Ok(all)
 }
 
-#[test]
-fn one_byte_a_read(rt: HostRuntime) -> Result<(), Fail> {
-    let mut source = trace(rt.alloc(), b"3 p\n2 q", 1, &[])?;
+// Whether the source, which fails at the first call and at the fourth, does so.
+fn fails_twice(source: &mut MemSource) -> Result<bool, Failed>
+    requires { source.old.opened ≡ false }
+{
+    if source.open("trace").is_ok() || source.open("other").is_ok() {
+        return Ok(false);
+    }
     source.open("trace")?;
-    assert!(rt; rest(rt.alloc(), &mut source)?.as_slice() == b"3 p\n2 q".as_slice());
-    Ok(())
+    let fails = source.read(&mut [0u8; 3]).is_err();
+    Ok(fails && reads(source, b"3 p") && reads(source, b"\n") && reads(source, b""))
 }
 
-#[test]
-fn one_byte_a_write(rt: HostRuntime) -> Result<(), Fail> {
-    let mut sink = MemSink::new(rt.alloc(), 1, Vec::new(rt.alloc()));
-    put_all(&mut sink, b"3 p\n2 q")?;
-    put_all(&mut sink, b"")?;
-    assert!(rt; sink.bytes() == b"3 p\n2 q".as_slice());
-    Ok(())
+fn does_fail_twice(alloc: Global) -> Result<bool, Fail> {
+    let mut source = trace(alloc, b"3 p\n", 16, &[1, 4])?;
+    Ok(fails_twice(&mut source)?)
 }
 
 #[test]
 fn chosen_calls_fail(rt: HostRuntime) -> Result<(), Fail> {
-    let mut source = trace(rt.alloc(), b"3 p\n", 16, &[1, 4])?;
-    assert!(rt; source.open("trace") == Err(Failed));
-    assert!(rt; source.open("other") == Err(Failed));
-    source.open("trace")?;
-    let mut buffer = [0u8; 3];
-    assert!(rt; source.read(&mut buffer) == Err(Failed));
-    assert!(rt; source.read(&mut buffer) == Ok(3));
-    assert!(rt; buffer.as_slice() == b"3 p".as_slice());
-    assert!(rt; source.read(&mut buffer) == Ok(1));
-    assert!(rt; source.read(&mut buffer) == Ok(0));
+    assert!(rt; does_fail_twice(rt.alloc())?);
     Ok(())
+}
+
+// Whether the third write to the sink, which takes five bytes a call, fails, and later ones don't.
+fn fails_third(sink: &mut MemSink) -> bool {
+    put_all(sink, b"[0,3) (0,3] (0,3]\n") == Err(Failed)
+        && sink.bytes() == b"[0,3) (0,3".as_slice()
+        && put_all(sink, b"") == Ok(())
+        && put_all(sink, b"] (") == Ok(())
+        && sink.bytes() == b"[0,3) (0,3] (".as_slice()
+}
+
+fn does_fail_third(alloc: Global) -> Result<bool, Fail> {
+    let mut sink = MemSink::new(alloc, 5, [3].to_vec(alloc)?);
+    Ok(fails_third(&mut sink))
 }
 
 #[test]
 fn third_write_fails(rt: HostRuntime) -> Result<(), Fail> {
-    let mut sink = MemSink::new(rt.alloc(), 5, [3].to_vec(rt.alloc())?);
-    assert!(rt; put_all(&mut sink, b"[0,3) (0,3] (0,3]\n") == Err(Failed));
-    assert!(rt; sink.bytes() == b"[0,3) (0,3".as_slice());
-    put_all(&mut sink, b"] (")?;
-    assert!(rt; sink.bytes() == b"[0,3) (0,3] (".as_slice());
+    assert!(rt; does_fail_third(rt.alloc())?);
     Ok(())
 }
 
+// What a first read of a file of the system gives.
+fn read_of(rt: &HostRuntime, name: &str) -> Result<usize, Failed> {
+    let mut source = FileSource::new(rt);
+    source.open(name)?;
+    source.read(&mut [0u8; 4])
+}
+
+// Names, and what a read gives. A folder is opened as a file is, and can't be read.
+const FILES: [(&str, Result<usize, Failed>); 4] = [
+    ("no/such/file", Err(Failed)),
+    ("/dev/zero", Ok(4)),
+    ("/dev/null", Ok(0)),
+    ("/", Err(Failed)),
+];
+
 #[test]
-fn files_of_the_system(rt: HostRuntime) -> Result<(), Fail> {
-    assert!(rt; FileSource::new(&rt).open("no/such/file") == Err(Failed));
-    // A folder is opened as a file is, and can't be read.
-    for (name, want) in [
-        ("/dev/zero", Ok(4)),
-        ("/dev/null", Ok(0)),
-        ("/", Err(Failed)),
-    ] {
-        let mut source = FileSource::new(&rt);
-        source.open(name)?;
-        assert!(rt; source.read(&mut [0u8; 4]) == want, "{name}");
+fn files_of_the_system(rt: HostRuntime) {
+    for (name, want) in &FILES {
+        assert!(rt; read_of(&rt, *name) == *want, "{name}");
     }
-    Ok(())
+}
+
+// No room: a writer that takes nothing.
+fn takes_nothing() -> bool {
+    let mut full = StdSink::over(io::Cursor::new([0u8; 0]));
+    full.write(b"x") == Err(Failed)
 }
 
 #[test]
 fn standard_streams(rt: HostRuntime) -> Result<(), Fail> {
     put_all(&mut StdSink::out(rt.stdout()), b"out\n")?;
     put_all(&mut StdSink::err(rt.stderr()), b"err\n")?;
-    // No room: a writer that takes nothing.
-    let mut full = StdSink::over(io::Cursor::new([0u8; 0]));
-    assert!(rt; full.write(b"x") == Err(Failed));
+    assert!(rt; takes_nothing());
     Ok(())
 }

@@ -1,5 +1,5 @@
 // Tests of tre_vcd.
-use crate::reading::{feed, read};
+use crate::feeding::feed;
 use std::alloc::{AllocError, Global};
 use std::test::Fail;
 use tests_support::names_of;
@@ -17,21 +17,28 @@ fn reader(alloc: Global, names: &str, events: &str) -> Result<VcdReader, Fail> {
 const DECLARING: &str = "$var wire 1 ! p $end $var wire 1 \" q $end $var event 1 % e $end \
     $enddefinitions $end #1 1! 1% #3";
 
-// Whether a reader that is asked for these names says this of the dump.
-fn says(alloc: Global, names: &str, events: &str, want: &str) -> Result<bool, Fail> {
-    let mut reader = reader(alloc, names, events)?;
-    tells(alloc, &mut reader, want)
+// Whether the reader, which is asked for r and p and for f and e, says of the dump that neither
+// holds for a tick, and p for two, at the begin of which e happens.
+fn says(reader: &mut VcdReader, segments: &mut Vec<Segment>) -> bool {
+    let second = Segment {
+        len: 2,
+        val: 2,
+        ev: 2,
+    };
+    feed(reader, DECLARING.as_bytes(), segments) == Ok(())
+        && reader.finish(segments) == Ok(0)
+        && segments.as_slice() == [Segment::plain(1, 0), second].as_slice()
 }
 
-fn tells(alloc: Global, reader: &mut VcdReader, want: &str) -> Result<bool, Fail> {
-    let said = read(alloc, reader, DECLARING.as_bytes(), 5)?;
-    Ok(said.as_str() == want)
+fn need_not_be_declared(alloc: Global) -> Result<bool, Fail> {
+    let mut reader = reader(alloc, "r p", "f e")?;
+    Ok(says(&mut reader, &mut Vec::new(alloc)))
 }
 
 // Names that are read need not be declared where nothing says that they must.
 #[test]
 fn names_need_not_be_declared(rt: HostRuntime) -> Result<(), Fail> {
-    assert!(rt; says(rt.alloc(), "r p", "f e", "1:0 2:2@2 ")?);
+    assert!(rt; need_not_be_declared(rt.alloc())?);
     Ok(())
 }
 
@@ -57,18 +64,18 @@ fn refuses_more(reader: &mut VcdReader, long: &[u8], segments: &mut Vec<Segment>
         && reader.finish(segments).is_err()
 }
 
-fn is_limited(alloc: Global) -> Result<bool, Fail> {
+fn is_limited(alloc: Global, long: &[u8]) -> Result<bool, Fail> {
     let mut reader = reader(alloc, "", "")?;
-    refuses_longer(alloc, &mut reader)
+    Ok(refuses_more(&mut reader, long, &mut Vec::new(alloc)))
 }
 
-fn refuses_longer(alloc: Global, reader: &mut VcdReader) -> Result<bool, Fail> {
+fn refuses_longer(alloc: Global) -> Result<bool, Fail> {
     let long = long_token(alloc)?;
-    Ok(refuses_more(reader, &long, &mut Vec::new(alloc)))
+    is_limited(alloc, &long)
 }
 
 #[test]
 fn a_token_may_have_so_many_bytes(rt: HostRuntime) -> Result<(), Fail> {
-    assert!(rt; is_limited(rt.alloc())?);
+    assert!(rt; refuses_longer(rt.alloc())?);
     Ok(())
 }

@@ -1,10 +1,10 @@
 // Tests of tre_text.
-use crate::reading::{feed, read};
+use crate::feeding::feed;
 use std::alloc::{AllocError, Global};
 use std::test::Fail;
 use tests_support::names_of;
 use tre_text::{LineReader, TextReader};
-use tre_trace::TraceKind::{LineTooLong, Spent};
+use tre_trace::TraceKind::{LineTooLong, Spent, Zero};
 use tre_trace::{Segment, TraceFault, TraceKind, TraceReader};
 
 fn reader(alloc: Global, names: &str, events: &str) -> Result<TextReader, Fail> {
@@ -37,16 +37,11 @@ fn is_spent_then(reader: &mut TextReader, segments: &mut Vec<Segment>) -> bool {
         && reader.fed() == 5
 }
 
-// As many spaces as a line may have bytes.
-fn spaces(alloc: Global) -> Result<Vec<u8>, AllocError> {
-    let mut spaces = Vec::new(alloc);
-    spaces.resize(65_536, b' ')?;
-    Ok(spaces)
-}
+const SPACES: [u8; 256] = [b' '; 256];
 
-// Whether so many bytes of a line are read, and no more.
-fn refuses_more(reader: &mut TextReader, line: &[u8], segments: &mut Vec<Segment>) -> bool {
-    feed(reader, line, segments) == Ok(())
+// Whether 65,536 bytes of a line are read, and no more.
+fn refuses_more(reader: &mut TextReader, segments: &mut Vec<Segment>) -> bool {
+    (0..256u32).all(|_| feed(reader, &SPACES, segments) == Ok(()))
         && feed(reader, b" ", segments) == fault(1, LineTooLong)
         && feed(reader, b"\n", segments) == fault(0, Spent)
         && segments.is_empty()
@@ -60,17 +55,17 @@ enum Trial {
     LongLine,
 }
 
-fn is_as_tried(alloc: Global, trial: Trial, reader: &mut TextReader) -> Result<bool, AllocError> {
+fn is_as_tried(reader: &mut TextReader, trial: Trial, segments: &mut Vec<Segment>) -> bool {
     match trial {
-        Trial::LineEnds => Ok(come_with_line_ends(reader, &mut Vec::new(alloc))),
-        Trial::Finished => Ok(is_spent_then(reader, &mut Vec::new(alloc))),
-        Trial::LongLine => Ok(refuses_more(reader, &spaces(alloc)?, &mut Vec::new(alloc))),
+        Trial::LineEnds => come_with_line_ends(reader, segments),
+        Trial::Finished => is_spent_then(reader, segments),
+        Trial::LongLine => refuses_more(reader, segments),
     }
 }
 
 fn holds(alloc: Global, trial: Trial) -> Result<bool, Fail> {
     let mut reader = reader(alloc, "p", "")?;
-    Ok(is_as_tried(alloc, trial, &mut reader)?)
+    Ok(is_as_tried(&mut reader, trial, &mut Vec::new(alloc)))
 }
 
 const TRIALS: [(&str, Trial); 3] = [
@@ -88,7 +83,7 @@ fn readers_do_as_they_should(rt: HostRuntime) -> Result<(), Fail> {
 }
 
 // Lines of one tick, on every other of which `p` is true, and behind them one of none.
-fn many_lines(alloc: Global) -> Result<Vec<u8>, Fail> {
+fn many_lines(alloc: Global) -> Result<Vec<u8>, AllocError> {
     let mut lines = Vec::new(alloc);
     for _ in 0..20_000 {
         lines.extend_from_slice(b"1 p\n1\n")?;
@@ -97,23 +92,27 @@ fn many_lines(alloc: Global) -> Result<Vec<u8>, Fail> {
     Ok(lines)
 }
 
-// Whether all of them are read up to the fault, where they come in pieces of so many bytes.
-fn are_read(alloc: Global, lines: &[u8], most: usize) -> Result<bool, Fail> {
-    let said = read(alloc, &mut reader(alloc, "p", "")?, lines, most)?;
-    let is_whole = said.len() == 20_000 * "1:1 1:0 ".len() + "Zero 40001".len();
-    Ok(is_whole && said.starts_with("1:1 1:0 1:1 ") && said.ends_with(" 1:1 1:0 Zero 40001"))
+// Whether all of them are read up to the fault.
+fn reads_to_fault(reader: &mut TextReader, lines: &[u8], segments: &mut Vec<Segment>) -> bool {
+    let both = [Segment::plain(1, 1), Segment::plain(1, 0)];
+    feed(reader, lines, segments) == fault(40_001, Zero)
+        && segments.len() == 40_000
+        && segments.chunks(2).all(|two| two == both.as_slice())
 }
 
-fn are_many_read(alloc: Global, most: usize) -> Result<bool, Fail> {
+fn are_read(alloc: Global, lines: &[u8]) -> Result<bool, Fail> {
+    let mut reader = reader(alloc, "p", "")?;
+    Ok(reads_to_fault(&mut reader, lines, &mut Vec::new(alloc)))
+}
+
+fn are_many_read(alloc: Global) -> Result<bool, Fail> {
     let lines = many_lines(alloc)?;
-    are_read(alloc, &lines, most)
+    are_read(alloc, &lines)
 }
 
 // A run gives no piece of more than 65,536 bytes.
 #[test]
 fn a_piece_may_have_more_bytes_than_a_line(rt: HostRuntime) -> Result<(), Fail> {
-    for most in [200_000, 65_536, 5] {
-        assert!(rt; are_many_read(rt.alloc(), most)?, "{most}");
-    }
+    assert!(rt; are_many_read(rt.alloc())?);
     Ok(())
 }

@@ -1,5 +1,5 @@
 -- What is wanted of patterns over their traces, and the zones that hold it.
-use Rattle.std.proofs.Common.{◌≡◌, ◌↔◌, ◌⊎◌, ⊎_elim, inl, inr, ℕ, ◌<◌, ◌≤◌, ◌+◌, Bool, List, [], ◌∷◌, length, take, drop, get_or, sym, ap, subst, arith}
+use Rattle.std.proofs.Common.{◌≡◌, ◌↔◌, ◌⊎◌, ⊎_elim, inl, inr, ℕ, ◌<◌, ◌≤◌, ◌+◌, Bool, false, List, [], ◌∷◌, length, take, drop, get_or, sym, ap, subst, ◌∙◌, arith, true≢false}
 use Rattle.std.proofs.lemmas.List.{drop_more, length-drop}
 use Rattle.std.proofs.Math.ListN.{drop_of_length-le}
 use Rattle.std.proofs.Math.Seq.{take-length}
@@ -7,6 +7,7 @@ use Rattle.std.specs.List.{remove, slice_range}
 use Rattle.tre_offline.specs.MatchSet.{IsMatchSet, AreMatchesAmong}
 use Rattle.tre_pairs.specs.Except.{Except}
 use Rattle.tre_pairs.specs.Pairs.{Pairs}
+use Rattle.tre_show.specs.Order.{IsRising}
 use Rattle.tre_syntax.specs.Meaning.{Matches}
 use Rattle.tre_syntax.specs.Pattern.{pattern_tree}
 use Rattle.tre_syntax.specs.Rest.{whole}
@@ -14,9 +15,10 @@ use Rattle.tre_syntax.specs.declared.pattern.Pattern.{Pattern}
 use Rattle.tre_syntax.proofs.CutMeaning.{IsOrdered-rest}
 use Rattle.tre_tell.specs.Sought.{Sought, sought_by}
 use Rattle.tre_trace.specs.Trace.{Timeline}
-use Rattle.tre_zone.specs.ZoneList.{SetHolds, AreCanonical, HoldExactly}
+use Rattle.tre_zone.specs.ZoneList.{SetHolds, AreCanonical, AreTight, HoldExactly}
 use Rattle.tre_zone.specs.declared.zone_bounds.ZoneBounds.{ZoneBounds}
 use Rattle.tre_zone.proofs.Scaling.{SetHolds-rising}
+use Rattle.tre_zoneset.specs.ZoneSet.{IsZoneSet}
 use Rattle.tre_answer.specs.Wanted.{MatchesSome, IsWanted, AreZonesOf}
 use Rattle.tre_answer.proofs.Strips.{AreStrips-pairs}
 
@@ -178,3 +180,44 @@ wanted-left (first ∷ patterns) others (own ∷ traces) later pattern trace set
             (λ h. taken.1 (record { related = found.1 h.0; never = h.1 })),
           );
     }
+
+-- the matches of the only pattern are what is wanted
+pub wanted-one : (patterns : List Pattern) (traces : List Timeline) (pattern : Pattern)
+    (trace : Timeline) (zones : List ZoneBounds) → 0 < length patterns → length patterns ≤ 1
+    → length traces ≡ length patterns → pattern ≡ get_or patterns 0 pattern
+    → trace ≡ get_or traces 0 trace
+    → HoldExactly zones (Matches (pattern_tree pattern) trace)
+    → (labels : List (List ℕ)) → length labels ≡ length patterns
+    → HoldExactly zones (IsWanted (sought_by labels patterns) traces)
+wanted-one [] traces pattern trace zones some one count is is' held labels labelled =
+    absurd (omega (arith, some))
+wanted-one (first ∷ other ∷ more) traces pattern trace zones some one count is is' held labels
+    labelled = absurd (omega (arith, one))
+wanted-one (first ∷ []) [] pattern trace zones some one count is is' held labels labelled =
+    absurd (omega (arith, count))
+wanted-one (first ∷ []) (own ∷ traces) pattern trace zones some one count is is' held [] labelled =
+    absurd (omega (arith, labelled))
+wanted-one (first ∷ []) (own ∷ traces) pattern trace zones some one count is is' held
+    (label ∷ labels) labelled = record {
+      exact = λ a b n positive rises.
+          let same : pattern ≡ first = is in
+          let same' : trace ≡ own = is' in
+          let found = rw (same, same') at held.exact a b n positive rises in
+          ((λ h. (found.0 h, none labels traces a b n)), (λ h. found.1 h.0));
+    } where
+      none : (labels : List (List ℕ)) (traces : List Timeline) (a b n : ℕ)
+          → MatchesSome (sought_by labels []) traces a b n → ⊥
+      none [] traces a b n some = some
+      none (label ∷ labels) traces a b n some = some
+
+-- zones that are listed as they stand
+pub listed-themselves : (normal : Bool) (zones : List ZoneBounds) → normal ≡ false
+    → IsZoneSet zones → AreTight zones → IsRising zones
+    → AreZonesOf normal (SetHolds zones) zones
+listed-themselves normal zones not set tight rising = record {
+  exact = record { exact = λ a b n some le. ((λ h. h), (λ h. h)) };
+  apart = set.apart;
+  tight = tight;
+  rising = rising;
+  strips = λ asked. absurd (true≢false (sym asked ∙ not));
+}

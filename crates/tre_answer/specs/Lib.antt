@@ -11,4 +11,5 @@ pub mod Ends
 -- What the functions inside promise each other.
 pub mod Answering
 pub mod Parts
+pub mod Listed
 pub mod Printing

@@ -17,6 +17,7 @@ mod answering;
 mod asked;
 mod columns;
 pub mod laws;
+mod listed;
 mod offline;
 mod printing;
 

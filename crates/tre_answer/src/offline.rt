@@ -1,5 +1,6 @@
 // The matches over a whole input, told at once.
 ghost use Rattle.std.specs.Prelude.{◌≡◌, ◌≤◌, ◌<◌, ◌+◌, ℕ, All, List, [], false, get_or, IsTrue, IfOk, IfErr, IfSome, IsSomeAnd, OnOk, length};
+ghost use Rattle.tre_answer.specs.Listed.{AreListed, listed_zones};
 ghost use Rattle.tre_answer.specs.Parts.{IsFoundFor, IsInputOf, StopsAs};
 ghost use Rattle.tre_answer.specs.Recorded.{recording_for};
 ghost use Rattle.tre_answer.specs.Request.{FitsJob, request_for};
@@ -16,13 +17,15 @@ ghost use Rattle.tre_zone.specs.ZoneList.{HoldExactly, SetHolds};
 ghost use Rattle.tre_zoneset.specs.ZoneSet.{IsZoneSet};
 
 use crate::asked::Asked;
+use crate::listed::Listed;
 use std::alloc::{AllocError, Global};
 use tre_feed::{Fault, Input};
 use tre_io::Source;
 use tre_minus::minus;
-use tre_offline::{into_matches, matches_among};
+use tre_offline::{into_matches, matches_among, run_matches};
 use tre_packed::{AnyTrace, Packed};
-use tre_show::in_printed_order;
+use tre_show::laws::later_rise;
+use tre_show::{Zones, in_printed_order};
 use tre_strips::strips;
 use tre_syntax::Pattern;
 use tre_trace::TraceReader;
@@ -30,10 +33,10 @@ use tre_words::{Job, Mode};
 use tre_zone::Zone;
 use tre_zoneset::ZoneSet;
 
-/// Zones of the matches that are wanted of an input, in the order of printing, and where it ends.
+/// What is printed of the matches that are wanted of an input, and where it ends.
 #[derive(Debug, Drop)]
 pub struct Matches {
-    pub zones: Vec<Zone>,
+    pub zones: Listed,
     pub end: u64,
 }
 
@@ -89,6 +92,62 @@ fn without_others(
     Ok(left)
 }
 
+// The zones of the matches of one pattern, where they are kept as runs, and where its trace ends.
+// None where they are not, or where the canonical zones are wanted.
+fn run_zones(
+    alloc: Global,
+    patterns: &[Pattern],
+    traces: &[Packed],
+    normal: bool,
+) -> Result<Option<Matches>, AllocError>
+    requires some { 0 < length patterns.now }
+    requires count { length traces.now ≡ length patterns.now }
+    ensures zones { IfOk result (λ found. IfSome found (λ found.
+        AreListed normal patterns.now traces.now (listed_zones found.zones))) }
+    ensures end { IfOk result (λ found. IfSome found (λ found.
+        found.end ≡ end_of 0 (get_or traces.now 0 (quiet [])).segments)) }
+{
+    if patterns.len() > 1 || normal {
+        return Ok(None);
+    }
+    let Some(runs) = run_matches(alloc, &patterns[0], &traces[0])? else {
+        return Ok(None);
+    };
+    // For the proof: the calls say how the zones stand.
+    let _count = runs.len();
+    later_rise();
+    Ok(Some(Matches {
+        zones: Listed::Runs(runs),
+        end: traces[0].end(),
+    }))
+}
+
+// The zones that are printed of the matches that are wanted, and where the first trace ends.
+fn listed_matches(
+    alloc: Global,
+    patterns: &[Pattern],
+    traces: Vec<Packed>,
+    normal: bool,
+) -> Result<Matches, AllocError>
+    requires some { 0 < length patterns.now }
+    requires count { length traces.items ≡ length patterns.now }
+    requires are_traces { All (λ trace. IsTrace trace.segments) traces.items }
+    ensures zones { IfOk result (λ found.
+        AreListed normal patterns.now traces.items (listed_zones found.zones)) }
+    ensures end { IfOk result (λ found.
+        found.end ≡ end_of 0 (get_or traces.items 0 (quiet [])).segments) }
+{
+    if let Some(found) = run_zones(alloc, patterns, &traces, normal)? {
+        return Ok(found);
+    }
+    let found = wanted_matches(alloc, patterns, traces)?;
+    let zones = zones_for(alloc, found.set, normal)?;
+    Ok(Matches {
+        zones: Listed::Zones(zones),
+        end: found.end,
+    })
+}
+
 // The zones that a job asks for of a set: the canonical ones, or those of the set as they are.
 fn zones_for(alloc: Global, set: ZoneSet, normal: bool) -> Result<Vec<Zone>, AllocError>
     ensures zones { IfOk result (λ zones. AreZonesOf normal (SetHolds set) zones.items) }
@@ -104,16 +163,17 @@ fn zones_for(alloc: Global, set: ZoneSet, normal: bool) -> Result<Vec<Zone>, All
 }
 
 // Refuses more zones than there may be.
-fn check_count(zones: &[Zone], most: Option<u64>) -> Result<(), Fault>
-    ensures few { OnOk result (IfSome most (λ most. length zones.now ≤ most)) }
+fn check_count(zones: &Listed, most: Option<u64>) -> Result<(), Fault>
+    ensures few { OnOk result (IfSome most (λ most. length (listed_zones zones.now) ≤ most)) }
     ensures fault { IfErr result (λ fault.
-        fault ≡ Fault.TooManyZones (length zones.now)) }
-    ensures over { IfErr result (λ _. IsSomeAnd most (λ most. most < length zones.now)) }
+        fault ≡ Fault.TooManyZones (length (listed_zones zones.now))) }
+    ensures over { IfErr result (λ _.
+        IsSomeAnd most (λ most. most < length (listed_zones zones.now))) }
 {
     match most {
         None => Ok(()),
         Some(most) => {
-            let zones = zones.len() as u64;
+            let zones = zones.count() as u64;
             if zones > most {
                 return Err(Fault::TooManyZones { zones });
             }
@@ -140,7 +200,7 @@ pub fn find_matches<S: Source, R: TraceReader + Drop>(
         ≡ recording_for (request_for job.now definitions asked.now) →
         IfOk result (λ found. IsFoundFor (request_for job.now definitions asked.now)
         (input_told (S.told source.old) (S.told source.new))
-        (offline_text job.now.scale found.zones.items found.end)) }
+        (offline_text job.now.scale (listed_zones found.zones) found.end)) }
     ensures stops { (definitions : Definitions) → recording_of R.recording R.terms input
         ≡ recording_for (request_for job.now definitions asked.now) →
         IfErr result (StopsAs (request_for job.now definitions asked.now)
@@ -151,11 +211,7 @@ pub fn find_matches<S: Source, R: TraceReader + Drop>(
         IfSome (S.told source.old).name (λ told. told ≡ job.now.input) }
 {
     let traces = input.read_traces(alloc, job.input.text(), source)?;
-    let found = wanted_matches(alloc, &asked.patterns, traces)?;
-    let zones = zones_for(alloc, found.set, job.normal)?;
-    check_count(&zones, job.max_zones)?;
-    Ok(Matches {
-        zones,
-        end: found.end,
-    })
+    let found = listed_matches(alloc, &asked.patterns, traces, job.normal)?;
+    check_count(&found.zones, job.max_zones)?;
+    Ok(found)
 }

@@ -3,6 +3,7 @@ pub mod EmptySets
 pub mod RunLists
 pub mod SpansWithin
 pub mod PartsOfRuns
+pub mod RunSets
 pub mod EdgesOfRuns
 pub mod InstantLists
 pub mod Literals

@@ -1,5 +1,5 @@
 -- The stretches of a run that begin or end at its edges, as one zone.
-use Rattle.std.proofs.Common.{◌≡◌, ℕ, ◌+◌, ◌-◌, ◌*◌, ◌<◌, ◌≤◌, ◌↔◌, Bool, true, false, ◌&&◌, if◌then◌else◌, None, List, arith, ap, ⊎_elim, pos, ◌-ℤ◌, neg_ℤ, refl}
+use Rattle.std.proofs.Common.{◌≡◌, ℕ, ◌+◌, ◌-◌, ◌*◌, ◌<◌, ◌≤◌, ◌↔◌, Bool, true, false, None, List, arith, ap, ⊎_elim, pos, ◌-ℤ◌, neg_ℤ, refl}
 use Rattle.std.proofs.Math.Nat.{mul-le-mul_right}
 use Rattle.std.proofs.lemmas.Int.{ints}
 use Rattle.tre_pairs.specs.Pairs.{Pairs, Either, Lasting}
@@ -11,21 +11,11 @@ use Rattle.tre_zone.proofs.CanonicalBounds.{bounds-canonical}
 use Rattle.tre_zone.proofs.Bounds.{Meets-at_most, Meets-at_least, Meets-less, Meets-more}
 use Rattle.tre_edges.specs.Ends.{EndBefore}
 use Rattle.tre_edges.specs.RunParts.{IsPart, LastsIn}
+use Rattle.tre_edges.specs.RunsInTime.{part_of}
 use Rattle.tre_edges.specs.declared.run_edges.RunEdges.{RunEdges}
 
 abbrev pub edges_of : Bool → Bool → RunEdges
 edges_of rise fall = record { rise = rise; fall = fall }
-
--- The bounds of these stretches of a run.
-abbrev pub part_of : Bool → Bool → ℕ → ℕ → ZoneBounds
-part_of rise fall begin end = record {
-  begin_low = pos 1 -ℤ pos (2 * begin);
-  begin_high = if rise then pos (2 * begin + 1) else pos (2 * end);
-  end_low = if fall then pos 1 -ℤ pos (2 * end) else neg_ℤ (pos (2 * begin));
-  end_high = pos (2 * end + 1);
-  dur_low = if rise && fall then pos 1 -ℤ pos (2 * (end - begin)) else pos 0;
-  dur_high = pos (2 * (end - begin) + 1);
-}
 
 module _ (begin end : ℕ) (rising : begin < end) (limit : end ≤ TIME_MAX) where
   pub part-canonical : (rise fall : Bool) → IsCanonical (part_of rise fall begin end)

@@ -2,6 +2,8 @@
 -- of a trace is.
 pub mod Runs
 pub mod RunParts
+pub mod RunsInTime
+pub mod RunSets
 pub mod Instants
 pub mod StateWords
 pub mod Piece

@@ -4,6 +4,7 @@ ghost use Rattle.tre_pairs.specs.Pairs.{Lasting};
 ghost use Rattle.tre_pairs.specs.declared.TheConstants.{TIME_MAX};
 ghost use Rattle.tre_zone.specs.Zone.{IsZoneOf, GivesZone};
 ghost use Rattle.tre_edges.specs.RunParts.{IsPart, LastsIn};
+ghost use Rattle.tre_edges.specs.RunsInTime.{part_of};
 
 use crate::run_edges::RunEdges;
 use tre_zone::{Bound, Interval, Zone, ZoneBounds};
@@ -28,12 +29,13 @@ pub(crate) fn part_within(
     }
 }
 
-// All of them, however long they last.
+/// All of them, however long they last.
 #[inline(always)]
-fn part_of_run(begin: u64, end: u64, edges: RunEdges) -> Zone
+pub(crate) fn part_of_run(begin: u64, end: u64, edges: RunEdges) -> Zone
     requires rising { begin < end }
     requires limit { end ≤ TIME_MAX }
-    ensures { IsZoneOf result (IsPart edges begin end) }
+    ensures bounds { result ≡ part_of edges.rise edges.fall begin end }
+    ensures held { IsZoneOf result (IsPart edges begin end) }
 {
     Zone::from_canonical(&ZoneBounds {
         begin_low: Bound::weak(-(begin as i64)),

@@ -17,7 +17,7 @@ pub(crate) fn room_for_runs(alloc: Global, words: &[u64]) -> Result<ZoneSet, All
 }
 
 /// How many runs of bits there are, where each word goes on where the one before it ends.
-fn run_count(words: &[u64]) -> usize {
+pub(crate) fn run_count(words: &[u64]) -> usize {
     let mut count: usize = 0;
     let mut before = 0;
     for word in words {

@@ -65,8 +65,10 @@ impl Places {
 
     // The bits of the asked names among those of all names, where they are the first of them.
     pub(crate) fn mask(&self) -> Option<u64>
-        ensures { IfSome result (λ mask. (bits : ℕ) →
+        ensures bits { IfSome result (λ mask. (bits : ℕ) →
             bit_and bits mask ≡ bits_at (places_of self.now) bits) }
+        ensures all { IfSome result (λ mask. (bits : ℕ) →
+            bits ≤ mask → bits_at (places_of self.now) bits ≡ bits) }
     {
         if !self.in_order {
             return None;

@@ -67,7 +67,8 @@ pub fn lasts_of<R: Drop>(
     Ok(lasts)
 }
 
-// Puts what the view shows of a row behind the trace. The room is to make it in.
+// Puts what the view shows of a row behind the trace. The room is to make it in, where that is not
+// the row as it stands.
 fn pack_row(
     row: &[Segment],
     view: &View,
@@ -78,6 +79,9 @@ fn pack_row(
     ensures { OnOk result (trace.new
         ≡ quiet (trace.old.segments ++ map (shown_segment view.now) row.now)) }
 {
+    if view.shows_all(row) {
+        return trace.add(row);
+    }
     room.clear();
     room.extend_from_slice(row)?;
     view.narrow(room);

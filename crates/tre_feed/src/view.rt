@@ -1,4 +1,4 @@
-ghost use Rattle.std.specs.Prelude.{◌≡◌, ℕ, Bool, List, map};
+ghost use Rattle.std.specs.Prelude.{◌≡◌, ◌≤◌, ℕ, All, Bool, IsTrue, List, map};
 ghost use Rattle.tre_feed.specs.Shown.{masked_segment, shown_segment};
 ghost use Rattle.tre_trace.specs.Reading.{Stretch, Vocabulary, events_for, segment_for};
 
@@ -47,6 +47,20 @@ impl View {
         self.events.seen(wide)
     }
 
+    /// Whether all that is true or happens in these segments is the pattern's: each is for the
+    /// pattern what it was read as.
+    pub fn shows_all(&self, row: &[Segment]) -> bool
+        ensures { IsTrue result → map (shown_segment self.now) row.now ≡ row.now }
+    {
+        let Some(names) = self.names.mask() else {
+            return false;
+        };
+        let Some(events) = self.events.mask() else {
+            return false;
+        };
+        are_up_to(names, events, row)
+    }
+
     /// Leaves of each segment that was read for the group what it is for the pattern.
     pub fn narrow(&self, row: &mut [Segment])
         ensures { row.new ≡ map (shown_segment self.now) row.old }
@@ -59,6 +73,21 @@ impl View {
         };
         mask_each(names, events, row);
     }
+}
+
+// Whether no segment has a greater number of values, or of events.
+fn are_up_to(names: u64, events: u64, row: &[Segment]) -> bool
+    ensures { IsTrue result →
+        All (λ segment. (segment.val ≤ names) × (segment.ev ≤ events)) row.now }
+{
+    // A number is at most what it is put together with: so a bit operation each is enough.
+    let mut values = 0;
+    let mut happen = 0;
+    for segment in row {
+        values |= segment.val;
+        happen |= segment.ev;
+    }
+    values <= names && happen <= events
 }
 
 // Leaves of each segment what the view shows.

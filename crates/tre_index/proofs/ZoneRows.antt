@@ -153,7 +153,7 @@ module _ (zone other : ZoneBounds) (canonical : IsCanonical other) where
   }
 
 -- A lane, as the machine holds it.
-pub lane_of : (lane : ℤ) (key : ZoneBounds → ℤ) (bounds zone : ZoneBounds) → SFits w64 lane
-    → lane ≡ (pos 1 -ℤ key bounds) → bounds ≡ zone → to_z w64 (of_z w64 lane) ≡ (pos 1 -ℤ key zone)
-lane_of lane key bounds zone fits is same =
+pub lane_of : {lane : ℤ} {bounds zone : ZoneBounds} (key : ZoneBounds → ℤ) → bounds ≡ zone
+    → lane ≡ (pos 1 -ℤ key bounds) → SFits w64 lane → to_z w64 (of_z w64 lane) ≡ (pos 1 -ℤ key zone)
+lane_of {lane = lane} key same is fits =
     to_z-of_z w64 lane fits ∙ is ∙ ap (λ b. pos 1 -ℤ key b) same

@@ -111,6 +111,18 @@ module _ (state : StateTree) (rest : Rest) where
         );
   }
 
+-- The same of all of them, however long they last.
+pub part_exact : (state : StateTree) (rest : Rest) (edges : RunEdges) (tree : PatternTree)
+    (zones : List ZoneBounds) → tree ≡ edged_tree edges state
+    → HoldExactly zones (IsRunPart edges state rest) → HoldExactly zones (MatchesRest tree rest)
+part_exact state rest edges tree zones is held =
+    subst (λ (t : PatternTree). HoldExactly zones (MatchesRest t rest)) (sym is) (record {
+      exact = λ a b n some le.
+          let old = held.exact a b n some le in
+          let same = part_matches state rest edges.rise edges.fall a b n in
+          ((λ h. same.0 (old.0 h)), (λ h. old.1 (same.1 h)));
+    })
+
 -- So are those whose duration is in an interval, if there is one.
 timed_exact : (state : StateTree) (rest : Rest) (edges : RunEdges) (interval : Option IntervalEnds)
     (zones : List ZoneBounds)

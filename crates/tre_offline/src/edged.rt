@@ -34,6 +34,28 @@ pub(crate) fn edged(expr: &Expr) -> Option<EdgedLiteral>
     }
 }
 
+/// The literal that the expression is, with its edges or with none, where it may last however long.
+pub(crate) fn unlimited(expr: &Expr) -> Option<EdgedLiteral>
+    ensures { IfSome result (λ it. tree_of expr.now
+        ≡ edged_tree it.edges (states.tree_of it.state.now)) }
+{
+    match expr {
+        Expr::Lit(state) => {
+            let edges = RunEdges {
+                rise: false,
+                fall: false,
+            };
+            Some(EdgedLiteral {
+                state,
+                edges,
+                interval: None,
+            })
+        }
+        Expr::Seq(first, second) => joined_literal(first, second, None),
+        _ => None,
+    }
+}
+
 // That of the sequence of the two: `rise(p);p` and `p;fall(p)`, or both, of the same state.
 fn joined_literal<'a>(
     first: &'a Expr,

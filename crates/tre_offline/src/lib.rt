@@ -5,7 +5,8 @@
 //! expression once, and each operator is one exact call of the layers below: `;` composes, `|`
 //! joins, `&` meets, `*` closes, `%` restricts. [`local`] is the same over one piece of a trace:
 //! the two differ in their atoms alone. [`into_matches`] is that of a whole trace which is not
-//! needed any more, and [`matches_among`] looks for no longer matches than a set has pairs.
+//! needed any more, [`matches_among`] looks for no longer matches than a set has pairs, and
+//! [`run_matches`] keeps those of a literal in few bytes each.
 //! [`matches_at_end`] decides what the end of a trace matches. The layers above may rely on every
 //! pair, and on nothing of the order of the zones.
 //!
@@ -16,7 +17,7 @@
 #![tactic(auto)]
 
 pub use closing::matches_at_end;
-pub use matching::{into_matches, local, matches, matches_among};
+pub use matching::{into_matches, local, matches, matches_among, run_matches};
 
 mod atoms;
 mod closing;

@@ -2,22 +2,23 @@
 ghost use Rattle.std.specs.Prelude.{IfOk, IfSome};
 ghost use Rattle.tre_pairs.specs.Pairs.{Lasting};
 ghost use Rattle.tre_syntax.specs.Expr.{tree_of};
-ghost use Rattle.tre_syntax.specs.Meaning.{MatchesRest};
+ghost use Rattle.tre_syntax.specs.Meaning.{Matches, MatchesRest};
 ghost use Rattle.tre_syntax.specs.Pattern.{pattern_tree};
 ghost use Rattle.tre_syntax.specs.PatternTree.{NumbersBelow};
 ghost use Rattle.tre_syntax.specs.Rest.{whole};
 ghost use Rattle.tre_zone.specs.Longest.{LastsUpTo, IsLongest};
 ghost use Rattle.tre_zone.specs.ZoneList.{HoldExactly};
 ghost use Rattle.tre_edges.specs.Piece.{rest_of_piece};
+ghost use Rattle.tre_edges.specs.RunSets.{zones_of};
 ghost use Rattle.tre_offline.specs.MatchSet.{IsMatchSet, AreMatchesAmong};
 
 use crate::atoms::Atoms;
-use crate::edged::edged;
+use crate::edged::{edged, unlimited};
 use crate::iterated::{is_iterated, repeats};
 use crate::lengths::{goes_first, is_repetition, longest_beside, longest_for};
 use crate::operators::{followed, joined, met, repeated, restricted, shortened};
 use std::alloc::{AllocError, Global};
-use tre_edges::Piece;
+use tre_edges::{Piece, RunSet, run_set};
 use tre_packed::AnyTrace;
 use tre_state::NAMES_MAX;
 use tre_syntax::{Expr, Pattern};
@@ -56,6 +57,25 @@ pub fn into_matches<T: AnyTrace + Drop>(
     // For the proof: the call says that no zone includes another, and that their bounds are tight.
     let _zones = zones.zones();
     Ok(zones)
+}
+
+/// The matches over the whole trace in few bytes each, where the expression is a literal, with its
+/// edges or with none, that may last however long. None where it is not.
+pub fn run_matches<T: AnyTrace>(
+    alloc: Global,
+    pattern: &Pattern,
+    trace: &T,
+) -> Result<Option<RunSet>, AllocError>
+    ensures { IfOk result (λ found. IfSome found (λ runs.
+        HoldExactly (zones_of runs) (Matches (pattern_tree pattern.now) (T.timeline trace.now)))) }
+{
+    match unlimited(pattern.expr()) {
+        Some(it) => {
+            let runs = run_set(alloc, it.state, trace, it.edges)?;
+            Ok(Some(runs))
+        }
+        None => Ok(None),
+    }
 }
 
 /// The matches of the pattern's expression over the whole trace, as far as they can be pairs of the

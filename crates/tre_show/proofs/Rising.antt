@@ -1,6 +1,6 @@
 -- Lines in rising order: how two are compared, and a list of which each rises above the last.
 use Rattle.std.proofs.Common.{◌≡◌, ℕ, ◌+◌, ◌-◌, ◌<◌, ◌≤◌, false, List, [], ◌∷◌, length, get_or, refl, sym, ap, ◌∙◌, arith, ⊎_elim, ℤ, neg_ℤ}
-use Rattle.std.specs.Prelude.{◌<ℤ◌}
+use Rattle.std.specs.Prelude.{◌<ℤ◌, AllPairs}
 use Rattle.std.specs.Cmp.{int_cmp_is, int_ranks}
 use Rattle.std.specs.Cmp.Lexicographic.{slice_cmp}
 use Rattle.std.specs.Ordering.{int_cmp, is_lt, ordering_then, MatchOrdering}
@@ -10,7 +10,7 @@ use Rattle.std.proofs.lemmas.Int.{ints}
 use Rattle.std.proofs.lemmas.Bool.{cases_lt}
 use Rattle.std.proofs.lemmas.List.{get_or_default}
 use Rattle.tre_zone.specs.declared.zone_bounds.ZoneBounds.{ZoneBounds}
-use Rattle.tre_show.specs.Order.{compare_lines}
+use Rattle.tre_show.specs.Order.{IsRising, compare_lines}
 
 -- Numbers that are negated are compared the other way round.
 negated : (x y : ℤ) → int_cmp y x ≡ int_cmp (neg_ℤ x) (neg_ℤ y)
@@ -91,3 +91,28 @@ next_rises zones place one other before within is is' less k d below =
     ap (λ i. get_or zones i d) at' ∙ (get_or_default zones place d other within ∙ sym is') in
     rw (first, second) less)
     (cases_lt (k + 1) place)
+
+-- Zones each of which begins later than all before it.
+first_decides : (x y : ℤ) (xs ys : List ℤ) → y <ℤ x
+    → is_lt (slice_cmp int_cmp (x ∷ xs) (y ∷ ys)) ≡ false
+first_decides x y xs ys less =
+    ap (λ o. is_lt (ordering_then o (slice_cmp int_cmp xs ys))) (sym (int_cmp_is x y Greater less))
+
+-- the numbers behind the first by which a line is ordered
+rest_of : ZoneBounds → List ℤ
+rest_of zone =
+    zone.begin_high ∷ neg_ℤ zone.end_low ∷ zone.end_high ∷ neg_ℤ zone.dur_low ∷ zone.dur_high ∷ []
+
+begins_later : (one other : ZoneBounds) → one.begin_low <ℤ other.begin_low
+    → is_lt (compare_lines one other) ≡ false
+unfolding rest_of
+begins_later one other late =
+    let less : neg_ℤ other.begin_low <ℤ neg_ℤ one.begin_low = omega (arith, ints, late) in
+    first_decides (neg_ℤ one.begin_low) (neg_ℤ other.begin_low) (rest_of one) (rest_of other) less
+
+pub later_rises : (zones : List ZoneBounds)
+    → AllPairs (λ zone later. later.begin_low <ℤ zone.begin_low) zones → IsRising zones
+unfolding IsRising
+later_rises zones later k d low below =
+    begins_later (get_or zones (k + 1) d) (get_or zones k d)
+    (later k (k + 1) d (omega arith) (omega (arith, below)))

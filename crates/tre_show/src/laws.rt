@@ -1,5 +1,5 @@
 //! Laws of the printed texts, each as a function whose contract it is.
-ghost use Rattle.std.specs.Prelude.{◌≡◌, ◌<◌, ◌≤◌, ◌^◌, ◌↔◌, ℕ, List, ◌∷◌, ◌++◌, codes};
+ghost use Rattle.std.specs.Prelude.{◌≡◌, ◌<◌, ◌<ℤ◌, ◌≤◌, AllPairs, ◌^◌, ◌↔◌, ℕ, List, ◌∷◌, ◌++◌, codes};
 ghost use Rattle.tre_pairs.specs.declared.TheConstants.{TIME_MAX};
 ghost use Rattle.tre_zone.specs.declared.zone_bounds.ZoneBounds.{ZoneBounds};
 ghost use Rattle.tre_zone.specs.Zone.{IsCanonical, ZoneHolds};
@@ -10,7 +10,7 @@ ghost use Rattle.std.specs.Ordering.{int_cmp};
 ghost use Rattle.std.specs.declared.cmp.Ordering.TheVariants.{Less};
 ghost use Rattle.tre_decimal.specs.Decimal.{number_text};
 ghost use Rattle.tre_show.specs.Line.{line_of, lines_of, offline_text, TellsZone};
-ghost use Rattle.tre_show.specs.Order.{sort_key, LineComesBefore};
+ghost use Rattle.tre_show.specs.Order.{sort_key, IsRising, LineComesBefore};
 
 use tre_decimal::one_number;
 
@@ -70,4 +70,10 @@ pub fn one_front()
 pub fn line_order()
     ensures { (zone other : ZoneBounds) → IsCanonical zone → IsCanonical other →
         slice_cmp int_cmp (sort_key zone) (sort_key other) ≡ Less → LineComesBefore zone other }
+{}
+
+/// Zones stand in the order in which they are printed where each begins later than all before it.
+pub fn later_rise()
+    ensures { (zones : List ZoneBounds) →
+        AllPairs (λ zone later. later.begin_low <ℤ zone.begin_low) zones → IsRising zones }
 {}

@@ -7,3 +7,4 @@ pub mod Powers
 pub mod Separate
 pub mod OneWay
 pub mod Single
+pub mod Looking

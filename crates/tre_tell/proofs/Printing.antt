@@ -1,9 +1,10 @@
 -- The lines of sets, put one before the other.
-use Rattle.std.proofs.Common.{◌≡◌, ◌∙◌, ◌≤◌, ℕ, ◌+◌, Some, drop, slice_get, List, [], ◌∷◌, ◌++◌, length, refl, sym, ap, arith, append_assoc, append-nil}
+use Rattle.std.proofs.Common.{◌≡◌, ◌∙◌, ◌≤◌, ◌<◌, ℕ, ◌+◌, ◌-◌, Some, drop, get_or, map, slice_get, subst, List, [], ◌∷◌, ◌++◌, length, refl, sym, ap, arith, append_assoc, append-nil}
 use Rattle.std.specs.List.{slice_range}
+use Rattle.std.specs.Option.{option_map}
 use Rattle.std.proofs.lemmas.List.{drop_all, drop_more}
 use Rattle.std.proofs.lemmas.List.Folds.{drop_split}
-use Rattle.std.proofs.lemmas.Option.{get_or_from_slice_get, slice_get_within}
+use Rattle.std.proofs.lemmas.Option.{get_or_from_slice_get, slice_get-map, slice_get_read, slice_get_within}
 use Rattle.std.proofs.lemmas.List.Sorted.{IsPermutation-refl}
 use Rattle.tre_show.specs.Line.{line_of}
 use Rattle.tre_show.specs.Order.{IsRising}
@@ -73,6 +74,24 @@ module _ (scale : ℕ) where
             ∙ (ap (λ bytes. lines_with scale label put.zones ++ bytes) so_far.is_text
             ∙ sym (append_assoc (lines_with scale label put.zones) _ text));
       })
+
+  -- the same of labels as they are kept, from a place on that is not the first
+  pub set_put : {X : Type 0} (bytes_of : X → List ℕ) (labels : List X)
+      (sets : List (List ZoneBounds)) (set : List ZoneBounds) (label : X) (left : ℕ)
+      (text now new : List ℕ) → 0 < left → left ≤ length labels
+      → label ≡ get_or labels (left - 1) label → slice_get sets (left - 1) ≡ Some set
+      → IsTextOf scale (drop left (map bytes_of labels)) (drop left sets) text now
+      → IsSetPut scale (bytes_of label) set now new
+      → IsTextOf scale (drop (left - 1) (map bytes_of labels)) (drop (left - 1) sets) text new
+  set_put bytes_of labels sets set label left text now new some within is set_at so_far put =
+      let next : left - 1 + 1 ≡ left = omega (arith, some) in
+      sets_before (map bytes_of labels) sets (left - 1) (bytes_of label) set text now new
+      (slice_get-map bytes_of labels (left - 1)
+      ∙ ap (option_map bytes_of) (slice_get_read labels (length labels) (left - 1) label refl
+      (omega (arith, some, within)) is))
+      set_at
+      (subst (λ k. IsTextOf scale (drop k (map bytes_of labels)) (drop k sets) text now) (sym next)
+      so_far) put
 
 pub printed_rising : (zones : List ZoneBounds) → IsRising zones → IsZoneSet zones → AreTight zones
     → IsPrinted zones zones

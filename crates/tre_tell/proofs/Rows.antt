@@ -1,5 +1,5 @@
 -- A watch that is told stretches, one column behind the other.
-use Rattle.std.proofs.Common.{◌≡◌, ◌∙◌, ℕ, zero, suc, ◌+◌, ◌<◌, ◌≤◌, List, [], ◌∷◌, ◌++◌, get_or, length, take, refl, sym, ap, subst, arith, append_assoc}
+use Rattle.std.proofs.Common.{◌≡◌, ◌∙◌, ℕ, zero, suc, ◌+◌, ◌<◌, ◌≤◌, List, [], ◌∷◌, ◌++◌, get_or, length, take, drop, Option, refl, sym, ap, subst, arith, append_assoc}
 use Rattle.std.specs.List.{AllByRecursion}
 use Rattle.std.proofs.lemmas.List.{length-map, map-append}
 use Rattle.tre_online.specs.Watch.{sessions_of, trees_of, pushed_each, StandForEach, Watches}
@@ -10,7 +10,10 @@ use Rattle.tre_trace.specs.Trace.{end_of, AreLong, IsTrace, Fits}
 use Rattle.tre_trace.specs.declared.segment.Segment.{Segment}
 use Rattle.tre_trace.proofs.Segments.{end_of-append, end_of-le}
 use Rattle.tre_feed.specs.Standing.{stretch_behind}
-use Rattle.tre_tell.specs.Telling.{rows_for, column_for, FirstFits, CanTell, CanTellAll}
+use Rattle.tre_feed.specs.declared.fault.Fault.{Fault}
+use Rattle.tre_tell.specs.Sought.{Sought, all_names}
+use Rattle.tre_tell.specs.Telling.{rows_for, column_for, FirstFits, CanTell, CanTellAll, StopsAtColumn, StopsWithin}
+use Rattle.tre_tell.proofs.Lists.{split_around}
 use Rattle.tre_tell.proofs.Stretches.{pushed_for}
 
 -- a watch has as many rows as patterns
@@ -99,3 +102,17 @@ pushed_at asked told waiting place below =
     take_suc (x ∷ xs) zero below = refl
     take_suc (x ∷ xs) (suc i) below =
         ap (λ rest. x ∷ rest) (take_suc xs i (omega (arith, below)))
+
+-- Of the stretches that wait, the telling stopped at the one at the place.
+pub stopped_at : (scale : ℕ) (patterns : List Sought) (told waiting : List Stretch)
+    (before now : Option (List ℕ)) (fault : Fault) (place : ℕ) → place < length waiting
+    → StopsAtColumn scale patterns (rows_for (all_names patterns) (told ++ take place waiting))
+    (column_for (all_names patterns) (get_or waiting place stretch_behind)) before now fault
+    → StopsWithin scale patterns told waiting before now fault
+stopped_at scale patterns told waiting before now fault place below stops = record {
+  front = take place waiting;
+  next = get_or waiting place stretch_behind;
+  rest = drop (suc place) waiting;
+  split = split_around waiting place stretch_behind below;
+  stops = stops;
+}

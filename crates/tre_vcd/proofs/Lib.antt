@@ -14,11 +14,13 @@ mod Naming
 mod Needing
 mod NoRule
 mod Offering
+mod OneMore
 mod Pasts
 mod Plain
 mod Reading
 mod Rows
 mod Scoping
+mod Sectioning
 mod Skimming
 mod Standing
 mod Slots

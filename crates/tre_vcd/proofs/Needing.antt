@@ -1,5 +1,6 @@
 -- What is known of the names that must be declared.
 use Rattle.std.proofs.Common.{◌≡◌, ◌≤◌, ℕ, Bool, refl, List, [], ◌∷◌, ◌++◌, length, map, take, drop, sym, ap, ◌∙◌, subst, arith}
+use Rattle.std.specs.Global.{Vec}
 use Rattle.std.specs.Prelude.{All}
 use Rattle.std.proofs.Math.Seq.{take-append_seam}
 use Rattle.std.proofs.lemmas.List.{map-append}
@@ -57,6 +58,18 @@ pub offers-more : (all : List SignalDefined) (past : List Statement) (own : List
 offers-more all past [] found knows more = (more, tt)
 offers-more all past (first ∷ others) found knows more =
     (knows.0, offers-more all past others found knows.1 more)
+
+-- whichever names are found
+pub offers-found : (all : List SignalDefined) (past : List Statement) (found : Found)
+    (names events : Vec Bool) → KnowsOffers all past found
+    → KnowsOffers all past (record found { names = names; events = events })
+offers-found all past found names events knows = record {
+  same = knows.same;
+  tests = knows.tests;
+  changes = knows.changes;
+  names = knows.names;
+  events = knows.events;
+}
 
 pub offers-none : (all : List SignalDefined) (past : List Statement) (own : List Found)
     → own ≡ [] → KnowOffers all past own

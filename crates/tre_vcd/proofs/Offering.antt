@@ -87,6 +87,23 @@ flagged-long i old new [] = refl
 flagged-long zero old new (one ∷ all) = ap suc (flagged-long zero old new all)
 flagged-long (suc i) old new (one ∷ all) = ap suc (flagged-long i old new all)
 
+-- those too of which one test more holds
+module _ (i : ℕ) (old hits : SignalDefined → Bool) (all : List SignalDefined) (flags : List Bool)
+    (before : flags ≡ flagged i old (λ one. old one || hits one) all) where
+  pub flagged-or : (own : SignalDefined) (raised : Bool) → own ≡ get_or all i own
+      → raised ≡ hits own → i < length all
+      → (if raised then set flags i true else flags)
+      ≡ flagged (i + 1) old (λ one. old one || hits one) all
+  flagged-or own raised is found below =
+      flagged-raised i old (λ one. old one || hits one) all own raised flags below before
+      (ap (λ b. old (get_or all i own) || b) (sym (found ∙ ap hits is)))
+
+  pub flagged-end : (length flags ≡ length all → length all ≤ i)
+      → flags ≡ map (λ one. old one || hits one) all
+  flagged-end past =
+      let long = ap length before ∙ flagged-long i old (λ one. old one || hits one) all in
+      before ∙ flagged-all i old (λ one. old one || hits one) all (past long)
+
 -- ---- one declaration later
 
 or-some : {X : Type 0} (one other : Option X) → (is_some one || is_some other)

@@ -1,9 +1,13 @@
 -- Tokens among the values, that are read one after the other.
-use Rattle.std.proofs.Common.{◌≡◌, ℕ, ◌+◌, ◌≤◌, ◌==◌, true, false, List, [], ◌∷◌, append-nil, length, refl, sym, ap, ◌∙◌, subst, arith}
+use Rattle.std.specs.Global.{Vec}
+use Rattle.std.specs.Str.Parse.{digits_value}
+use Rattle.std.proofs.Common.{◌≡◌, ◌≢◌, ℕ, ◌+◌, ◌-◌, ◌*◌, ◌^◌, ◌≤◌, min, ◌==◌, true, false, List, [], ◌∷◌, append-nil, length, map, refl, sym, ap, ◌∙◌, subst, arith}
 use Rattle.std.proofs.lemmas.Bool.Decides.{nat_tests}
+use Rattle.tre_decimal.specs.Decimal.{is_numeral}
+use Rattle.tre_pairs.specs.declared.TheConstants.{TIME_MAX}
 use Rattle.tre_parts.specs.Bytes.{between, IsNextAt}
 use Rattle.tre_parts.specs.Skims.{Skims}
-use Rattle.tre_parts.specs.Walk.{AddsPart}
+use Rattle.tre_parts.specs.Walk.{AddsPart, PartGoesOn}
 use Rattle.tre_parts.specs.declared.TheConstants.{PART_MAX}
 use Rattle.tre_parts.specs.declared.skimmed.Skimmed.{Skimmed}
 use Rattle.tre_parts.proofs.Skimming.{skims-next, skims-kept}
@@ -11,15 +15,20 @@ use Rattle.tre_trace.specs.Reading.{Vocabulary}
 use Rattle.tre_trace.specs.declared.segment.Segment.{Segment}
 use Rattle.tre_vcd.specs.Kept.{KnowsOfPast}
 use Rattle.tre_vcd.specs.Offers.{KnowOffers}
-use Rattle.tre_vcd.specs.Sections.{Holds}
-use Rattle.tre_vcd.specs.Signals.{KnowsSignals}
-use Rattle.tre_vcd.specs.VcdReading.{Terms, Form, wide, Statement, change, Open, nothing, vector, Place, is_defined, is_white, goes_to, value_says, token_says, vcd_format}
+use Rattle.tre_vcd.specs.Sections.{Holds, KnowsPast}
+use Rattle.tre_vcd.specs.Signals.{KnowsChanges, KnowsSignals}
+use Rattle.tre_vcd.specs.VcdReading.{Terms, Form, scalar, wide, Statement, change, time, Open, nothing, vector, Place, is_defined, is_white, of_changes, time_at, stretch_until, goes_to, scalar_says, ticks_say, value_says, token_says, vcd_format}
+use Rattle.tre_vcd.specs.declared.changes.Changes.{Changes}
 use Rattle.tre_vcd.specs.declared.inside.Inside.TheVariants.{Nothing}
 use Rattle.tre_vcd.specs.declared.past.Past.{Past}
 use Rattle.tre_vcd.specs.declared.signals.Signals.{Signals}
 use Rattle.tre_vcd.specs.declared.token_reader.TokenReader.{TokenReader}
 use Rattle.tre_vcd.proofs.Changing.{past-changed}
-use Rattle.tre_vcd.proofs.Reading.{is-nothing}
+use Rattle.tre_vcd.proofs.Needing.{needed-same}
+use Rattle.tre_vcd.proofs.Pasts.{same_time, other_time}
+use Rattle.tre_vcd.proofs.Reading.{is-nothing, scalar-says, time-says}
+use Rattle.tre_vcd.proofs.Standing.{reads-no_var, stays-time}
+use Rattle.tre_vcd.proofs.Staying.{offers-stay, past-stays, tests-stay-time}
 
 -- ---- what tokens say
 
@@ -40,6 +49,20 @@ token_identifier terms past letters (byte ∷ bytes) some = refl
 
 -- ---- what is held
 
+-- where nothing is open, and nothing was before
+holds-on : (reader now : TokenReader) (past after : List Statement)
+    → Holds reader (record { past = past; inside = nothing })
+    → now.inside ≡ reader.inside → now.tokens ≡ reader.tokens → KnowsPast now after
+    → Holds now (record { past = after; inside = nothing })
+holds-on reader now past after holds shut same knows = record {
+  knows = knows;
+  inside = shut ∙ holds.inside;
+  tokens = ap (λ (tokens : Vec (Vec ℕ)). map (λ token. token.items) tokens.items) same
+      ∙ holds.tokens;
+  suits = tt;
+  letters = tt;
+}
+
 -- behind a change
 pub holds-changed : (reader : TokenReader) (past : List Statement) (form : Form)
     (identifier letters : List ℕ) (kept : Past) (signals : Signals)
@@ -49,13 +72,49 @@ pub holds-changed : (reader : TokenReader) (past : List Statement) (form : Form)
     → Holds reader (record { past = past; inside = nothing })
     → Holds (record reader { past = kept; signals = signals })
     (record { past = change form identifier letters ∷ past; inside = nothing })
-holds-changed reader past form identifier letters kept signals known read same holds = record {
-  knows = past-changed reader past form identifier letters kept signals known read same holds.knows;
-  inside = holds.inside;
-  tokens = holds.tokens;
-  suits = tt;
-  letters = tt;
-}
+holds-changed reader past form identifier letters kept signals known read same holds =
+    holds-on reader (record reader { past = kept; signals = signals }) past
+    (change form identifier letters ∷ past) holds refl refl
+    (past-changed reader past form identifier letters kept signals known read same holds.knows)
+
+-- behind the time that it was
+pub holds-again : (reader : TokenReader) (past : List Statement) (ticks : ℕ) (kept : Past)
+    → ticks ≡ time_at past → KnowsOfPast reader.names reader.events kept (time ticks ∷ past)
+    → Holds reader (record { past = past; inside = nothing })
+    → Holds (record reader { past = kept }) (record { past = time ticks ∷ past; inside = nothing })
+holds-again reader past ticks kept same known holds =
+    holds-on reader (record reader { past = kept }) past (time ticks ∷ past) holds refl refl
+    (past-stays reader past (time ticks ∷ past) kept (λ test own. refl)
+    (stays-time past ticks same) known holds.knows)
+
+-- behind another time
+pub holds-later : (reader : TokenReader) (past : List Statement) (ticks : ℕ) (kept : Past)
+    (changes : Changes) → KnowsOfPast reader.names reader.events kept (time ticks ∷ past)
+    → KnowsChanges (of_changes reader.signals.definitions.items) reader.events changes
+    (time ticks ∷ past)
+    → Holds reader (record { past = past; inside = nothing })
+    → Holds (record reader {
+      past = kept;
+      signals = record (reader.signals) { changes = changes };
+    }) (record { past = time ticks ∷ past; inside = nothing })
+holds-later reader past ticks kept changes known changed holds =
+    let knows = holds.knows in
+    let now = record reader {
+      past = kept;
+      signals = record (reader.signals) { changes = changes };
+    } in
+    holds-on reader now past (time ticks ∷ past) holds refl refl (record {
+      past = known;
+      needed = needed-same past (time ticks ∷ past) reader.needed.items (λ test name. refl)
+          knows.needed;
+      signals = record {
+        tests = tests-stay-time past ticks _ reader.names reader.signals.tests knows.signals.tests;
+        changes = changed;
+      };
+      offers = offers-stay _ past (time ticks ∷ past) reader.needed.items
+          (reads-no_var (time ticks) past tt) knows.offers;
+      within = knows.within;
+    })
 
 -- where as much is known by definitions as before
 pub holds-still : (reader : TokenReader) (past : List Statement) (signals : Signals)
@@ -63,20 +122,71 @@ pub holds-still : (reader : TokenReader) (past : List Statement) (signals : Sign
     → signals.definitions ≡ reader.signals.definitions
     → Holds reader (record { past = past; inside = nothing })
     → Holds (record reader { signals = signals }) (record { past = past; inside = nothing })
-holds-still reader past signals read same holds = record {
-  knows = record {
-    past = holds.knows.past;
-    needed = holds.knows.needed;
-    signals = read;
-    offers = subst (λ all. KnowOffers all past reader.needed.items)
-        (ap (λ all. all.items) (sym same)) holds.knows.offers;
-    within = holds.knows.within;
-  };
-  inside = holds.inside;
-  tokens = holds.tokens;
-  suits = tt;
-  letters = tt;
+holds-still reader past signals read same holds =
+    holds-on reader (record reader { signals = signals }) past past holds refl refl (record {
+      past = holds.knows.past;
+      needed = holds.knows.needed;
+      signals = read;
+      offers = subst (λ all. KnowOffers all past reader.needed.items)
+          (ap (λ all. all.items) (sym same)) holds.knows.offers;
+      within = holds.knows.within;
+    })
+
+-- ---- what was read of a token
+
+-- a change
+pub change-told : {holds : Place → Type 0} (past : List Statement) (form : Form)
+    (identifier letters : List ℕ)
+    → holds (record { past = change form identifier letters ∷ past; inside = nothing })
+    → PartGoesOn (goes_to (change form identifier letters ∷ past) nothing) [] holds
+change-told past form identifier letters held = record {
+  state = record { past = change form identifier letters ∷ past; inside = nothing };
+  says = refl;
+  is_held = held;
 }
+
+-- a scalar change, which adds no stretch
+pub scalar-taken : {asked : Vocabulary} {holds : Place → Type 0} (past : List Statement)
+    (letter : ℕ) (identifier : List ℕ) (segments : List Segment)
+    → (length identifier == 0) ≡ false
+    → holds (record { past = change scalar identifier (letter ∷ []) ∷ past; inside = nothing })
+    → AddsPart asked (scalar_says past letter identifier) holds segments segments
+scalar-taken past letter identifier segments some held = record {
+  stretches = [];
+  added = sym (append-nil segments);
+  goes_on = record {
+    state = record { past = change scalar identifier (letter ∷ []) ∷ past; inside = nothing };
+    says = scalar-says past letter identifier some;
+    is_held = held;
+  };
+}
+
+module _ (terms : Terms) (past : List Statement) (digits : List ℕ) (ticks : ℕ)
+    (numeral : is_numeral digits ≡ true)
+    (value : ticks ≡ min (digits_value 10 digits * 10 ^ terms.scale) (2 ^ 64 - 1))
+    (in_time : ticks ≤ TIME_MAX) where
+  -- the time that it was
+  pub time-again : {holds : Place → Type 0} → ticks ≡ time_at past
+      → holds (record { past = time ticks ∷ past; inside = nothing })
+      → PartGoesOn (ticks_say terms past digits) [] holds
+  time-again same held = record {
+    state = record { past = time ticks ∷ past; inside = nothing };
+    says = time-says terms past digits ticks true numeral value (omega (arith, same)) in_time
+        (same_time ticks (time_at past) same);
+    is_held = held;
+  }
+
+  -- a later one, which ends a stretch
+  pub time-later : {holds : Place → Type 0} → time_at past ≤ ticks → ticks ≢ time_at past
+      → holds (record { past = time ticks ∷ past; inside = nothing })
+      → PartGoesOn (ticks_say terms past digits) (stretch_until terms.definitions past ticks ∷ [])
+      holds
+  time-later late apart held = record {
+    state = record { past = time ticks ∷ past; inside = nothing };
+    says = time-says terms past digits ticks false numeral value late in_time
+        (other_time ticks (time_at past) apart);
+    is_held = held;
+  }
 
 -- ---- one token more
 

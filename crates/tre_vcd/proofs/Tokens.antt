@@ -1,7 +1,7 @@
 -- What stands in a token.
 use Rattle.std.proofs.Common.{◌≡◌, ℕ, ◌<◌, ◌≤◌, nat_lt, Bool, true, false, not, ◌||◌, ◌&&◌, List, [], ◌∷◌, length, length-take, map, get_or, take, subst, None, Some, codes, Result, refl, sym, ap, ◌∙◌, arith, if◌then◌else◌}
 use Rattle.std.specs.Str.{bytes_eq}
-use Rattle.std.proofs.lemmas.List.{get_or-map}
+use Rattle.std.proofs.lemmas.List.{get_or-map, length-map}
 use Rattle.std.proofs.lemmas.Bool.Decides.{nat_tests}
 use Rattle.tre_vcd.specs.VcdReading.{Statement, Place, scope, upscope, var, definitions, nothing, path, is_signal, is_event, identifier_in, goes_to, scope_says, declaration_says, section_says}
 use Rattle.tre_vcd.specs.Sections.{command_of}
@@ -152,12 +152,40 @@ pub kept-at : {X : Type 0} (f : X → List ℕ) (items : List X) (kept : List (L
 kept-at f items kept i d item bytes same below is read =
     read ∙ ap f is ∙ sym (get_or-map f items i d [] below) ∙ ap (λ all. get_or all i []) same
 
+-- the tokens that a reader keeps, as a list that is the same
+pub kept-tokens : {X : Type 0} {all items : List X} (f : X → List ℕ) (tokens : List (List ℕ))
+    → all ≡ items → map f items ≡ take 6 tokens → map f all ≡ take 6 tokens
+kept-tokens f tokens are kept = ap (map f) are ∙ kept
+
+pub kept-count : {X : Type 0} (f : X → List ℕ) (all : List X) (tokens : List (List ℕ))
+    → map f all ≡ take 6 tokens → length all ≡ length (take 6 tokens)
+kept-count f all tokens kept = sym (length-map all f) ∙ ap length kept
+
+-- one of four tokens
+pub token-at : {X : Type 0} {item : X} {bytes : List ℕ} (f : X → List ℕ) (all : List X)
+    (tokens : List (List ℕ)) (i : ℕ) → i < 4 → map f all ≡ take 6 tokens → length all ≡ 4
+    → item ≡ get_or all i item → bytes ≡ f item → bytes ≡ get_or (take 6 tokens) i []
+token-at {item = item} {bytes = bytes} f all tokens i below kept four is read =
+    kept-at f all (take 6 tokens) i item item bytes kept (omega (arith, below, four)) is read
+
 -- whether type and size pass the test is told by the first two of the tokens that are kept
 pub same-test : (test : List ℕ → List ℕ → Bool) (kept : List (List ℕ)) (kind size : List ℕ)
     (value : Bool) → kind ≡ get_or kept 0 [] → size ≡ get_or kept 1 [] → test kind size ≡ value
     → test (get_or kept 0 []) (get_or kept 1 []) ≡ value
 same-test test kept kind size value first second is =
     sym (ap (λ k. test k size) first ∙ ap (λ s. test (get_or kept 0 []) s) second) ∙ is
+
+-- the same of four tokens
+pub test-at : {X : Type 0} {first second : X} {kind size : List ℕ} (f : X → List ℕ) (all : List X)
+    (tokens : List (List ℕ)) (test : List ℕ → List ℕ → Bool) (value : Bool)
+    → map f all ≡ take 6 tokens → length all ≡ 4
+    → first ≡ get_or all 0 first → kind ≡ f first → second ≡ get_or all 1 second
+    → size ≡ f second → test kind size ≡ value
+    → test (get_or (take 6 tokens) 0 []) (get_or (take 6 tokens) 1 []) ≡ value
+test-at {kind = kind} {size = size} f all tokens test value kept four one kind_is two size_is is =
+    same-test test (take 6 tokens) kind size value
+    (token-at f all tokens 0 (omega arith) kept four one kind_is)
+    (token-at f all tokens 1 (omega arith) kept four two size_is) is
 
 pub declares-kept : (test : List ℕ → List ℕ → Bool) (scopes tokens : List (List ℕ))
     (identifier reference name : List ℕ) → identifier ≡ get_or (take 6 tokens) 2 []

@@ -30,12 +30,12 @@ returns-in_ok-room-in-Offline-clause-ends g c = λ definitions same.
     EndsAnswering-put (request_for c.args.job.now definitions c.args.asked.now) _ _ _
     (offline_once c.args.job.now.mode c.in-Offline.is)
     (c.in_ok-found-in-Offline.ensures.found definitions same) c.write_matches.result
-    (rw c.deref.ensures.value at c.write_matches.ensures)
+    c.write_matches.ensures
 
 pub returns-in_default-clause-ends : goal.returns-in_default-clause-ends
 returns-in_default-clause-ends g c = λ definitions same.
     EndsAnswering-told_by c.args.job.now definitions c.args.asked.now _ _ _
-    (ap (map string_bytes) c.deref-in_default-2.ensures.value) c.deref-in_default.ensures.value
+    (ap (map string_bytes) c.deref-in_default.ensures.value) c.deref.ensures.value
     c.text.ensures _ _
     same c.requires.input.limit c.requires.reads c.in_default.not-Offline _ _
     c.tell_matches.result c.tell_matches.ensures.ends

@@ -4,6 +4,7 @@ use Rattle.std.proofs.lemmas.Result.{err_from_is_err_and}
 use Rattle.std.specs.Prelude.{string_bytes}
 use Rattle.tre_syntax.specs.Pattern.{names_of}
 use Rattle.tre_tell.proofs.Loop.{asked_sought}
+use Rattle.tre_answer.specs.Listed.{listed_zones}
 use Rattle.tre_answer.proofs.Found.{IsFound-whole, IsFoundFor-text, StopsAs-input, StopsAs-over, StopsAs-wanting, a_trace_each, normal_limit}
 use Rattle.tre_answer.proofs.offline.find_matches.Goals as goal
 
@@ -14,8 +15,8 @@ returns-in_err-traces-clause-stops g c =
     c.in_err-traces.field-0.0 same c.requires.input.limit c.text.ensures
     c.in_err-traces.ensures.stops)
 
-pub wanted_matches-requires-clause-count : goal.wanted_matches-requires-clause-count
-wanted_matches-requires-clause-count g c =
+pub listed_matches-requires-clause-count : goal.listed_matches-requires-clause-count
+listed_matches-requires-clause-count g c =
     rw c.deref.ensures.value (a_trace_each (c.in_ok-traces.ensures.read _ c.requires.input.asks)
     ∙ length-map c.args.asked.now.patterns.items names_of)
 
@@ -23,13 +24,6 @@ pub returns-in_err-found-clause-stops : goal.returns-in_err-found-clause-stops
 returns-in_err-found-clause-stops g c =
     let p = err_from_is_err_and c.from_residual-in_err-found.result
     c.from_residual-in_err-found.ensures.1 in
-    λ definitions same. rw (p.1, p.2)
-    (StopsAs-wanting _ _ c.requires.offline (c.in_ok-traces.ensures.read _ c.requires.input.asks).reads)
-
-pub returns-in_err-zones-clause-stops : goal.returns-in_err-zones-clause-stops
-returns-in_err-zones-clause-stops g c =
-    let p = err_from_is_err_and c.from_residual-in_err-zones.result
-    c.from_residual-in_err-zones.ensures.1 in
     λ definitions same. rw (p.1, p.2)
     (StopsAs-wanting _ _ c.requires.offline (c.in_ok-traces.ensures.read _ c.requires.input.asks).reads)
 
@@ -48,14 +42,14 @@ returns-in_err-check_count-clause-stops g c =
       length-map patterns names_of,
       c.requires.fits.some,
     ) in
-    let over = rw c.deref-2.ensures.value at c.in_err-check_count.ensures.over in
-    λ definitions same. rw (p.1, p.2, c.in_err-check_count.ensures.fault, c.deref-2.ensures.value)
-    (StopsAs-over _ _ c.in_ok-found.found.set c.in_ok-zones.zones.items c.in_ok-found.found.end
+    let over = c.in_err-check_count.ensures.over in
+    let found = c.in_ok-found.found in
+    let listed = rw c.deref.ensures.value at c.in_ok-found.ensures.zones in
+    λ definitions same. rw (p.1, p.2, c.in_err-check_count.ensures.fault)
+    (StopsAs-over _ _ listed.set (listed_zones found.zones) found.end
     (IsFound-whole _ _ _ _ c.in_ok-traces.traces.items _ _ _ same c.requires.input.limit read some
-    (rw c.deref.ensures.value at c.in_ok-found.ensures.set labels labelled)
-    c.in_ok-found.ensures.end) c.in_ok-zones.ensures.set
-    c.in_ok-zones.ensures.zones c.requires.offline
-    (normal_limit c.args.job.now c.requires.job _ over) over)
+    (listed.exact labels labelled) c.in_ok-found.ensures.end) listed.is_set listed.asked
+    c.requires.offline (normal_limit c.args.job.now c.requires.job _ over) over)
 
 pub returns-clause-found : goal.returns-clause-found
 returns-clause-found g c =
@@ -70,10 +64,9 @@ returns-clause-found g c =
       length-map patterns names_of,
       c.requires.fits.some,
     ) in
-    λ definitions same. IsFoundFor-text _ _ c.in_ok-found.found.set c.in_ok-zones.zones.items
-    c.in_ok-found.found.end
+    let found = c.in_ok-found.found in
+    let listed = rw c.deref.ensures.value at c.in_ok-found.ensures.zones in
+    λ definitions same. IsFoundFor-text _ _ listed.set (listed_zones found.zones) found.end
     (IsFound-whole _ _ _ _ c.in_ok-traces.traces.items _ _ _ same c.requires.input.limit read some
-    (rw c.deref.ensures.value at c.in_ok-found.ensures.set labels labelled)
-    c.in_ok-found.ensures.end) c.in_ok-zones.ensures.set
-    c.in_ok-zones.ensures.zones c.requires.offline _
-    (rw c.deref-2.ensures.value at c.in_ok-check_count.ensures.few) refl
+    (listed.exact labels labelled) c.in_ok-found.ensures.end) listed.is_set listed.asked
+    c.requires.offline _ c.in_ok-check_count.ensures.few refl

@@ -1,13 +1,15 @@
 use Rattle.std.proofs.Common.{◌∙◌, ◌++◌, length, ap, arith, append-nil}
 use Rattle.std.proofs.lemmas.List.{drop_all}
 use Rattle.std.proofs.lemmas.Slice.{between_to_end}
+use Rattle.std.specs.List.{slice_range}
 use Rattle.tre_show.specs.Line.{lines_of}
 use Rattle.tre_answer.proofs.TextPieces.{EndsPutting-given}
 use Rattle.tre_answer.proofs.printing.put_lines.Goals as goal
 
 pub returns : goal.returns
 returns g c =
-    let lines = lines_of c.args.scale c.args.zones.now in
+    let lines = lines_of c.args.scale
+    (slice_range (g.Z.Zones.zones c.args.zones.now) c.args.from c.args.to) in
     EndsPutting-given _ lines _
     (between_to_end c.write_lines-begin.new.buffer c.write_lines-begin.result _ (omega arith)
     ∙ c.write_lines-begin.ensures.lines

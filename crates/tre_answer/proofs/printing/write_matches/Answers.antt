@@ -16,10 +16,11 @@ pub loop-from-preserved : goal.loop-from-preserved
 loop-from-preserved g c =
     let old = c.loop-from.invariant in
     let from = c.loop-from.from in
+    let zones = g.Z.Zones.zones c.args.zones.now in
     record {
-      within = omega (arith, c.loop-from-test.true);
+      within = omega (arith, c.loop-from-test.true, c.count-count.ensures);
       written = IsWritten-more _ _ _ _ _ old.written _
-          (lines_to c.args.scale c.args.zones.now from (from + 339) (omega arith))
+          (lines_to c.args.scale zones from (from + 339) (omega arith))
           c.in_ok-put_lines.ensures;
     }
 
@@ -27,17 +28,16 @@ pub returns-in_err-put_lines : goal.returns-in_err-put_lines
 returns-in_err-put_lines g c =
     let p = err_from_is_err_and c.from_residual.result c.from_residual.ensures.1 in
     let from = c.loop-from.from in
+    let zones = g.Z.Zones.zones c.args.zones.now in
     rw (p.1, p.2) (EndsPutting-cut _ _ _ _ _ c.loop-from.invariant.written _ _
-    (text_around c.args.scale c.args.zones.now from (from + 339) c.args.end (omega arith)) _
+    (text_around c.args.scale zones from (from + 339) c.args.end (omega arith)) _
     c.in_err-put_lines.ensures)
 
 pub returns : goal.returns
 returns g c =
     let scale = c.args.scale in
-    let zones = c.args.zones.now in
+    let zones = g.Z.Zones.zones c.args.zones.now in
     let from = c.loop-from.from in
     EndsPutting-last _ _ _ _ _ c.loop-from.invariant.written _
-    (text_behind scale zones from c.args.end
-    ∙ ap (λ rest. lines_of scale (take from zones) ++ offline_text scale rest c.args.end)
-    (sym (between_to_end zones from (length zones) (omega arith)))) c.put_last.result
+    (text_behind scale zones from c.args.end) c.put_last.result
     c.put_last.ensures

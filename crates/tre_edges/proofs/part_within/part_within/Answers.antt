@@ -6,4 +6,4 @@ pub returns-in-None : goal.returns-in-None
 returns-in-None c =
     rw c.in-None.is
     (any_length c.part_of_run-part.result (IsPart c.args.edges c.args.begin c.args.end)
-    c.part_of_run-part.ensures)
+    c.part_of_run-part.ensures.held)

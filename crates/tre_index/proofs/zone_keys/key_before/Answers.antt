@@ -1,6 +1,4 @@
-use Rattle.std.proofs.Common.{rules, ◌≡◌, w64}
-use Rattle.std.specs.Prelude.{pos, ◌-ℤ◌}
-use mir.Val.{of_z, to_z}
+use Rattle.std.proofs.Common.{rules}
 use Rattle.tre_index.specs.ZoneKeys.{before_of}
 use Rattle.tre_index.proofs.ZoneRows.{before_others, lane_of}
 use Rattle.tre_index.proofs.zone_keys.key_before.Goals as goal
@@ -8,14 +6,9 @@ use Rattle.tre_index.proofs.zone_keys.key_before.Goals as goal
 pub returns-clause-key : goal.returns-clause-key
 unfolding before_of
 returns-clause-key c =
-    let zone = c.args.zone.now in
-    let bounds = c.bounds-bounds.result in
     let same = c.bounds-bounds.ensures.same in
-    let begin_high : to_z w64 (of_z w64 c.facing.result) ≡ (pos 1 -ℤ zone.begin_high) =
-    lane_of c.facing.result (λ b. b.begin_high) bounds zone (search rules) c.facing.ensures same in
-    let begin_low : to_z w64 (of_z w64 c.facing-2.result) ≡ (pos 1 -ℤ zone.begin_low) =
-    lane_of c.facing-2.result (λ b. b.begin_low) bounds zone (search rules) c.facing-2.ensures
-    same in
+    let begin_high = lane_of (λ b. b.begin_high) same c.facing.ensures (search rules) in
+    let begin_low = lane_of (λ b. b.begin_low) same c.facing-2.ensures (search rules) in
     cc
 
 pub returns-clause-others : goal.returns-clause-others

@@ -5,7 +5,7 @@ use Rattle.tre_feed.specs.Standing.{stretch_behind}
 use Rattle.tre_tell.specs.Sought.{all_names}
 use Rattle.tre_tell.specs.Telling.{rows_for}
 use Rattle.tre_tell.proofs.Lists.{split_around}
-use Rattle.tre_tell.proofs.Rows.{CanTell-at, pushed_at}
+use Rattle.tre_tell.proofs.Rows.{CanTell-at, pushed_at, stopped_at}
 use Rattle.tre_tell.proofs.telling.tell_blocks.Goals as goal
 
 pub loop-place-init : goal.loop-place-init
@@ -34,13 +34,8 @@ returns-in_err-column-clause-stops g c =
     λ patterns told waiting before asks wait so_far.
     let below : place < length waiting =
     omega (arith, c.waiting-place-end.ensures waiting wait, c.loop-place-test.true) in
-    rw (p.1, p.2) (record {
-      front = take place waiting;
-      next = get_or waiting place stretch_behind;
-      rest = drop (suc place) waiting;
-      split = split_around waiting place stretch_behind below;
-      stops = (c.loop-place.invariant.told patterns told waiting before asks wait so_far).told;
-    })
+    rw (p.1, p.2) (stopped_at _ patterns told waiting _ _ _ place below
+    (c.loop-place.invariant.told patterns told waiting before asks wait so_far).told)
 
 pub tell_block-requires-clause-comes : goal.tell_block-requires-clause-comes
 tell_block-requires-clause-comes g c =
@@ -67,17 +62,11 @@ returns-in_err-watch-clause-stops g c =
     λ patterns told waiting before asks wait so_far.
     let below : place < length waiting =
     omega (arith, c.waiting-place-end.ensures waiting wait, c.loop-place-test.true) in
-    rw (p.1, p.2) (record {
-      front = take place waiting;
-      next = get_or waiting place stretch_behind;
-      rest = drop (suc place) waiting;
-      split = split_around waiting place stretch_behind below;
-      stops = rw (
-        c.deref.ensures.value,
-        c.in_ok-column.ensures (all_names patterns) waiting asks wait,
-      ) at (c.in_err-watch.ensures.stops patterns _ before
-          (c.loop-place.invariant.told patterns told waiting before asks wait so_far));
-    })
+    rw (p.1, p.2) (stopped_at _ patterns told waiting _ _ _ place below (rw (
+      c.deref.ensures.value,
+      c.in_ok-column.ensures (all_names patterns) waiting asks wait,
+    ) at (c.in_err-watch.ensures.stops patterns _ before
+    (c.loop-place.invariant.told patterns told waiting before asks wait so_far))))
 
 pub loop-place-preserved : goal.loop-place-preserved
 loop-place-preserved g c =

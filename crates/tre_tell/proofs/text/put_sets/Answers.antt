@@ -1,9 +1,7 @@
-use Rattle.std.proofs.Common.{◌≡◌, ◌<◌, ◌-◌, ◌+◌, ◌∙◌, ap, sym, refl, drop, length, map, string_bytes, subst, arith}
-use Rattle.std.specs.Option.{option_map}
+use Rattle.std.proofs.Common.{◌<◌, ◌-◌, ◌∙◌, sym, refl, drop, length, map, string_bytes, arith}
 use Rattle.std.proofs.lemmas.List.{length-map}
-use Rattle.std.proofs.lemmas.Option.{slice_get-map, slice_get_read}
-use Rattle.tre_tell.specs.Printed.{IsTextOf}
-use Rattle.tre_tell.proofs.Printing.{sets_none, sets_before}
+use Rattle.std.proofs.lemmas.Option.{slice_get_read}
+use Rattle.tre_tell.proofs.Printing.{set_put, sets_none}
 use Rattle.tre_tell.proofs.text.put_sets.Goals as goal
 
 pub loop-left-init : goal.loop-left-init
@@ -20,26 +18,16 @@ loop-left-init c =
 
 pub loop-left-preserved : goal.loop-left-preserved
 loop-left-preserved c =
-    let labels = c.args.labels.now in
     let sets = c.args.sets.now in
-    let before = drop c.args.begin c.args.text.now.items in
-    let left = c.loop-left.left in
-    let label = c.index-labels-left.result in
-    let old = c.loop-left.invariant in
-    let next : left - 1 + 1 ≡ left = omega (arith, c.loop-left-test.true) in
-    let within : left - 1 < length labels = omega (arith, c.loop-left-test.true, old.count) in
     let told = rw c.as_str.ensures.value at c.in_ok-at.ensures.put in
+    let at : c.loop-left.left - 1 < length sets =
+    omega (arith, c.loop-left-test.true, c.loop-left.invariant.count, c.requires.count) in
     record {
-      count = omega (arith, old.count);
+      count = omega (arith, c.loop-left.invariant.count);
       within = c.in_ok-at.ensures.within;
-      put =
-          sets_before c.args.scale (map string_bytes labels) sets (left - 1) (string_bytes label)
-          c.index-sets-left.result before _ _
-          (slice_get-map string_bytes labels (left - 1)
-          ∙ ap (option_map string_bytes) (slice_get_read labels (length labels) (left - 1) label
-          refl within c.index-labels-left.is))
-          (slice_get_read sets (length sets) (left - 1) c.index-sets-left.result refl
-          (omega (arith, within, c.requires.count)) c.index-sets-left.is)
-          (subst (λ k. IsTextOf c.args.scale (drop k (map string_bytes labels)) (drop k sets) before
-          (drop c.loop-left.at c.loop-left.text.items)) (sym next) old.put) told;
+      put = set_put c.args.scale string_bytes c.args.labels.now sets c.index-sets-left.result
+          c.index-labels-left.result c.loop-left.left (drop c.args.begin c.args.text.now.items) _ _
+          (omega (arith, c.loop-left-test.true)) c.loop-left.invariant.count c.index-labels-left.is
+          (slice_get_read sets (length sets) (c.loop-left.left - 1) c.index-sets-left.result refl at
+          c.index-sets-left.is) c.loop-left.invariant.put told;
     }

@@ -1,8 +1,8 @@
-use Rattle.std.proofs.Common.{◌≡◌, ◌<◌, ◌+◌, ◌∷◌, ◌++◌, [], ℕ, List, length, length-take, take, get_or, refl, sym, ap, ◌∙◌, subst, arith}
-use Rattle.std.proofs.lemmas.List.{take_more, take_all}
-use Rattle.std.proofs.lemmas.Option.{get_or_from_slice_get, slice_get-get_or}
+use Rattle.std.proofs.Common.{◌+◌, [], length, refl, sym, ap, ◌∙◌, subst, arith}
+use Rattle.std.proofs.lemmas.List.{take_all}
 use Rattle.tre_define.specs.Signals.{signal_definition_of}
 use Rattle.tre_vcd.specs.Signals.{KnowsTests}
+use Rattle.tre_vcd.proofs.OneMore.{front-more, none-there}
 use Rattle.tre_vcd.proofs.signals.tests_of.Goals as goal
 
 pub loop-number-init : goal.loop-number-init
@@ -12,27 +12,14 @@ loop-number-init c = record {
 }
 
 pub loop-number-preserved : goal.loop-number-preserved
-loop-number-preserved c =
-    let names = c.args.names.now in
-    let all = c.args.all.now in
-    let number = c.loop-number.number in
-    let name = c.in-Some.name.now in
-    let below : number < length names =
-    omega (arith, c.loop-number-test.true, c.len-number-end.ensures.len) in
-    let here : get_or names number [] ≡ name =
-    get_or_from_slice_get names number name [] (sym c.in-Some.ensures) in
-    let long : length (take number names) ≡ number = omega (arith, length-take number names, below) in
-    let own = c.in_ok-copy_if-in-Some.ensures ∙ c.definition_of.ensures
-    ∙ ap (signal_definition_of all) c.as_bytes.ensures.value in
-    record {
-      len = c.in_ok-add-in-Some.ensures.len ∙ ap (λ n. n + 1) c.loop-number.invariant.len;
-      knows =
-          subst (λ front. KnowsTests all front c.add.new.self [])
-          (sym (take_more names number [] below
-          ∙ ap (λ (text : List ℕ). take number names ++ text ∷ []) here))
-          (c.in_ok-add-in-Some.ensures.knows all (take number names) name
-          c.loop-number.invariant.knows (c.loop-number.invariant.len ∙ sym long) own);
-    }
+loop-number-preserved c = record {
+  len = c.in_ok-add-in-Some.ensures.len ∙ ap (λ n. n + 1) c.loop-number.invariant.len;
+  knows = front-more (λ front. KnowsTests c.args.all.now front c.add.new.self []) _ _ _
+      c.in-Some.ensures (omega (arith, c.loop-number-test.true, c.len-number-end.ensures.len))
+      (λ long. c.in_ok-add-in-Some.ensures.knows c.args.all.now _ _ c.loop-number.invariant.knows
+      (c.loop-number.invariant.len ∙ sym long) (c.in_ok-copy_if-in-Some.ensures
+      ∙ c.definition_of.ensures ∙ ap (signal_definition_of c.args.all.now) c.as_bytes.ensures.value));
+}
 
 pub returns : goal.returns
 returns c =
@@ -43,8 +30,5 @@ returns c =
 
 pub unreachable-requires : goal.unreachable-requires
 unreachable-requires c =
-    let within : c.loop-number.number < length c.args.names.now =
-    omega (arith, c.loop-number-test.true, c.len-number-end.ensures.len) in
-    let there = slice_get-get_or c.args.names.now c.loop-number.number [] within in
-    let none = c.in-None.ensures in
-    cc (there, none)
+    absurd (none-there c.args.names.now c.loop-number.number c.in-None.ensures
+    (omega (arith, c.loop-number-test.true, c.len-number-end.ensures.len)))

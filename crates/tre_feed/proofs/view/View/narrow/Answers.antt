@@ -15,4 +15,4 @@ returns c = c.mask_each.ensures
     ∙ maps_same (masked_segment c.in-Some.names c.in-Some-mask.events)
     (shown_segment c.args.self.now)
     (λ segment. ap₂ (λ val ev. segment_with segment.len val ev)
-    (c.in-Some.ensures segment.val) (c.in-Some-mask.ensures segment.ev)) c.args.row.now
+    (c.in-Some.ensures.bits segment.val) (c.in-Some-mask.ensures.bits segment.ev)) c.args.row.now

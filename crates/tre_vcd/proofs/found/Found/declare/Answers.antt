@@ -2,6 +2,7 @@ use Rattle.std.specs.Option.{is_some}
 use Rattle.tre_vcd.specs.VcdReading.{is_signal, is_event}
 use Rattle.tre_vcd.specs.Kept.{identifier_of, plain_of}
 use Rattle.tre_vcd.proofs.Flagging.{flags-declared, flags-undeclared}
+use Rattle.tre_vcd.proofs.Needing.{offers-found}
 use Rattle.tre_vcd.proofs.found.Found.declare.Goals as goal
 
 pub returns-clause-knows : goal.returns-clause-knows
@@ -18,10 +19,4 @@ returns-clause-knows c = λ past identifier tokens knows declares none.
     }
 
 pub returns-clause-offers : goal.returns-clause-offers
-returns-clause-offers c = λ all past knows. record {
-  same = knows.same;
-  tests = knows.tests;
-  changes = knows.changes;
-  names = knows.names;
-  events = knows.events;
-}
+returns-clause-offers c = λ all past knows. offers-found all past c.args.self.now _ _ knows

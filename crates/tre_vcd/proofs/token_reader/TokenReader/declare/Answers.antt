@@ -1,93 +1,57 @@
-use Rattle.std.proofs.Common.{◌≡◌, ℕ, List, Bool, ◌∷◌, length, map, take, true, false, sym, ap, subst, ◌∙◌, arith}
-use Rattle.std.proofs.lemmas.List.{length-map}
+use Rattle.std.proofs.Common.{◌≡◌, ℕ, List, Bool, ◌∷◌, length, map, true, false, sym, ap, subst, ◌∙◌, arith}
 use Rattle.tre_vcd.specs.VcdReading.{var, path, scopes_at, is_signal, is_event}
 use Rattle.tre_vcd.specs.Kept.{KnowsAll, plain_of}
 use Rattle.tre_vcd.specs.Offers.{KnowOffers}
-use Rattle.tre_vcd.specs.Sections.{asked_of_reader}
-use Rattle.tre_vcd.proofs.Needing.{needed-within, written-back}
-use Rattle.tre_vcd.proofs.Pasts.{knows-within}
-use Rattle.tre_vcd.proofs.Tokens.{declares-kept, declares-longer, declares-none, none-within, kept-at, same-test, signal-no_event}
+use Rattle.tre_vcd.proofs.Needing.{written-back}
+use Rattle.tre_vcd.proofs.Sectioning.{knows-neither}
+use Rattle.tre_vcd.proofs.Tokens.{declares-kept, declares-longer, declares-none, kept-count, kept-tokens, none-within, signal-no_event, test-at, token-at}
 use Rattle.tre_vcd.proofs.token_reader.TokenReader.declare.Goals as goal
 
 pub returns-then-tokens-ne4-clause-knows : goal.returns-then-tokens-ne4-clause-knows
 returns-then-tokens-ne4-clause-knows c = λ past word tokens holds.
-    let reader = c.args.self.now in
-    let all = c.as_slice-tokens.result.now in
-    let kept : map (λ token. token.items) all ≡ take 6 tokens =
-    ap (map (λ token. token.items)) c.as_slice-tokens.ensures.value ∙ holds.tokens in
-    let count : length all ≡ length (take 6 tokens) =
-    sym (length-map all (λ token. token.items)) ∙ ap length kept in
-    let none = declares-none is_signal (scopes_at past) tokens
-    (λ four. absurd (c.if-tokens-ne4.true (count ∙ four))) in
-    let silent = declares-none is_event (scopes_at past) tokens
-    (λ four. absurd (c.if-tokens-ne4.true (count ∙ four))) in (
-      knows-within reader.longest (asked_of_reader reader) reader.past past tokens holds.suits
-          (none-within reader.longest is_signal (scopes_at past) tokens none)
-          (none-within reader.longest is_event (scopes_at past) tokens silent) holds.knows.within.0
-          holds.knows.past,
-      needed-within past reader.longest tokens reader.needed.items
-          (none-within reader.longest is_signal (scopes_at past) tokens none)
-          (none-within reader.longest is_event (scopes_at past) tokens silent) holds.knows.within.1
-          holds.knows.needed,
-    )
+    let count = kept-count _ _ tokens (kept-tokens _ tokens c.as_slice-tokens.ensures.value holds.tokens) in
+    let none = λ (test : List ℕ → List ℕ → Bool).
+    none-within c.args.self.now.longest test (scopes_at past) tokens
+    (declares-none test (scopes_at past) tokens
+    (λ four. absurd (c.if-tokens-ne4.true (count ∙ four)))) in
+    knows-neither c.args.self.now past word tokens holds (none is_signal) (none is_event)
 
 pub returns-then-is_path_longer-clause-knows : goal.returns-then-is_path_longer-clause-knows
 returns-then-is_path_longer-clause-knows c = λ past word tokens holds.
-    let reader = c.args.self.now in
-    let all = c.as_slice-tokens.result.now in
-    let kept : map (λ token. token.items) all ≡ take 6 tokens =
-    ap (map (λ token. token.items)) c.as_slice-tokens.ensures.value ∙ holds.tokens in
-    let count : length all ≡ length (take 6 tokens) =
-    sym (length-map all (λ token. token.items)) ∙ ap length kept in
-    let four : length all ≡ 4 = omega (arith, c.if-tokens-ne4.false) in
-    let fourth = kept-at (λ token. token.items) all (take 6 tokens) 3 c.index-tokens-3.result
-    c.index-tokens-3.result c.as_slice-reference.result.now kept (omega (arith, four))
-    c.index-tokens-3.is c.as_slice-reference.ensures.value in
-    let long = c.is_path_longer.ensures (scopes_at past) holds.knows.past.scopes
-    c.if-is_path_longer.true in
+    let kept = kept-tokens _ tokens c.as_slice-tokens.ensures.value holds.tokens in
+    let four : length c.as_slice-tokens.result.now ≡ 4 = omega (arith, c.if-tokens-ne4.false) in
+    let fourth = token-at _ _ _ 3 (omega arith) kept four c.index-tokens-3.is
+    c.as_slice-reference.ensures.value in
     let longer = λ (test : List ℕ → List ℕ → Bool).
-    declares-longer reader.longest test (scopes_at past) tokens
-    c.as_slice-reference.result.now (sym count ∙ four) fourth long in (
-      knows-within reader.longest (asked_of_reader reader) reader.past past tokens holds.suits
-          (longer is_signal) (longer is_event) holds.knows.within.0 holds.knows.past,
-      needed-within past reader.longest tokens reader.needed.items (longer is_signal)
-          (longer is_event) holds.knows.within.1 holds.knows.needed,
-    )
+    declares-longer c.args.self.now.longest test (scopes_at past) tokens
+    c.as_slice-reference.result.now (sym (kept-count _ _ tokens kept) ∙ four) fourth
+    (c.is_path_longer.ensures (scopes_at past) holds.knows.past.scopes c.if-is_path_longer.true) in
+    knows-neither c.args.self.now past word tokens holds (longer is_signal) (longer is_event)
 
 pub returns-in_ok-declare-clause-knows : goal.returns-in_ok-declare-clause-knows
 returns-in_ok-declare-clause-knows c = λ past word tokens holds.
     let reader = c.args.self.now in
-    let all = c.as_slice-tokens.result.now in
-    let kept : map (λ token. token.items) all ≡ take 6 tokens =
-    ap (map (λ token. token.items)) c.as_slice-tokens.ensures.value ∙ holds.tokens in
-    let count : length all ≡ length (take 6 tokens) =
-    sym (length-map all (λ token. token.items)) ∙ ap length kept in
-    let four : length all ≡ 4 = omega (arith, c.if-tokens-ne4.false) in
-    let first = kept-at (λ token. token.items) all (take 6 tokens) 0 c.index-tokens-0.result
-    c.index-tokens-0.result c.deref.result.now kept (omega (arith, four)) c.index-tokens-0.is
-    c.deref.ensures.value in
-    let second = kept-at (λ token. token.items) all (take 6 tokens) 1 c.index-tokens-1.result
-    c.index-tokens-1.result c.deref-2.result.now kept (omega (arith, four)) c.index-tokens-1.is
-    c.deref-2.ensures.value in
-    let third = kept-at (λ token. token.items) all (take 6 tokens) 2 c.index-tokens-2.result
-    c.index-tokens-2.result c.as_slice-identifier.result.now kept (omega (arith, four)) c.index-tokens-2.is
-    c.as_slice-identifier.ensures.value in
-    let fourth = kept-at (λ token. token.items) all (take 6 tokens) 3 c.index-tokens-3.result
-    c.index-tokens-3.result c.as_slice-reference.result.now kept (omega (arith, four)) c.index-tokens-3.is
-    c.as_slice-reference.ensures.value in
+    let kept = kept-tokens _ tokens c.as_slice-tokens.ensures.value holds.tokens in
+    let four : length c.as_slice-tokens.result.now ≡ 4 = omega (arith, c.if-tokens-ne4.false) in
     let signal = sym c.is_signal.ensures ∙ c.if-is_signal.true in
     let named : c.as_slice-name.result.now ≡ path (scopes_at past) c.as_slice-reference.result.now =
     c.as_slice-name.ensures.value ∙ c.in_ok-path.ensures (scopes_at past) holds.knows.past.scopes in
     let declares =
     declares-kept is_signal (scopes_at past) tokens c.as_slice-identifier.result.now
-    c.as_slice-reference.result.now c.as_slice-name.result.now third fourth named
-    (sym count ∙ four)
-    (same-test is_signal (take 6 tokens) c.deref.result.now c.deref-2.result.now true first second
+    c.as_slice-reference.result.now c.as_slice-name.result.now
+    (token-at _ _ _ 2 (omega arith) kept four c.index-tokens-2.is
+    c.as_slice-identifier.ensures.value)
+    (token-at _ _ _ 3 (omega arith) kept four c.index-tokens-3.is
+    c.as_slice-reference.ensures.value)
+    named (sym (kept-count _ _ tokens kept) ∙ four)
+    (test-at _ _ _ is_signal true kept four c.index-tokens-0.is
+    c.deref.ensures.value c.index-tokens-1.is c.deref-2.ensures.value
     signal) in
     let none =
     declares-none is_event (scopes_at past) tokens
-    (λ _. same-test is_event (take 6 tokens) c.deref.result.now c.deref-2.result.now false first
-    second (signal-no_event c.deref.result.now c.deref-2.result.now signal)) in (
+    (λ _. (test-at _ _ _ is_event false kept four c.index-tokens-0.is
+    c.deref.ensures.value c.index-tokens-1.is c.deref-2.ensures.value
+    (signal-no_event c.deref.result.now c.deref-2.result.now signal))) in (
       c.in_ok-declare.ensures reader.events past tokens holds.knows.past holds.suits declares none,
       written-back (KnowsAll (var tokens ∷ past)) c.declare-then-is_signal.new.all reader.needed.items reader.needed.len
           (omega (arith, c.declare-then-is_signal.auto.all, c.deref_mut.ensures.len))
@@ -98,39 +62,25 @@ returns-in_ok-declare-clause-knows c = λ past word tokens holds.
 pub returns-in_ok-declare_event-clause-knows : goal.returns-in_ok-declare_event-clause-knows
 returns-in_ok-declare_event-clause-knows c = λ past word tokens holds.
     let reader = c.args.self.now in
-    let all = c.as_slice-tokens.result.now in
-    let kept : map (λ token. token.items) all ≡ take 6 tokens =
-    ap (map (λ token. token.items)) c.as_slice-tokens.ensures.value ∙ holds.tokens in
-    let count : length all ≡ length (take 6 tokens) =
-    sym (length-map all (λ token. token.items)) ∙ ap length kept in
-    let four : length all ≡ 4 = omega (arith, c.if-tokens-ne4.false) in
-    let first = kept-at (λ token. token.items) all (take 6 tokens) 0 c.index-tokens-0.result
-    c.index-tokens-0.result c.deref.result.now kept (omega (arith, four)) c.index-tokens-0.is
-    c.deref.ensures.value in
-    let kind = kept-at (λ token. token.items) all (take 6 tokens) 0 c.index-tokens-0-else-is_signal.result
-    c.index-tokens-0-else-is_signal.result c.deref-else-is_signal.result.now kept (omega (arith, four)) c.index-tokens-0-else-is_signal.is
-    c.deref-else-is_signal.ensures.value in
-    let second = kept-at (λ token. token.items) all (take 6 tokens) 1 c.index-tokens-1.result
-    c.index-tokens-1.result c.deref-2.result.now kept (omega (arith, four)) c.index-tokens-1.is
-    c.deref-2.ensures.value in
-    let third = kept-at (λ token. token.items) all (take 6 tokens) 2 c.index-tokens-2.result
-    c.index-tokens-2.result c.as_slice-identifier.result.now kept (omega (arith, four)) c.index-tokens-2.is
-    c.as_slice-identifier.ensures.value in
-    let fourth = kept-at (λ token. token.items) all (take 6 tokens) 3 c.index-tokens-3.result
-    c.index-tokens-3.result c.as_slice-reference.result.now kept (omega (arith, four)) c.index-tokens-3.is
-    c.as_slice-reference.ensures.value in
+    let kept = kept-tokens _ tokens c.as_slice-tokens.ensures.value holds.tokens in
+    let four : length c.as_slice-tokens.result.now ≡ 4 = omega (arith, c.if-tokens-ne4.false) in
     let named : c.as_slice-name-then-is_event.result.now ≡ path (scopes_at past) c.as_slice-reference.result.now =
     c.as_slice-name-then-is_event.ensures.value ∙ c.in_ok-path-2.ensures (scopes_at past) holds.knows.past.scopes in
     let declares =
     declares-kept is_event (scopes_at past) tokens c.as_slice-identifier.result.now
-    c.as_slice-reference.result.now c.as_slice-name-then-is_event.result.now third fourth named
-    (sym count ∙ four)
-    (same-test is_event (take 6 tokens) c.deref-else-is_signal.result.now c.deref-2.result.now true
-    kind second (sym (c.is_event.ensures c.deref-2.result.now) ∙ c.if-is_event.true)) in
-    let none =
-    declares-none is_signal (scopes_at past) tokens
-    (λ _. same-test is_signal (take 6 tokens) c.deref.result.now c.deref-2.result.now false first
-    second (sym c.is_signal.ensures ∙ c.if-is_signal.false)) in (
+    c.as_slice-reference.result.now c.as_slice-name-then-is_event.result.now
+    (token-at _ _ _ 2 (omega arith) kept four c.index-tokens-2.is
+    c.as_slice-identifier.ensures.value)
+    (token-at _ _ _ 3 (omega arith) kept four c.index-tokens-3.is
+    c.as_slice-reference.ensures.value)
+    named (sym (kept-count _ _ tokens kept) ∙ four)
+    (test-at _ _ _ is_event true kept four c.index-tokens-0-else-is_signal.is
+    c.deref-else-is_signal.ensures.value c.index-tokens-1.is c.deref-2.ensures.value
+    (sym (c.is_event.ensures c.deref-2.result.now) ∙ c.if-is_event.true)) in
+    let none = declares-none is_signal (scopes_at past) tokens
+    (λ _. (test-at _ _ _ is_signal false kept four c.index-tokens-0.is
+    c.deref.ensures.value c.index-tokens-1.is c.deref-2.ensures.value
+    (sym c.is_signal.ensures ∙ c.if-is_signal.false))) in (
       c.in_ok-declare_event.ensures reader.names past tokens holds.knows.past holds.suits declares none,
       written-back (KnowsAll (var tokens ∷ past)) c.declare_event-then-is_event.new.all reader.needed.items reader.needed.len
           (omega (arith, c.declare_event-then-is_event.auto.all, c.deref_mut-then-is_event.ensures.len))
@@ -140,38 +90,19 @@ returns-in_ok-declare_event-clause-knows c = λ past word tokens holds.
 
 pub returns-else-is_event-clause-knows : goal.returns-else-is_event-clause-knows
 returns-else-is_event-clause-knows c = λ past word tokens holds.
-    let reader = c.args.self.now in
-    let all = c.as_slice-tokens.result.now in
-    let kept : map (λ token. token.items) all ≡ take 6 tokens =
-    ap (map (λ token. token.items)) c.as_slice-tokens.ensures.value ∙ holds.tokens in
-    let count : length all ≡ length (take 6 tokens) =
-    sym (length-map all (λ token. token.items)) ∙ ap length kept in
-    let four : length all ≡ 4 = omega (arith, c.if-tokens-ne4.false) in
-    let first = kept-at (λ token. token.items) all (take 6 tokens) 0 c.index-tokens-0.result
-    c.index-tokens-0.result c.deref.result.now kept (omega (arith, four)) c.index-tokens-0.is
-    c.deref.ensures.value in
-    let kind = kept-at (λ token. token.items) all (take 6 tokens) 0 c.index-tokens-0-else-is_signal.result
-    c.index-tokens-0-else-is_signal.result c.deref-else-is_signal.result.now kept (omega (arith, four)) c.index-tokens-0-else-is_signal.is
-    c.deref-else-is_signal.ensures.value in
-    let second = kept-at (λ token. token.items) all (take 6 tokens) 1 c.index-tokens-1.result
-    c.index-tokens-1.result c.deref-2.result.now kept (omega (arith, four)) c.index-tokens-1.is
-    c.deref-2.ensures.value in
+    let kept = kept-tokens _ tokens c.as_slice-tokens.ensures.value holds.tokens in
+    let four : length c.as_slice-tokens.result.now ≡ 4 = omega (arith, c.if-tokens-ne4.false) in
     let none = declares-none is_signal (scopes_at past) tokens
-    (λ _. same-test is_signal (take 6 tokens) c.deref.result.now c.deref-2.result.now false first
-    second (sym c.is_signal.ensures ∙ c.if-is_signal.false)) in
+    (λ _. (test-at _ _ _ is_signal false kept four c.index-tokens-0.is
+    c.deref.ensures.value c.index-tokens-1.is c.deref-2.ensures.value
+    (sym c.is_signal.ensures ∙ c.if-is_signal.false))) in
     let silent = declares-none is_event (scopes_at past) tokens
-    (λ _. same-test is_event (take 6 tokens) c.deref-else-is_signal.result.now
-    c.deref-2.result.now false kind second
-    (sym (c.is_event.ensures c.deref-2.result.now) ∙ c.if-is_event.false)) in (
-      knows-within reader.longest (asked_of_reader reader) reader.past past tokens holds.suits
-          (none-within reader.longest is_signal (scopes_at past) tokens none)
-          (none-within reader.longest is_event (scopes_at past) tokens silent) holds.knows.within.0
-          holds.knows.past,
-      needed-within past reader.longest tokens reader.needed.items
-          (none-within reader.longest is_signal (scopes_at past) tokens none)
-          (none-within reader.longest is_event (scopes_at past) tokens silent) holds.knows.within.1
-          holds.knows.needed,
-    )
+    (λ _. (test-at _ _ _ is_event false kept four c.index-tokens-0-else-is_signal.is
+    c.deref-else-is_signal.ensures.value c.index-tokens-1.is c.deref-2.ensures.value
+    (sym (c.is_event.ensures c.deref-2.result.now) ∙ c.if-is_event.false))) in
+    knows-neither c.args.self.now past word tokens holds
+    (none-within c.args.self.now.longest is_signal (scopes_at past) tokens none)
+    (none-within c.args.self.now.longest is_event (scopes_at past) tokens silent)
 
 pub returns-in_ok-declare-clause-offers : goal.returns-in_ok-declare-clause-offers
 returns-in_ok-declare-clause-offers c = λ all past knows.

@@ -1,7 +1,6 @@
-use Rattle.std.proofs.Common.{◌∷◌, [], append-nil, refl, sym, ◌∙◌}
-use Rattle.tre_vcd.specs.VcdReading.{scalar, change, nothing}
-use Rattle.tre_vcd.proofs.Reading.{scalar-says}
-use Rattle.tre_vcd.proofs.Skimming.{holds-changed}
+use Rattle.std.proofs.Common.{◌∷◌, [], refl, sym, ◌∙◌}
+use Rattle.tre_vcd.specs.VcdReading.{scalar}
+use Rattle.tre_vcd.proofs.Skimming.{holds-changed, scalar-taken}
 use Rattle.tre_vcd.proofs.token_reader.TokenReader.skim_scalar.Goals as goal
 
 pub returns-then-may_read-clause-taken : goal.returns-then-may_read-clause-taken
@@ -12,22 +11,12 @@ returns-then-may_read-clause-taken c = λ past letters segments holds defined.
 pub returns-clause-taken : goal.returns-clause-taken
 returns-clause-taken c = λ past letters segments holds defined.
     let reader = c.args.self.now in
-    let identifier = c.args.identifier.now in
-    let letter = c.args.letter in
-    record {
-      stretches = [];
-      added = sym (append-nil _);
-      goes_on = record {
-        state = record {
-          past = change scalar identifier (letter ∷ []) ∷ past;
-          inside = nothing;
-        };
-        says = scalar-says past letter identifier (sym c.is_empty.ensures ∙ c.if-is_empty.false);
-        is_held = holds-changed reader past scalar identifier (letter ∷ [])
-            c.change_scalar.new.self reader.signals
-            (c.change_scalar.ensures.knows reader.names reader.events past holds.knows.past defined
-            (letter ∷ []) refl)
-            (c.may_read.ensures c.if-may_read.false reader.names reader.events past scalar
-            (letter ∷ []) defined holds.knows.signals) refl holds;
-      };
-    }
+    let letter = c.args.letter ∷ [] in
+    scalar-taken past c.args.letter c.args.identifier.now segments
+    (sym c.is_empty.ensures ∙ c.if-is_empty.false)
+    (holds-changed reader past scalar c.args.identifier.now letter c.change_scalar.new.self
+    reader.signals
+    (c.change_scalar.ensures.knows reader.names reader.events past holds.knows.past defined letter
+    refl)
+    (c.may_read.ensures c.if-may_read.false reader.names reader.events past scalar letter defined
+    holds.knows.signals) refl holds)

@@ -1,0 +1,19 @@
+use Rattle.tre_zone.proofs.ZoneListLemmas.{AreCanonical-tight}
+use Rattle.tre_edges.specs.RunSets.{zones_of}
+use Rattle.tre_edges.proofs.RunSets.{are_set, later}
+use Rattle.tre_edges.proofs.run_sets.RunSet.len.Goals as goal
+
+pub returns-clause-set : goal.returns-clause-set
+returns-clause-set c =
+    let set = c.args.self.now in
+    are_set set.edges set.runs.items set.timed
+
+pub returns-clause-tight : goal.returns-clause-tight
+returns-clause-tight c =
+    let set = c.args.self.now in
+    AreCanonical-tight (zones_of set) (are_set set.edges set.runs.items set.timed).canonical
+
+pub returns-clause-order : goal.returns-clause-order
+returns-clause-order c =
+    let set = c.args.self.now in
+    later set.edges set.runs.items set.timed

@@ -1,0 +1,77 @@
+-- A zone composed with those of a list, of which only those are looked at whose rows reach a key.
+use Rattle.std.proofs.Common.{ℕ, ◌<◌, ◌≤◌, ◌↔◌, ℤ, List, Option}
+use Rattle.tre_lanes.specs.Rows.{Reaches}
+use Rattle.tre_pairs.specs.Pairs.{Pairs, Composed, Lasting}
+use Rattle.tre_zone.specs.Longest.{LastsUpTo}
+use Rattle.tre_zone.specs.Zone.{ZoneHolds, IsCanonical, HasNoPair, GivesZone, row_of}
+use Rattle.tre_zone.specs.ZoneList.{AreCanonical}
+use Rattle.tre_zone.specs.declared.zone_bounds.ZoneBounds.{ZoneBounds}
+use Rattle.tre_zoneset.specs.ZoneSet.{FoundHolds}
+use Rattle.tre_zoneset.proofs.Searching.{IsKeyOf, IsKeyOf-canonical}
+use Rattle.tre_zoneset.proofs.Unions.{IsAdditive, FoundHolds-exact}
+use Rattle.tre_star.proofs.Composing.{Composed-additive_left, Composed-additive_right}
+use Rattle.tre_star.proofs.Short.{short_additive, Lasting-exact, HasNoPair-short}
+
+-- What F makes of the pairs of a list, as far as it lasts at most the longest.
+module _ (longest : Option ℕ) (F : Pairs → Pairs) where
+  short_key : (zones : List ZoneBounds) (key : List ℤ) → AreCanonical zones
+      → ((other : ZoneBounds) → IsCanonical other → (Reaches (row_of other) key → ⊥)
+      → HasNoPair (F (ZoneHolds other)))
+      → IsKeyOf (λ R. Lasting (LastsUpTo longest) (F R)) zones key
+  short_key zones key canonical others =
+      IsKeyOf-canonical (λ R. Lasting (LastsUpTo longest) (F R)) zones key canonical
+      (λ other is far. HasNoPair-short (LastsUpTo longest) (F (ZoneHolds other))
+      (others other is far))
+
+  short_found : (zone : ZoneBounds) (found : Option ZoneBounds)
+      → GivesZone found (F (ZoneHolds zone)) → (a b n : ℕ) → 0 < n → a ≤ b
+      → Lasting (LastsUpTo longest) (FoundHolds found) a b n
+      ↔ Lasting (LastsUpTo longest) (F (ZoneHolds zone)) a b n
+  short_found zone found given =
+      Lasting-exact (LastsUpTo longest) (FoundHolds found) (F (ZoneHolds zone))
+      (FoundHolds-exact found (F (ZoneHolds zone)) given)
+
+-- The zone, and then what is given, as far as it lasts at most the longest.
+abbrev pub After : Option ℕ → ZoneBounds → Pairs → Pairs
+After longest zone = λ (R : Pairs). Lasting (LastsUpTo longest) (Composed (ZoneHolds zone) R)
+
+-- What is given, and then the zone.
+abbrev pub Before : Option ℕ → ZoneBounds → Pairs → Pairs
+Before longest zone = λ (R : Pairs). Lasting (LastsUpTo longest) (Composed R (ZoneHolds zone))
+
+module _ (longest : Option ℕ) (zone : ZoneBounds) where
+  pub After-additive : IsAdditive (After longest zone)
+  After-additive =
+      short_additive (LastsUpTo longest) (Composed (ZoneHolds zone))
+      (Composed-additive_right (ZoneHolds zone))
+
+  pub Before-additive : IsAdditive (Before longest zone)
+  Before-additive =
+      short_additive (LastsUpTo longest) (λ (R : Pairs). Composed R (ZoneHolds zone))
+      (Composed-additive_left (ZoneHolds zone))
+
+  pub After-key : (zones : List ZoneBounds) (key : List ℤ) → AreCanonical zones
+      → ((other : ZoneBounds) → IsCanonical other → (Reaches (row_of other) key → ⊥)
+      → HasNoPair (Composed (ZoneHolds zone) (ZoneHolds other)))
+      → IsKeyOf (After longest zone) zones key
+  After-key = short_key longest (Composed (ZoneHolds zone))
+
+  pub Before-key : (zones : List ZoneBounds) (key : List ℤ) → AreCanonical zones
+      → ((other : ZoneBounds) → IsCanonical other → (Reaches (row_of other) key → ⊥)
+      → HasNoPair (Composed (ZoneHolds other) (ZoneHolds zone)))
+      → IsKeyOf (Before longest zone) zones key
+  Before-key = short_key longest (λ (R : Pairs). Composed R (ZoneHolds zone))
+
+  pub After-found : (next : ZoneBounds) (found : Option ZoneBounds)
+      → GivesZone found (Composed (ZoneHolds zone) (ZoneHolds next))
+      → (a b n : ℕ) → 0 < n → a ≤ b
+      → Lasting (LastsUpTo longest) (FoundHolds found) a b n
+      ↔ After longest zone (ZoneHolds next) a b n
+  After-found = short_found longest (Composed (ZoneHolds zone))
+
+  pub Before-found : (next : ZoneBounds) (found : Option ZoneBounds)
+      → GivesZone found (Composed (ZoneHolds next) (ZoneHolds zone))
+      → (a b n : ℕ) → 0 < n → a ≤ b
+      → Lasting (LastsUpTo longest) (FoundHolds found) a b n
+      ↔ Before longest zone (ZoneHolds next) a b n
+  Before-found = short_found longest (λ (R : Pairs). Composed R (ZoneHolds zone))
