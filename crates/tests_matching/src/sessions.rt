@@ -62,19 +62,18 @@ fn keeps_always(session: &mut Session, vals: [u64; 2], turns: u16, nodes: u64) -
 }
 
 /// A pattern, what holds on ticks in turn, how many turns there are, and how many nodes are kept
-/// before the first tick and after each of them.
+/// before the first tick and after each of them: one for each form, whether or not it has begun.
 struct Kept {
     text: &'static str,
     vals: [u64; 2],
     turns: u16,
-    first: u64,
     nodes: u64,
 }
 
 fn is_small(alloc: Global, row: &Kept) -> Result<bool, Fail> {
     let mut session = session(alloc, row.text)?;
     Ok(
-        session.kept_nodes() == row.first
+        session.kept_nodes() == row.nodes
             && keeps_always(&mut session, row.vals, row.turns, row.nodes),
     )
 }
@@ -84,29 +83,24 @@ const KEPT: [Kept; 4] = [
         text: "(p;q)*",
         vals: [1, 2],
         turns: 500,
-        first: 4,
         nodes: 4,
     },
     Kept {
         text: "p % [0,3]",
         vals: [1, 1],
         turns: 50,
-        first: 1,
         nodes: 2,
     },
     Kept {
         text: "p & p",
         vals: [1, 1],
         turns: 50,
-        first: 1,
         nodes: 3,
     },
-    // A node for each form, whether or not it has begun.
     Kept {
         text: "p;q",
         vals: [1, 2],
         turns: 1,
-        first: 3,
         nodes: 3,
     },
 ];
