@@ -1,8 +1,9 @@
 -- What is said of the events of segments.
-use Rattle.std.proofs.Common.{◌≡◌, ◌≢◌, ℕ, zero, suc, ◌+◌, ◌-◌, ◌/◌, ◌%◌, max, nat_eq, ◌≤◌, ◌<◌, Bool, true, false, inl, inr, List, [], ◌∷◌, ◌++◌, length, replicate, get_or, refl, sym, ap, ◌∙◌, arith, if◌then◌else◌}
+use Rattle.std.proofs.Common.{◌≡◌, ◌≢◌, ℕ, zero, suc, ◌+◌, ◌-◌, ◌/◌, ◌%◌, bit_or, max, nat_eq, ◌≤◌, ◌<◌, Bool, true, false, inl, inr, List, [], ◌∷◌, ◌++◌, length, replicate, get_or, refl, sym, ap, ◌∙◌, arith, if◌then◌else◌}
 use Rattle.std.proofs.lemmas.Bool.{cases_eq}
 use Rattle.std.proofs.lemmas.Bool.Decides.{nat_tests}
 use Rattle.std.proofs.lemmas.List.Elements.{All-nil, All-cons}
+use Rattle.std.proofs.lemmas.Nat.{le_or_l, le_or_r}
 use Rattle.std.proofs.lemmas.Nat.Bits.{bit_at-zero}
 use Rattle.std.specs.Int.{bit_at}
 use Rattle.std.specs.Prelude.{All}
@@ -229,3 +230,14 @@ unwritten words place bit small unset = record {
   there = omega (arith, small, unset);
   others = λ other apart. refl;
 }
+
+-- One more segment at whose begin nothing happens leaves the list of what is said empty.
+pub quiet-more : (segments : List Segment) (segment : Segment) (events : ℕ)
+    → (events ≡ 0 → (place : ℕ) → said_from place segments ≡ [])
+    → bit_or events segment.ev ≡ 0 → (place : ℕ)
+    → said_from place (segments ++ segment ∷ []) ≡ []
+quiet-more segments segment events quiet none place =
+    let before = quiet (omega (arith, none, le_or_l events segment.ev)) place in
+    let last = said-none (place + length segments) segment []
+    (omega (arith, none, le_or_r events segment.ev)) in
+    rw (said_from-append place segments (segment ∷ []), before) last

@@ -9,6 +9,7 @@ use tre_zone::Zone;
 use tre_zoneset::gather;
 
 // Adds the pairs of the zone that was found that last at most `longest`, if there are any.
+#[inline(always)]
 pub(crate) fn gather_up_to(
     found: &mut Vec<Zone>,
     zone: Option<Zone>,

@@ -112,9 +112,8 @@ impl Names {
         self.find_among(numbers, bytes)
     }
 
-    // The number of the name that has these bytes, which is among `numbers` if it is held. Not
-    // inlined: most words that are looked for are the value of a line, and no name's.
-    #[inline(never)]
+    // The number of the name that has these bytes, which is among `numbers` if it is held.
+    #[inline(always)]
     fn find_among(&self, numbers: u64, bytes: &[u8]) -> Option<u8>
         requires among { (k : ℕ) → slice_get self.now k ≡ Some bytes.now → bit_at numbers k ≡ 1 }
         requires list { IsNameList self.now }
