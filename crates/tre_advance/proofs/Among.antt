@@ -7,7 +7,7 @@ use Rattle.tre_zone.specs.declared.zone_bounds.ZoneBounds.{ZoneBounds}
 use Rattle.tre_zone.proofs.HeldSets.{Held-empty}
 use Rattle.tre_zoneset.proofs.Members.{SetHolds-more}
 use Rattle.tre_zoneset.proofs.Unions.{SetHolds-included}
-use Rattle.tre_advance.specs.Moves.{AreAmong, AreInstants}
+use Rattle.tre_advance.specs.Moves.{AreAmong, HoldInstants}
 
 module _ (others : List ZoneBounds) where
   pub among_none : AreAmong [] others
@@ -30,12 +30,12 @@ module _ (others : List ZoneBounds) where
   among_all zones i all old =
       subst (λ (list : List ZoneBounds). AreAmong list others) (take_all i zones all) old
 
-pub instants_none : AreInstants []
+pub instants_none : HoldInstants []
 instants_none = record { same = λ a b n some h. absurd (Held-empty a b n h) }
 
 pub instants_more : (zones : List ZoneBounds) (i : ℕ) (zone : ZoneBounds) → i < length zones
-    → zone ≡ get_or zones i zone → AreInstants (take i zones) → AllLastUpTo (Some 0) zone
-    → AreInstants (take (i + 1) zones)
+    → zone ≡ get_or zones i zone → HoldInstants (take i zones) → AllLastUpTo (Some 0) zone
+    → HoldInstants (take (i + 1) zones)
 instants_more zones i zone below is old short = record {
   same = λ a b n some h. ⊎_elim
       (λ x. old.same a b n some (record { rising = h.rising; held = x }))
@@ -47,6 +47,6 @@ instants_more zones i zone below is old short = record {
 }
 
 pub instants_all : (zones : List ZoneBounds) (i : ℕ) → length zones ≤ i
-    → AreInstants (take i zones) → AreInstants zones
+    → HoldInstants (take i zones) → HoldInstants zones
 instants_all zones i all old =
-    subst (λ (list : List ZoneBounds). AreInstants list) (take_all i zones all) old
+    subst (λ (list : List ZoneBounds). HoldInstants list) (take_all i zones all) old

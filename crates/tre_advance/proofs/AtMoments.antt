@@ -17,7 +17,7 @@ use Rattle.tre_zone.proofs.ZoneKeys.{zones_same}
 use Rattle.tre_compose.specs.Composition.{Touch, joined_of, composed_of}
 use Rattle.tre_compose.proofs.Joined.{composed-canonical}
 use Rattle.tre_compose.proofs.Midpoints.{touch-exact}
-use Rattle.tre_advance.specs.Moments.{AreMomentsBefore, MeetAtMoment, AreBeside, followed_at, ending_with}
+use Rattle.tre_advance.specs.Moments.{AreMomentsBefore, MeetAtMoment, LeaveNoGap, followed_at, ending_with}
 
 -- ---- sums
 
@@ -381,7 +381,7 @@ other_met key other p q n not met = by_lt_z key other
     (λ lt. subst (λ (t : ℤ). Meets t p q n) (max_second key other (omega (arith, ints))) met)
     (λ le. absurd (not (subst (λ (t : ℤ). Meets t p q n) (max_first key other le) met)))
 
-module _ (x y : ZoneBounds) (c : IsCanonical x) (d : IsCanonical y) (beside : AreBeside x y) where
+module _ (x y : ZoneBounds) (c : IsCanonical x) (d : IsCanonical y) (beside : LeaveNoGap x y) where
   pub joined_canonical : IsCanonical (looser_of x y)
   joined_canonical = looser-canonical x y c d
 

@@ -21,7 +21,7 @@ use Rattle.tre_edges.specs.declared.piece.Piece.{Piece}
 use Rattle.tre_syntax.specs.PatternTree.{PatternTree, intersection, restriction}
 use Rattle.tre_mark.specs.MarkTree.{MarkTree, intersection_of, restriction_of}
 use Rattle.tre_mark.proofs.Agreeing.{agree_then}
-use Rattle.tre_advance.specs.Adds.{Adds}
+use Rattle.tre_advance.specs.AddsZones.{AddsZones}
 use Rattle.tre_advance.specs.Moves.{AreAmong}
 use Rattle.tre_advance.specs.Advance.{Advances}
 use Rattle.tre_advance.proofs.FoundSets.{holds_alone}
@@ -97,7 +97,7 @@ advances_told told told' same h = record {
 
 -- What is put behind an empty list is all of it.
 pub adds_alone : (old new : List ZoneBounds) (P : List ZoneBounds → Type 0) → old ≡ []
-    → Adds old new P → P new
+    → AddsZones old new P → P new
 adds_alone old new P none h =
     subst P (sym (h.is ∙ ap (λ list. list ++ h.added) none)) h.what
 
@@ -115,16 +115,16 @@ held_append one other = record {
 
 -- One after the other.
 pub adds_then : {old mid new : List ZoneBounds} {P Q R : List ZoneBounds → Type 0}
-    → Adds old mid P → Adds mid new Q
-    → ((x y : List ZoneBounds) → P x → Q y → R (x ++ y)) → Adds old new R
+    → AddsZones old mid P → AddsZones mid new Q
+    → ((x y : List ZoneBounds) → P x → Q y → R (x ++ y)) → AddsZones old new R
 adds_then {old} f g both = record {
   added = f.added ++ g.added;
   is = g.is ∙ ap (λ list. list ++ g.added) f.is ∙ append_assoc old f.added g.added;
   what = both f.added g.added f.what g.what;
 }
 
-pub adds_weaker : {old new : List ZoneBounds} {P Q : List ZoneBounds → Type 0} → Adds old new P
-    → ((x : List ZoneBounds) → P x → Q x) → Adds old new Q
+pub adds_weaker : {old new : List ZoneBounds} {P Q : List ZoneBounds → Type 0} → AddsZones old new P
+    → ((x : List ZoneBounds) → P x → Q x) → AddsZones old new Q
 adds_weaker f weaker = record { added = f.added; is = f.is; what = weaker f.added f.what }
 
 -- Where the zones are among those that were there, nothing is put.

@@ -26,7 +26,7 @@ use Rattle.tre_mark.specs.Marked.{IsOpen, AnyDuration, Marked, EndBetween}
 use Rattle.tre_mark.proofs.Agreeing.{agree_refl, agree_sym, agree_then, agree_composed, agree_either}
 use Rattle.tre_advance.specs.Advance.{before_piece, with_piece, Advances}
 use Rattle.tre_advance.specs.Instances.{IsRestriction, IsIntersection, LeavesRestriction, LeavesIntersection}
-use Rattle.tre_advance.specs.Moves.{AreMomentsFor, AreInstants}
+use Rattle.tre_advance.specs.Moves.{AreMomentsFor, HoldInstants}
 use Rattle.tre_advance.proofs.Crossings.{agree_crossing}
 use Rattle.tre_advance.proofs.Going.{over, alone, behind}
 use Rattle.tre_advance.proofs.InstanceSteps.{cross_outer, later_ends, union_ends}
@@ -56,7 +56,7 @@ all_served piece enter all between held = record {
 
 -- And instants that enter serve themselves.
 pub instants_serve : (piece : Piece) (enter : List ZoneBounds)
-    → EndBetween piece.begin (end_of_piece piece) enter → AreInstants enter
+    → EndBetween piece.begin (end_of_piece piece) enter → HoldInstants enter
     → AreMomentsFor enter piece enter
 instants_serve piece enter between are = record {
   only = λ a b n some h.

@@ -49,7 +49,7 @@ pub record EndTogether (one other : ZoneBounds) : Type 0 where
   pub moment : sum_of one.end_low one.end_high ≡ pos 1
 
 -- And there is no gap between their begins.
-pub record AreBeside (one other : ZoneBounds) : Type 0 where
+pub record LeaveNoGap (one other : ZoneBounds) : Type 0 where
   pub ends : EndTogether one other
   pub first : pos 1 ≤ℤ (one.begin_high +ℤ other.begin_low)
   pub last : pos 1 ≤ℤ (other.begin_high +ℤ one.begin_low)

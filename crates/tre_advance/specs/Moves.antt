@@ -40,7 +40,7 @@ pub record AreAmong (zones others : List ZoneBounds) : Type 0 where
   pub each : (a b n : ℕ) → 0 < n → Held zones a b n → Held others a b n
 
 -- Each pair of the zones is an instant.
-pub record AreInstants (zones : List ZoneBounds) : Type 0 where
+pub record HoldInstants (zones : List ZoneBounds) : Type 0 where
   pub same : (a b n : ℕ) → 0 < n → Held zones a b n → a ≡ b
 
 -- The expression is an atom that lasts no time, or a literal.

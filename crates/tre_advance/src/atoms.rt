@@ -8,7 +8,7 @@ ghost use Rattle.tre_mark.specs.MarkTree.{atom_mark};
 ghost use Rattle.tre_mark.specs.Marked.{EndBetween, IsWellAt};
 ghost use Rattle.tre_edges.specs.Piece.{end_of_piece, rest_of_piece};
 ghost use Rattle.tre_zone.specs.Zone.{GivesZone};
-ghost use Rattle.tre_advance.specs.Adds.{Adds};
+ghost use Rattle.tre_advance.specs.AddsZones.{AddsZones};
 ghost use Rattle.tre_advance.specs.Advance.{Advances};
 ghost use Rattle.tre_advance.specs.Moves.{TellsAtom, HoldsOnOver, IsBriefTree, IsLiteralTree};
 
@@ -36,7 +36,7 @@ pub fn advance_brief(
     requires well { IsWellAt piece.now.begin (atom_mark here.old.items begun.now)
         (tree_of expr.now) }
     requires enter { EndBetween piece.now.begin (end_of_piece piece.now) entering.now }
-    ensures { OnOk result (Adds told.old.items told.new.items (λ added.
+    ensures { OnOk result (AddsZones told.old.items told.new.items (λ added.
         Advances (atom_mark here.old.items begun.now) (tree_of expr.now) entering.now piece.now
         added (atom_mark here.new.items begun.now))) }
 {
@@ -67,7 +67,7 @@ pub fn advance_literal(
     requires well { IsWellAt piece.now.begin (atom_mark here.old.items begun.old.items)
         (tree_of expr.now) }
     requires enter { EndBetween piece.now.begin (end_of_piece piece.now) entering.now }
-    ensures { OnOk result (Adds told.old.items told.new.items (λ added.
+    ensures { OnOk result (AddsZones told.old.items told.new.items (λ added.
         Advances (atom_mark here.old.items begun.old.items) (tree_of expr.now) entering.now
         piece.now added (atom_mark here.new.items begun.new.items))) }
 {
@@ -150,7 +150,7 @@ pub fn inside_of(expr: &Expr, piece: &Piece) -> Option<Zone>
     }
 }
 
-// Adds what has begun, which holds on over the piece, and the pairs that are here or enter, each
+// AddsZones what has begun, which holds on over the piece, and the pairs that are here or enter, each
 // followed by one of the zone.
 #[inline(always)]
 fn gather_all(

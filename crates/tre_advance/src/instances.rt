@@ -11,10 +11,10 @@ ghost use Rattle.tre_zone.specs.declared.zone_bounds.ZoneBounds.{ZoneBounds};
 ghost use Rattle.tre_edges.specs.Piece.{end_of_piece};
 ghost use Rattle.tre_mark.specs.MarkTree.{MarkTree, mark_of, intersection_of, restriction_of};
 ghost use Rattle.tre_mark.specs.Marked.{EndBetween, IsRecent, IsShort, IsWellAt, IsUnbegun};
-ghost use Rattle.tre_advance.specs.Adds.{Adds};
+ghost use Rattle.tre_advance.specs.AddsZones.{AddsZones};
 ghost use Rattle.tre_advance.specs.Advance.{Advances};
 ghost use Rattle.tre_advance.specs.Instances.{IsRestriction, IsIntersection, LeavesRestriction, LeavesIntersection};
-ghost use Rattle.tre_advance.specs.Moves.{AreMomentsFor, AreInstants};
+ghost use Rattle.tre_advance.specs.Moves.{AreMomentsFor, HoldInstants};
 
 use crate::shortening::{keep_recent, shorten};
 use crate::vectors::{gather_meets, is_none, put_behind, put_each, unite};
@@ -87,7 +87,7 @@ pub fn moments_for(
 
 #[inline(always)]
 fn are_instants(zones: &[Zone]) -> bool
-    ensures { IsTrue result → AreInstants zones.now }
+    ensures { IsTrue result → HoldInstants zones.now }
 {
     for zone in zones {
         if !zone.is_up_to(Some(0)) {
@@ -194,7 +194,7 @@ pub fn go_on_lasting(
         (one mark : MarkTree) → AreMomentsFor entering.now piece.now moments
         → Advances one tree moments piece.now room.old.mid.items (mark_of inner.old)
         → IsRestriction tree interval.now outer.old.items one mark
-        → Adds told.old.items told.new.items (λ added. Advances mark
+        → AddsZones told.old.items told.new.items (λ added. Advances mark
         (restriction tree interval.now) entering.now piece.now added
         (restriction_of to.new outer.new.items (mark_of inner.new)))) }
 {
@@ -219,7 +219,7 @@ fn tell_lasting(outer: &[Zone], room: &mut Room, interval: &Interval) -> Result<
     put_each(&mut room.mid, outer, &room.aux)
 }
 
-/// Adds the pairs of the zones whose duration is in the interval.
+/// AddsZones the pairs of the zones whose duration is in the interval.
 #[inline(always)]
 pub fn gather_within(
     found: &mut Vec<Zone>,
@@ -335,7 +335,7 @@ pub fn go_on_both(
         → Advances old left moments piece.now room.old.mid.items (mark_of one.now)
         → Advances old' right moments piece.now room.old.more.items (mark_of other.now)
         → IsIntersection left right outer.old.items old old' mark
-        → Adds told.old.items told.new.items (λ added. Advances mark
+        → AddsZones told.old.items told.new.items (λ added. Advances mark
         (intersection left right) entering.now piece.now added
         (intersection_of to.new outer.new.items (mark_of one.now) (mark_of other.now)))) }
 {

@@ -7,7 +7,7 @@ ghost use Rattle.tre_zone.specs.Beyond.{looser_of};
 ghost use Rattle.tre_pairs.specs.Pairs.{Composed, Either, Both};
 ghost use Rattle.tre_pairs.specs.declared.TheConstants.{TIME_MAX};
 ghost use Rattle.tre_zone.specs.Zone.{ZoneHolds, EndsAt, GivesZone, IsZoneOf, AreKeysWithin};
-ghost use Rattle.tre_advance.specs.Moments.{AreMomentsBefore, MeetAtMoment, EndTogether, AreBeside, followed_at, ending_with};
+ghost use Rattle.tre_advance.specs.Moments.{AreMomentsBefore, MeetAtMoment, EndTogether, LeaveNoGap, followed_at, ending_with};
 
 use tre_compose::compose;
 use tre_zone::{Bound, Zone, ZoneBounds};
@@ -131,7 +131,7 @@ pub fn joined(one: &Zone, other: &Zone) -> Option<Zone>
 fn are_beside(one: &ZoneBounds, other: &ZoneBounds) -> bool
     requires one { AreKeysWithin (2 ^ 42) one.now }
     requires other { AreKeysWithin (2 ^ 42) other.now }
-    ensures { IsTrue result → AreBeside one.now other.now }
+    ensures { IsTrue result → LeaveNoGap one.now other.now }
 {
     if !end_together(one, other) {
         return false;

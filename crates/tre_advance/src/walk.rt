@@ -8,7 +8,7 @@ ghost use Rattle.tre_mark.specs.MarkTree.{mark_of, repetition_mark, intersection
 ghost use Rattle.tre_zone.specs.Held.{EndAt};
 ghost use Rattle.tre_mark.specs.Marked.{EndBetween, IsWellAt};
 ghost use Rattle.tre_edges.specs.Piece.{end_of_piece};
-ghost use Rattle.tre_advance.specs.Adds.{Adds};
+ghost use Rattle.tre_advance.specs.AddsZones.{AddsZones};
 ghost use Rattle.tre_advance.specs.Advance.{Advances};
 ghost use Rattle.tre_advance.specs.Moves.{IsBriefTree, IsLiteralTree, IsRepetitionTree};
 
@@ -40,7 +40,7 @@ pub fn advance(
     requires numbers { NumbersBelow NAMES_MAX (tree_of expr.now) }
     requires well { IsWellAt piece.now.begin (mark_of mark.old) (tree_of expr.now) }
     requires enter { EndBetween piece.now.begin (end_of_piece piece.now) entering.now }
-    ensures { OnOk result (Adds told.old.items told.new.items (λ added.
+    ensures { OnOk result (AddsZones told.old.items told.new.items (λ added.
         Advances (mark_of mark.old) (tree_of expr.now) entering.now piece.now added
         (mark_of mark.new))) }
 {
@@ -76,7 +76,7 @@ fn advance_atom(
     requires atom { IsBriefTree (tree_of expr.now) ⊎ IsLiteralTree (tree_of expr.now) }
     requires well { IsWellAt piece.now.begin (mark_of mark.old) (tree_of expr.now) }
     requires enter { EndBetween piece.now.begin (end_of_piece piece.now) entering.now }
-    ensures { OnOk result (Adds told.old.items told.new.items (λ added.
+    ensures { OnOk result (AddsZones told.old.items told.new.items (λ added.
         Advances (mark_of mark.old) (tree_of expr.now) entering.now piece.now added
         (mark_of mark.new))) }
 {
@@ -114,7 +114,7 @@ fn advance_sequence(
     requires well { IsWellAt piece.now.begin (mark_of mark.old)
         (sequence (tree_of left.now) (tree_of right.now)) }
     requires enter { EndBetween piece.now.begin (end_of_piece piece.now) entering.now }
-    ensures { OnOk result (Adds told.old.items told.new.items (λ added.
+    ensures { OnOk result (AddsZones told.old.items told.new.items (λ added.
         Advances (mark_of mark.old) (sequence (tree_of left.now) (tree_of right.now)) entering.now
         piece.now added (mark_of mark.new))) }
 {
@@ -148,7 +148,7 @@ fn advance_alternation(
     requires well { IsWellAt piece.now.begin (mark_of mark.old)
         (alternation (tree_of left.now) (tree_of right.now)) }
     requires enter { EndBetween piece.now.begin (end_of_piece piece.now) entering.now }
-    ensures { OnOk result (Adds told.old.items told.new.items (λ added.
+    ensures { OnOk result (AddsZones told.old.items told.new.items (λ added.
         Advances (mark_of mark.old) (alternation (tree_of left.now) (tree_of right.now))
         entering.now piece.now added (mark_of mark.new))) }
 {
@@ -173,7 +173,7 @@ fn advance_repetition(
     requires numbers { NumbersBelow NAMES_MAX (repetition (tree_of body.now)) }
     requires well { IsWellAt piece.now.begin (mark_of mark.old) (repetition (tree_of body.now)) }
     requires enter { EndBetween piece.now.begin (end_of_piece piece.now) entering.now }
-    ensures { OnOk result (Adds told.old.items told.new.items (λ added.
+    ensures { OnOk result (AddsZones told.old.items told.new.items (λ added.
         Advances (mark_of mark.old) (repetition (tree_of body.now)) entering.now piece.now added
         (mark_of mark.new))) }
 {
@@ -203,7 +203,7 @@ fn advance_star(
     requires well { IsWellAt piece.now.begin (mark_of inner.old) (tree_of body.now) }
     requires ends { EndAt piece.now.begin here.old.items }
     requires enter { EndBetween piece.now.begin (end_of_piece piece.now) entering.now }
-    ensures { OnOk result (Adds told.old.items told.new.items (λ added.
+    ensures { OnOk result (AddsZones told.old.items told.new.items (λ added.
         Advances (repetition_mark here.old.items (mark_of inner.old))
         (repetition (tree_of body.now)) entering.now piece.now added
         (repetition_mark here.new.items (mark_of inner.new)))) }
@@ -247,7 +247,7 @@ fn advance_optional(
         (alternation (tree_of first.now) (atom empty)) }
     requires ends { EndAt piece.now.begin here.old.items }
     requires enter { EndBetween piece.now.begin (end_of_piece piece.now) entering.now }
-    ensures { OnOk result (Adds told.old.items told.new.items (λ added.
+    ensures { OnOk result (AddsZones told.old.items told.new.items (λ added.
         Advances (repetition_mark here.old.items (mark_of inner.old))
         (repetition (alternation (tree_of first.now) (atom empty))) entering.now piece.now added
         (repetition_mark here.new.items (mark_of inner.new)))) }
@@ -278,7 +278,7 @@ fn advance_nested(
     requires well { IsWellAt piece.now.begin (mark_of inner.old) (tree_of body.now) }
     requires ends { EndAt piece.now.begin here.old.items }
     requires enter { EndBetween piece.now.begin (end_of_piece piece.now) entering.now }
-    ensures { OnOk result (Adds told.old.items told.new.items (λ added.
+    ensures { OnOk result (AddsZones told.old.items told.new.items (λ added.
         Advances (repetition_mark here.old.items (mark_of inner.old))
         (repetition (tree_of body.now)) entering.now piece.now added
         (repetition_mark here.new.items (mark_of inner.new)))) }
@@ -306,7 +306,7 @@ fn advance_body(
     requires well { IsWellAt piece.now.begin (mark_of inner.old) (tree_of body.now) }
     requires ends { EndAt piece.now.begin here.old.items }
     requires enter { EndBetween piece.now.begin (end_of_piece piece.now) entering.now }
-    ensures { OnOk result (Adds told.old.items told.new.items (λ added.
+    ensures { OnOk result (AddsZones told.old.items told.new.items (λ added.
         Advances (repetition_mark here.old.items (mark_of inner.old))
         (repetition (tree_of body.now)) entering.now piece.now added
         (repetition_mark here.new.items (mark_of inner.new)))) }
@@ -339,7 +339,7 @@ fn advance_restriction(
     requires well { IsWellAt piece.now.begin (mark_of mark.old)
         (restriction (tree_of body.now) interval.now) }
     requires enter { EndBetween piece.now.begin (end_of_piece piece.now) entering.now }
-    ensures { OnOk result (Adds told.old.items told.new.items (λ added.
+    ensures { OnOk result (AddsZones told.old.items told.new.items (λ added.
         Advances (mark_of mark.old) (restriction (tree_of body.now) interval.now) entering.now
         piece.now added (mark_of mark.new))) }
 {
@@ -375,7 +375,7 @@ fn advance_lasting(
         (restriction_of to.old outer.old.items (mark_of inner.old))
         (restriction (tree_of body.now) interval.now) }
     requires enter { EndBetween piece.now.begin (end_of_piece piece.now) entering.now }
-    ensures { OnOk result (Adds told.old.items told.new.items (λ added.
+    ensures { OnOk result (AddsZones told.old.items told.new.items (λ added.
         Advances (restriction_of to.old outer.old.items (mark_of inner.old))
         (restriction (tree_of body.now) interval.now) entering.now piece.now added
         (restriction_of to.new outer.new.items (mark_of inner.new)))) }
@@ -407,7 +407,7 @@ fn advance_intersection(
     requires well { IsWellAt piece.now.begin (mark_of mark.old)
         (intersection (tree_of left.now) (tree_of right.now)) }
     requires enter { EndBetween piece.now.begin (end_of_piece piece.now) entering.now }
-    ensures { OnOk result (Adds told.old.items told.new.items (λ added.
+    ensures { OnOk result (AddsZones told.old.items told.new.items (λ added.
         Advances (mark_of mark.old) (intersection (tree_of left.now) (tree_of right.now))
         entering.now piece.now added (mark_of mark.new))) }
 {
@@ -446,7 +446,7 @@ fn advance_both(
         (intersection_of to.old outer.old.items (mark_of one.old) (mark_of other.old))
         (intersection (tree_of left.now) (tree_of right.now)) }
     requires enter { EndBetween piece.now.begin (end_of_piece piece.now) entering.now }
-    ensures { OnOk result (Adds told.old.items told.new.items (λ added.
+    ensures { OnOk result (AddsZones told.old.items told.new.items (λ added.
         Advances (intersection_of to.old outer.old.items (mark_of one.old) (mark_of other.old))
         (intersection (tree_of left.now) (tree_of right.now)) entering.now piece.now added
         (intersection_of to.new outer.new.items (mark_of one.new) (mark_of other.new)))) }

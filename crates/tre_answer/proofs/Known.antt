@@ -22,7 +22,7 @@ use Rattle.tre_answer.specs.Online.{BlocksStand, IsNextBlock, IsOnlineAnswer, Is
 use Rattle.tre_answer.specs.Parts.{IsFoundFor}
 use Rattle.tre_answer.specs.Recorded.{recording_for, known_for, whole_recording, outcome_for, watched_of}
 use Rattle.tre_answer.specs.Request.{Request, request_for}
-use Rattle.tre_answer.specs.Streams.{OfBytes, IsCut}
+use Rattle.tre_answer.specs.Streams.{OfBytes, WroteFront}
 use Rattle.tre_answer.specs.declared.asked.Asked.{Asked}
 use Rattle.tre_answer.specs.declared.asked.Definitions.{Definitions}
 use Rattle.tre_answer.proofs.Stops.{EndsAnswering-written}
@@ -179,11 +179,11 @@ IsPrompt-as request input recording count prompt told more is long =
     }
 
 module _ (request : Request) (input : InputTold) (output : OutputTold) where
-  IsCut-as : (front other text second : List ℕ) → other ≡ front → second ≡ text
+  WroteFront-as : (front other text second : List ℕ) → other ≡ front → second ≡ text
       → output.now.faults ≡ count_after output.before.faults
       → IsCutBehind other second output.before.written output.now.written
-      → IsCut output front text
-  IsCut-as front other text second same same' cause cut = rw (sym same, sym same') (record {
+      → WroteFront output front text
+  WroteFront-as front other text second same same' cause cut = rw (sym same, sym same') (record {
     cause = cause;
     count = cut.part.count;
     behind = cut.behind;
@@ -206,7 +206,7 @@ record IsCutIn (mode : Mode) (request : Request) (input : InputTold) (output : O
   pub text : List ℕ
   pub right : IsAnswerIn mode request input front text
       ⊎ (IsTrue (as_it_comes mode) × IsNextBlock request input front text)
-  pub cut : IsCut output front text
+  pub cut : WroteFront output front text
 
 -- an online one, of which all blocks were
 record IsEndCut (request : Request) (input : InputTold) (output : OutputTold) : Type 0 where
@@ -214,7 +214,7 @@ record IsEndCut (request : Request) (input : InputTold) (output : OutputTold) : 
   pub text : List ℕ
   pub ended : IsAtEnd input.now.left
   pub right : OfBytes input (λ bytes. IsOnlineAnswer request bytes front text)
-  pub cut : IsCut output front text
+  pub cut : WroteFront output front text
 
 -- An answer that is told as its input comes, as the telling promises it.
 abbrev IsToldOnline : Request → InputTold → List ℕ → Type 0
@@ -345,7 +345,7 @@ module _ (request : Request) (input : InputTold) (output : OutputTold) where
             text_is = refl;
           },
         );
-        cut = IsCut-as request input output (blocks_for request block.accounts told)
+        cut = WroteFront-as request input output (blocks_for request block.accounts told)
             (blocks_over (watched_of request) block.accounts told)
             (blocks_for request block.accounts longer)
             (blocks_over (watched_of request) block.accounts (take (suc block.count) all))
@@ -366,7 +366,7 @@ module _ (request : Request) (input : InputTold) (output : OutputTold) where
         ended = end.all.all_read;
         right = OfBytes-all input _ _ reads end
             (IsOnlineAnswer-as request end.bytes end.is_so.text end.is_so.right);
-        cut = IsCut-as request input output (blocks_for request accounts stretches)
+        cut = WroteFront-as request input output (blocks_for request accounts stretches)
             (blocks_over (watched_of request) accounts stretches) end.is_so.text end.is_so.text
             (blocks_as request accounts stretches) refl cause end.is_so.cut;
       }

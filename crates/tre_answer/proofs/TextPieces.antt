@@ -17,7 +17,7 @@ use Rattle.tre_tell.specs.Outputs.{OutputTold, AllWritesGood, output_told}
 use Rattle.tre_zone.specs.declared.zone_bounds.ZoneBounds.{ZoneBounds}
 use Rattle.tre_zoneset.proofs.Stretches.{take_to}
 use Rattle.tre_answer.specs.Printing.{EndsPutting}
-use Rattle.tre_answer.specs.Streams.{IsWritten}
+use Rattle.tre_answer.specs.Streams.{WroteText}
 
 -- a text that was written by one call
 pub EndsPutting-given : (output : OutputTold) (text given : List ℕ) → given ≡ text
@@ -38,8 +38,8 @@ EndsPutting-given output text given same (Err fault) all good part cause is =
     })
 
 -- nothing was written yet
-pub IsWritten-none : (told : SinkTold) → IsWritten (output_told told told) []
-IsWritten-none told = record { writes = refl; written = none told.written }
+pub WroteText-none : (told : SinkTold) → WroteText (output_told told told) []
+WroteText-none told = record { writes = refl; written = none told.written }
   where
     none : (written : Option (List ℕ)) → Appends written written []
     none None = tt
@@ -66,11 +66,11 @@ part_behind a b c front rest first part = record {
 }
 
 module _ (before mid now : SinkTold) (text front : List ℕ)
-    (first : IsWritten (output_told before mid) front) where
+    (first : WroteText (output_told before mid) front) where
   -- a piece was written behind another
-  pub IsWritten-more : (piece : List ℕ) → text ≡ front ++ piece
-      → IsWritten (output_told mid now) piece → IsWritten (output_told before now) text
-  IsWritten-more piece split second = record {
+  pub WroteText-more : (piece : List ℕ) → text ≡ front ++ piece
+      → WroteText (output_told mid now) piece → WroteText (output_told before now) text
+  WroteText-more piece split second = record {
     writes = second.writes ∙ first.writes;
     written = subst (Appends before.written now.written) (sym split)
         (Appends-trans before.written mid.written now.written front piece first.written
@@ -97,7 +97,7 @@ module _ (before mid now : SinkTold) (text front : List ℕ)
   pub EndsPutting-last : (piece : List ℕ) → text ≡ front ++ piece
       → (result : Result (Unit {0}) Fault) → EndsPutting piece (output_told mid now) result
       → EndsPutting text (output_told before now) result
-  EndsPutting-last piece split (Ok value) ends = IsWritten-more piece split ends
+  EndsPutting-last piece split (Ok value) ends = WroteText-more piece split ends
   EndsPutting-last piece split (Err fault) ends =
       EndsPutting-cut piece [] (split ∙ ap (λ rest. front ++ rest) (sym (append-nil piece))) fault
       ends

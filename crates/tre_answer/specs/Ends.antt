@@ -16,7 +16,7 @@ use Rattle.tre_words.specs.declared.job.Mode.TheVariants.{Offline, Online, Show,
 use Rattle.tre_answer.specs.Online.{BlocksStand, IsPrompt, IsNextBlock, IsOnlineAnswer}
 use Rattle.tre_answer.specs.Recorded.{recording_for, whole_recording, outcome_for}
 use Rattle.tre_answer.specs.Request.{Request}
-use Rattle.tre_answer.specs.Streams.{OfBytes, IsWritten, IsCut}
+use Rattle.tre_answer.specs.Streams.{OfBytes, WroteText, WroteFront}
 use Rattle.tre_answer.specs.Wanted.{IsOfflineAnswer, AreTooMany}
 
 abbrev pub ReadsInput : Mode → Type 0
@@ -54,7 +54,7 @@ pub record EndsDone (request : Request) (input : InputTold) (output : OutputTold
   pub front : List ℕ
   pub text : List ℕ
   pub right : IsAnswerIn request.job.mode request input front text
-  pub written : IsWritten output text
+  pub written : WroteText output text
 
 -- The input has a first fault, or is too long. The blocks of all stretches before that stand there.
 pub record EndsAtInput (outcome : Outcome) (request : Request) (input : InputTold)
@@ -92,7 +92,7 @@ pub record EndsWriteFault (request : Request) (input : InputTold) (output : Outp
     pub text : List ℕ
     pub right : IsAnswerIn request.job.mode request input front text
         ⊎ (IsTrue (as_it_comes request.job.mode) × IsNextBlock request input front text)
-    pub cut : IsCut output front text
+    pub cut : WroteFront output front text
 
 -- Where memory was wanting there stand the blocks of some first stretches, which may be all.
 abbrev pub StandsAtMemory : Request → InputTold → OutputTold → Type 0

@@ -17,7 +17,7 @@ listed_zones (Runs runs) = zones_of runs
 
 -- The zones are those that are asked for of some set of the matches that are wanted of the
 -- patterns, each over its trace.
-pub record AreListed (normal : Bool) (patterns : List Pattern) (traces : List Timeline)
+pub record AreWantedZones (normal : Bool) (patterns : List Pattern) (traces : List Timeline)
     (zones : List ZoneBounds) : Type 0 where
   pub set : List ZoneBounds
   pub is_set : IsZoneSet set

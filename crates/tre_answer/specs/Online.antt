@@ -11,7 +11,7 @@ use Rattle.tre_trace.specs.Reading.{Stretch, no_names, segments_for}
 use Rattle.tre_trace.specs.Trace.{Timeline}
 use Rattle.tre_answer.specs.Recorded.{recording_for, known_for, AreReadAs}
 use Rattle.tre_answer.specs.Request.{Request}
-use Rattle.tre_answer.specs.Streams.{IsWritten}
+use Rattle.tre_answer.specs.Streams.{WroteText}
 
 -- The text of the blocks of stretches, which tells when each ends.
 abbrev pub blocks_for : Request → List Account → List Stretch → List ℕ
@@ -23,7 +23,7 @@ pub record BlocksStand (request : Request) (output : OutputTold) (stretches : Li
     : Type 0 where
   pub accounts : List Account
   pub are : AreAccounts request.patterns (fronts request.patterns stretches) accounts
-  pub stand : IsWritten output (blocks_for request accounts stretches)
+  pub stand : WroteText output (blocks_for request accounts stretches)
 
 -- All stretches that are known are `told`, and then `more`. The bytes were `earlier` when the last
 -- read began, which gave the piece; what was complete then is told. They are closed only at the

@@ -5,7 +5,7 @@ use Rattle.tre_feed.specs.declared.fault.Fault.TheVariants.{Write}
 use Rattle.tre_io.specs.Faults.{count_after}
 use Rattle.tre_io.specs.Written.{AppendsPart}
 use Rattle.tre_tell.specs.Outputs.{OutputTold}
-use Rattle.tre_answer.specs.Streams.{IsWritten}
+use Rattle.tre_answer.specs.Streams.{WroteText}
 
 -- A write failed, and a first part of the text was written.
 pub record IsPartlyPut (text : List ℕ) (output : OutputTold) : Type 0 where
@@ -13,6 +13,6 @@ pub record IsPartlyPut (text : List ℕ) (output : OutputTold) : Type 0 where
   pub part : AppendsPart output.before.written output.now.written text
 
 abbrev pub EndsPutting : {T : Type 0} → List ℕ → OutputTold → Result T Fault → Type 0
-EndsPutting text output (Ok value) = IsWritten output text
+EndsPutting text output (Ok value) = WroteText output text
 EndsPutting text output (Err Write) = IsPartlyPut text output
 EndsPutting text output (Err fault) = ⊥

@@ -14,12 +14,12 @@ pub record OfBytes (input : InputTold) (IsSo : List ℕ → Type 0) : Type 0 whe
   pub is_so : IsSo bytes
   pub whole : IfSome input.before.file IsSo
 
-pub record IsWritten (output : OutputTold) (text : List ℕ) : Type 0 where
+pub record WroteText (output : OutputTold) (text : List ℕ) : Type 0 where
   pub writes : AllWritesGood output
   pub written : Appends output.before.written output.now.written text
 
 -- A write failed, and a first part of the text was written, with all of its front in it.
-pub record IsCut (output : OutputTold) (front text : List ℕ) : Type 0 where
+pub record WroteFront (output : OutputTold) (front text : List ℕ) : Type 0 where
   pub cause : output.now.faults ≡ count_after output.before.faults
   pub count : ℕ
   pub behind : length front ≤ count

@@ -1,6 +1,6 @@
 // The matches over a whole input, told at once.
 ghost use Rattle.std.specs.Prelude.{◌≡◌, ◌≤◌, ◌<◌, ◌+◌, ℕ, All, List, [], false, get_or, IsTrue, IfOk, IfErr, IfSome, IsSomeAnd, OnOk, length};
-ghost use Rattle.tre_answer.specs.Listed.{AreListed, listed_zones};
+ghost use Rattle.tre_answer.specs.Listed.{AreWantedZones, listed_zones};
 ghost use Rattle.tre_answer.specs.Parts.{IsFoundFor, IsInputOf, StopsAs};
 ghost use Rattle.tre_answer.specs.Recorded.{recording_for};
 ghost use Rattle.tre_answer.specs.Request.{FitsJob, request_for};
@@ -103,7 +103,7 @@ fn run_zones(
     requires some { 0 < length patterns.now }
     requires count { length traces.now ≡ length patterns.now }
     ensures zones { IfOk result (λ found. IfSome found (λ found.
-        AreListed normal patterns.now traces.now (listed_zones found.zones))) }
+        AreWantedZones normal patterns.now traces.now (listed_zones found.zones))) }
     ensures end { IfOk result (λ found. IfSome found (λ found.
         found.end ≡ end_of 0 (get_or traces.now 0 (quiet [])).segments)) }
 {
@@ -133,7 +133,7 @@ fn listed_matches(
     requires count { length traces.items ≡ length patterns.now }
     requires are_traces { All (λ trace. IsTrace trace.segments) traces.items }
     ensures zones { IfOk result (λ found.
-        AreListed normal patterns.now traces.items (listed_zones found.zones)) }
+        AreWantedZones normal patterns.now traces.items (listed_zones found.zones)) }
     ensures end { IfOk result (λ found.
         found.end ≡ end_of 0 (get_or traces.items 0 (quiet [])).segments) }
 {

@@ -29,7 +29,7 @@ use Rattle.tre_mark.specs.MarkTree.{MarkTree, mark_of}
 use Rattle.tre_mark.specs.Marked.{since, CanTakeIn, Marked, IsStart, IsWellAt}
 use Rattle.tre_advance.specs.Advance.{GoesOver, MarkedBehind, before_piece, Advances}
 use Rattle.tre_advance.proofs.Opening.{all_later}
-use Rattle.tre_online.specs.Reading.{AreMoments, IsPieceFor, IsBehind, FindsInPiece, ReadsPiece}
+use Rattle.tre_online.specs.Reading.{AreMoments, IsPieceFor, IsPastPiece, FindsInPiece, ReadsPiece}
 use Rattle.tre_online.specs.Session.{pattern_of, at_of, held_of, ended_of, kept_of, cut_after, AwaitsMatches, StandsFor, TellsNew}
 use Rattle.tre_online.specs.Told.{WasTold}
 use Rattle.tre_online.specs.declared.session.Progress.{Progress}
@@ -427,7 +427,7 @@ module _ (old : Session) (whole : MarkTree) (u : List Segment) (segment : Segmen
 
   pub stands_after : (new : Session) → kept_of new ≡ whole
       → pattern_tree (pattern_of new) ≡ pattern_tree (pattern_of old)
-      → IsBehind piece told new.progress.value → StandsFor new (u ++ segment ∷ [])
+      → IsPastPiece piece told new.progress.value → StandsFor new (u ++ segment ∷ [])
   stands_after new mark pattern ends =
       let at : at_of new ≡ piece.begin + segment.len =
       ends.at ∙ ap (λ (s : Segment). piece.begin + s.len) is_piece.same in
@@ -464,14 +464,14 @@ module _ (old : Session) (whole : MarkTree) (u : List Segment) (segment : Segmen
 
 -- What is kept is in time and well where the piece ends.
 pub in_time_after : (piece : Piece) (told : List ZoneBounds) (progress : Progress)
-    → IsBehind piece told progress → progress.at ≤ TIME_MAX
+    → IsPastPiece piece told progress → progress.at ≤ TIME_MAX
 in_time_after piece told progress behind =
     subst (λ (time : ℕ). time ≤ TIME_MAX) (sym behind.at) piece.in_time
 
 pub well_after : (before : MarkTree) (tree : PatternTree) (earlier told : List ZoneBounds)
     (piece : Piece) (progress : Progress)
     → ReadsPiece before tree earlier piece told (mark_of progress.mark)
-    → IsBehind piece told progress → IsWellAt progress.at (mark_of progress.mark) tree
+    → IsPastPiece piece told progress → IsWellAt progress.at (mark_of progress.mark) tree
 well_after before tree earlier told piece progress reads behind =
     subst (λ (time : ℕ). IsWellAt time (mark_of progress.mark) tree) (sym behind.at)
     reads.finds.advances.well

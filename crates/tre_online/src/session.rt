@@ -50,7 +50,7 @@ impl Session {
     ghost use Rattle.tre_syntax.specs.PatternTree.{node_count};
     ghost use Rattle.tre_syntax.specs.Pattern.{pattern_tree, names_of};
     ghost use Rattle.tre_online.specs.Session.{pattern_of, at_of, ended_of, kept_of, StandsFor, TellsNew, TellsLast};
-    ghost use Rattle.tre_online.specs.Reading.{AreMoments, IsPieceFor, IsBehind, FindsInPiece, ReadsPiece};
+    ghost use Rattle.tre_online.specs.Reading.{AreMoments, IsPieceFor, IsPastPiece, FindsInPiece, ReadsPiece};
 
     /// A session that has read no segment.
     pub fn new(alloc: Global, pattern: Pattern) -> Result<Session, AllocError>
@@ -223,7 +223,7 @@ impl Session {
         ensures reads { IfOk result (λ both. ReadsPiece (kept_of self.now)
             (pattern_tree (pattern_of self.now)) (ended_of self.now) piece.now both.1
             (mark_of (box_value both.0).mark)) }
-        ensures behind { IfOk result (λ both. IsBehind piece.now both.1 (box_value both.0)) }
+        ensures behind { IfOk result (λ both. IsPastPiece piece.now both.1 (box_value both.0)) }
     {
         let mut copy = self.copied()?;
         Session::read(self.alloc, &self.pattern, &mut copy, piece)?;
@@ -263,7 +263,7 @@ impl Session {
         ensures reads { OnOk result (ReadsPiece (mark_of progress.old.mark)
             (pattern_tree pattern.now) progress.old.ended piece.now progress.new.ended
             (mark_of progress.new.mark)) }
-        ensures behind { OnOk result (IsBehind piece.now progress.new.ended progress.new) }
+        ensures behind { OnOk result (IsPastPiece piece.now progress.new.ended progress.new) }
     {
         let room = mem::replace(&mut progress.room, Vec::new(alloc));
         let found = Session::found(alloc, pattern, &mut progress.mark, piece, room)?;

@@ -21,14 +21,14 @@ use Rattle.tre_zone.specs.declared.zone_bounds.ZoneBounds.{ZoneBounds}
 use Rattle.tre_zone.proofs.ZoneListLemmas.{SetHolds-append}
 use Rattle.tre_tell.specs.Printed.{IsPrinted}
 use Rattle.tre_tell.specs.Sought.{Sought}
-use Rattle.tre_tell.specs.Transcript.{Account, zones_of, block_before, AreTold, IsBlock, IsTranscript, IsClosing}
+use Rattle.tre_tell.specs.Transcript.{Account, zones_in_blocks, block_before, AreTold, IsBlock, IsTranscript, IsClosing}
 use Rattle.tre_tell.proofs.Accounts.{account_more, account_closed}
 
 zones_of-more : (blocks : List (List ZoneBounds)) (zones : List ZoneBounds)
-    → zones_of (blocks ++ zones ∷ []) ≡ zones_of blocks ++ zones
+    → zones_in_blocks (blocks ++ zones ∷ []) ≡ zones_in_blocks blocks ++ zones
 zones_of-more blocks zones =
     flat_map-append (λ block. block) blocks (zones ∷ [])
-    ∙ ap (λ rest. zones_of blocks ++ rest) (append-nil zones)
+    ∙ ap (λ rest. zones_in_blocks blocks ++ rest) (append-nil zones)
 
 block_before-append : (i : ℕ) (blocks more : List (List ZoneBounds)) → i ≤ length blocks
     → block_before i (blocks ++ more) ≡ block_before i blocks
@@ -61,7 +61,7 @@ IsBlock-more account segment zones i count below block =
 -- a transcript tells exactly the matches over its trace, where that has a segment
 exact_of : (account : Account) (count : ℕ) → length account.trace.segments ≡ suc count
     → IsTranscript account
-    → HoldExactly (zones_of account.blocks)
+    → HoldExactly (zones_in_blocks account.blocks)
     (Matches account.pattern.tree (quiet account.trace.segments))
 exact_of account count some transcript =
     let last = transcript.each count (omega (arith, some)) in
@@ -75,9 +75,9 @@ exact_of account count some transcript =
 exact_with : (blocks : List (List ZoneBounds)) (tree : PatternTree) (trace : List Segment)
     (segment : Segment) (earlier told zones : List ZoneBounds) → length blocks ≡ length trace
     → ((count : ℕ) → length trace ≡ suc count
-    → HoldExactly (zones_of blocks) (Matches tree (quiet trace)))
+    → HoldExactly (zones_in_blocks blocks) (Matches tree (quiet trace)))
     → TellsNew tree trace segment earlier told → IsPrinted told zones
-    → HoldExactly (zones_of (blocks ++ zones ∷ [])) (Matches tree (quiet (trace ++ segment ∷ [])))
+    → HoldExactly (zones_in_blocks (blocks ++ zones ∷ [])) (Matches tree (quiet (trace ++ segment ∷ [])))
 exact_with [] tree [] segment earlier told zones same so_far tells printed = record {
   exact = λ a b n positive rising.
       let first = (tells.first refl).exact a b n positive rising in
@@ -91,7 +91,7 @@ exact_with blocks tree (first ∷ rest) segment earlier told zones same so_far t
       let before = (so_far (length rest) refl).exact a b n positive rising in
       let now = tells.all a b n positive rising in
       let held = printed.held a b n in
-      let parts = SetHolds-append (zones_of blocks) zones a b n in
+      let parts = SetHolds-append (zones_in_blocks blocks) zones a b n in
       rw (zones_of-more blocks zones) (
         (λ h. ⊎_elim (λ x. now.0 (inr (before.0 x))) (λ x. now.0 (inl (held.0 x))) (parts.0 h)),
         (λ h. ⊎_elim (λ x. parts.1 (inr (held.1 x))) (λ x. parts.1 (inl (before.1 x)))
@@ -222,9 +222,9 @@ all_with : (blocks : List (List ZoneBounds)) (tree : PatternTree) (segments : Li
     (events : ℕ) (earlier told zones : List ZoneBounds) → events ≢ 0
     → length blocks ≡ length segments
     → ((count : ℕ) → length segments ≡ suc count
-    → HoldExactly (zones_of blocks) (Matches tree (quiet segments)))
+    → HoldExactly (zones_in_blocks blocks) (Matches tree (quiet segments)))
     → TellsLast tree segments events earlier told → IsPrinted told zones
-    → HoldExactly (zones_of blocks ++ zones) (Matches tree (timeline_of segments events))
+    → HoldExactly (zones_in_blocks blocks ++ zones) (Matches tree (timeline_of segments events))
 all_with [] tree [] events earlier told zones happens same so_far tells printed = record {
   exact = λ a b n positive rising.
       let first = (tells.first refl happens).exact a b n positive rising in
@@ -239,7 +239,7 @@ all_with blocks tree (first ∷ rest) events earlier told zones happens same so_
           let before = (so_far (length rest) refl).exact a b n positive rising in
           let now = tells.all a b n positive rising in
           let held = printed.held a b n in
-          let parts = SetHolds-append (zones_of blocks) zones a b n in (
+          let parts = SetHolds-append (zones_in_blocks blocks) zones a b n in (
             (λ h. ⊎_elim (λ x. now.0 (inr (before.0 x))) (λ x. now.0 (inl (held.0 x)))
                 (parts.0 h)),
             (λ h. ⊎_elim (λ x. parts.1 (inr (held.1 x))) (λ x. parts.1 (inl (before.1 x)))

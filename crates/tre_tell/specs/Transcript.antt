@@ -17,8 +17,8 @@ pub record Account : Type 0 where
   pub closing : List ZoneBounds
 
 -- The zones of some blocks, as one list.
-abbrev pub zones_of : List (List ZoneBounds) → List ZoneBounds
-zones_of blocks = flat_map (λ zones. zones) blocks
+abbrev pub zones_in_blocks : List (List ZoneBounds) → List ZoneBounds
+zones_in_blocks blocks = flat_map (λ zones. zones) blocks
 
 -- the zones of the block before this one; before the first there are none
 abbrev pub block_before : ℕ → List (List ZoneBounds) → List ZoneBounds
@@ -39,7 +39,7 @@ pub record AreTold (earlier : List ZoneBounds) (from to : ℕ) (zones : List Zon
 -- The block of the segment at place i, counted from 0. With those before it, it tells exactly the
 -- matches over the trace up to its segment's end. Its pairs end within the segment.
 pub record IsBlock (account : Account) (i : ℕ) : Type 0 where
-  pub so_far : HoldExactly (zones_of (take (suc i) account.blocks))
+  pub so_far : HoldExactly (zones_in_blocks (take (suc i) account.blocks))
       (Matches account.pattern.tree (quiet (take (suc i) account.trace.segments)))
   pub told : AreTold (block_before i account.blocks) (end_of 0 (take i account.trace.segments))
       (end_of 0 (take (suc i) account.trace.segments)) (get_or account.blocks i [])
@@ -53,7 +53,7 @@ pub record IsTranscript (account : Account) : Type 0 where
 -- is exactly the matches over the trace. The pairs end where the trace does.
 pub record IsClosing (account : Account) : Type 0 where
   pub none : account.trace.last ≡ 0 → account.closing ≡ []
-  pub all : account.trace.last ≢ 0 → HoldExactly (zones_of account.blocks ++ account.closing)
+  pub all : account.trace.last ≢ 0 → HoldExactly (zones_in_blocks account.blocks ++ account.closing)
       (Matches account.pattern.tree account.trace)
   pub told : AreTold (block_before (length account.blocks) account.blocks)
       (end_of 0 account.trace.segments) (end_of 0 account.trace.segments) account.closing

@@ -5,7 +5,7 @@ use Rattle.std.specs.Io.KnownBytes.{Consumes}
 use Rattle.tre_answer.specs.Ends.{ReadsInput, StandsAtMemory, EndsDone, EndsAtInput, EndsTooMany, EndsReadFault, EndsWriteFault}
 use Rattle.tre_answer.specs.Recorded.{outcome_for}
 use Rattle.tre_answer.specs.Request.{Request}
-use Rattle.tre_answer.specs.Streams.{IsWritten, IsCut}
+use Rattle.tre_answer.specs.Streams.{WroteText, WroteFront}
 use Rattle.tre_feed.specs.Front.{IsUnreadable}
 use Rattle.tre_feed.specs.Input.{InputTold, AllReadsGood}
 use Rattle.tre_feed.specs.Comes.{Outcome, completes, refuses, exceeds}
@@ -80,7 +80,7 @@ pub record EndsMemory (Gives : Job → Type 0) (checks input : InputTold) (outpu
 
 -- A line was told whole, or one failure to tell it was counted, and a first part of it was told.
 abbrev pub IsLineTold : OutputTold → List ℕ → Type 0
-IsLineTold output line = IsWritten output line ⊎ IsCut output [] line
+IsLineTold output line = WroteText output line ⊎ WroteFront output [] line
 
 -- The end of a run, status by status. What is refused is told before the input is looked at.
 abbrev pub EndsAs : (Job → Type 0) → InputTold → InputTold → OutputTold → Status → Type 0

@@ -2,14 +2,14 @@ use Rattle.std.proofs.Common.{◌+◌, ◌++◌, ◌∙◌, length, take, sym, a
 use Rattle.std.proofs.lemmas.Slice.{between_to_end}
 use Rattle.tre_show.specs.Line.{lines_of, offline_text}
 use Rattle.std.proofs.lemmas.Result.{err_from_is_err_and}
-use Rattle.tre_answer.proofs.TextPieces.{EndsPutting-cut, EndsPutting-last, IsWritten-more, IsWritten-none, lines_to, text_around, text_behind}
+use Rattle.tre_answer.proofs.TextPieces.{EndsPutting-cut, EndsPutting-last, WroteText-more, WroteText-none, lines_to, text_around, text_behind}
 use Rattle.tre_answer.proofs.printing.write_matches.Goals as goal
 
 pub loop-from-init : goal.loop-from-init
 unfolding lines_of
 loop-from-init g c = record {
   within = omega arith;
-  written = IsWritten-none (g.O.Sink.told c.args.out.now);
+  written = WroteText-none (g.O.Sink.told c.args.out.now);
 }
 
 pub loop-from-preserved : goal.loop-from-preserved
@@ -19,7 +19,7 @@ loop-from-preserved g c =
     let zones = g.Z.Zones.zones c.args.zones.now in
     record {
       within = omega (arith, c.loop-from-test.true, c.count-count.ensures);
-      written = IsWritten-more _ _ _ _ _ old.written _
+      written = WroteText-more _ _ _ _ _ old.written _
           (lines_to c.args.scale zones from (from + 339) (omega arith))
           c.in_ok-put_lines.ensures;
     }
