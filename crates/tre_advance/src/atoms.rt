@@ -150,7 +150,7 @@ pub fn inside_of(expr: &Expr, piece: &Piece) -> Option<Zone>
     }
 }
 
-// AddsZones what has begun, which holds on over the piece, and the pairs that are here or enter, each
+// Adds what has begun, which holds on over the piece, and the pairs that are here or enter, each
 // followed by one of the zone.
 #[inline(always)]
 fn gather_all(

@@ -219,7 +219,7 @@ fn tell_lasting(outer: &[Zone], room: &mut Room, interval: &Interval) -> Result<
     put_each(&mut room.mid, outer, &room.aux)
 }
 
-/// AddsZones the pairs of the zones whose duration is in the interval.
+/// Adds the pairs of the zones whose duration is in the interval.
 #[inline(always)]
 pub fn gather_within(
     found: &mut Vec<Zone>,
