@@ -21,6 +21,7 @@ SEGMENTS = 30000
 MEGABYTES = 2
 MIX = "(p;q) & (true % [1,6]) | <:req:> % [1,4]"
 COMPARED = "low = top.u0.s1 == 0x5a"    # a vector of vcd.VECTORS
+SCOPE = "s" * 80
 PATTERNS = [
     "p",
     "<:p:>",
@@ -103,10 +104,33 @@ def dump_rows(folder):
     return rows[:1] + [every] + rows[1:] + [compared]
 
 
+def declared(place):
+    """A declaration: every other one has a range at the end of its name."""
+    return "$var wire 8 %s v%d%s $end\n" % (vcd.identifier(place), place,
+                                           " [7:0]" if place % 2 else "")
+
+
+def declaration_rows(folder):
+    """A dump of declarations alone, of which a pattern asks a few by names that are defined."""
+    path = os.path.join(folder, "declared")
+    write_file(path, declared, MEGABYTES)
+    with open(path) as file:
+        declarations = file.read()
+    with open(path, "w") as file:
+        file.write("$scope module %s $end\n%s$enddefinitions $end\n#0\n" % (SCOPE, declarations))
+    for label, count in (("declarations under a path of 80 bytes, one name defined", 1),
+                         ("the same, 64 names defined", 64)):
+        defined = ["n%d" % number for number in range(count)]
+        text = ";".join("%s = %s.v%d == 1" % (name, SCOPE, place)
+                        for place, name in enumerate(defined))
+        yield label, ["--format", "vcd", "--define", text, "|".join(defined)], path
+
+
 def reading(programs, folder):
     """A row for each form of a trace, and how many of its names the pattern asks for."""
     print_head(["2 MB of", "millions of instructions"] + ["ratio"] * (len(programs) - 1))
-    for label, options, given in lines_rows(folder) + dump_rows(folder):
+    rows = lines_rows(folder) + dump_rows(folder) + list(declaration_rows(folder))
+    for label, options, given in rows:
         print_row([label] + cells(programs, options, given)[1])
 
 

@@ -29,8 +29,8 @@ signal_definition_of definitions name = named name_of_signal definitions name
 -- ---- what a definition reads
 
 -- what its text names of a signal of this full name and size
-abbrev pub part_of : SignalDefined → List ℕ → ℕ → Option Part
-part_of defined full_name size =
+abbrev pub part_of_signal : SignalDefined → List ℕ → ℕ → Option Part
+part_of_signal defined full_name size =
     if size == 0 then None else part_named defined.signal full_name size
 
 -- the test that is read of a part; a bit alone is one bit
@@ -43,7 +43,7 @@ test_of Changes part = None
 -- the test that is defined, where a signal of this full name and size has what is read
 abbrev pub test_in : SignalDefined → List ℕ → ℕ → Option Test
 test_in defined full_name size =
-    option_and_then (test_of defined.reads) (part_of defined full_name size)
+    option_and_then (test_of defined.reads) (part_of_signal defined full_name size)
 
 abbrev pub changing : Reads → Option Part → Option Part
 changing Bit part = None
@@ -52,7 +52,7 @@ changing Changes part = part
 
 -- the part whose changes are the event, where a signal of this full name and size has it
 abbrev pub changes_in : SignalDefined → List ℕ → ℕ → Option Part
-changes_in defined full_name size = changing defined.reads (part_of defined full_name size)
+changes_in defined full_name size = changing defined.reads (part_of_signal defined full_name size)
 
 -- ---- the text of a definition
 

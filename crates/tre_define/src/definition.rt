@@ -33,7 +33,7 @@ impl Model for SignalDefinition {
 
 impl SignalDefinition {
     ghost use Rattle.std.specs.Prelude.{◌≡◌, string_bytes, IfOk};
-    ghost use Rattle.tre_define.specs.Signals.{SignalDefined, changes_in, part_of, test_in};
+    ghost use Rattle.tre_define.specs.Signals.{SignalDefined, changes_in, part_of_signal, test_in};
 
     /// The definition of a name: what is read of what the signal's text names.
     pub fn new(name: String, signal: String, reads: Reads) -> SignalDefinition
@@ -87,7 +87,7 @@ impl SignalDefinition {
     pub fn test_in(&self, full_name: &[u8], size: u64) -> Option<Test>
         ensures { result ≡ test_in self.now full_name.now size }
     {
-        test_of(self.reads, self.part_of(full_name, size)?)
+        test_of(self.reads, self.part_of_signal(full_name, size)?)
     }
 
     /// The part whose changes are the event, where a signal of this full name and size, in bits,
@@ -96,14 +96,14 @@ impl SignalDefinition {
         ensures { result ≡ changes_in self.now full_name.now size }
     {
         match self.reads {
-            Reads::Changes => self.part_of(full_name, size),
+            Reads::Changes => self.part_of_signal(full_name, size),
             _ => None,
         }
     }
 
     // What the signal's text names of a signal.
-    fn part_of(&self, full_name: &[u8], size: u64) -> Option<Part>
-        ensures { result ≡ part_of self.now full_name.now size }
+    fn part_of_signal(&self, full_name: &[u8], size: u64) -> Option<Part>
+        ensures { result ≡ part_of_signal self.now full_name.now size }
     {
         if size == 0 {
             return None;

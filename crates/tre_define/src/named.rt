@@ -1,6 +1,5 @@
 // What texts name of signals.
-ghost use Rattle.std.specs.Prelude.{◌≡◌, ◌<◌, ◌≤◌, length, IfNone, IfSome, None};
-ghost use Rattle.std.specs.List.{position_or_len};
+ghost use Rattle.std.specs.Prelude.{◌≡◌, ◌≢◌, ℕ, ◌≤◌, length, drop, position, None};
 ghost use Rattle.std.specs.Option.{option_map};
 ghost use Rattle.tre_define.specs.Named.{part_named, part_in, falls, counted_bits, ranged, select_in, range_in, range_between, between_brackets, number_in, small_in, is_colon};
 
@@ -42,12 +41,29 @@ fn split_range(name: &[u8], size: u64) -> (&[u8], Range)
     requires { 1 ≤ size }
     ensures { record { base = result.0.now; range = result.1 } ≡ ranged name.now size }
 {
-    for place in 0..name.len() {
-        if let Some(range) = range_in(&name[place..]) {
-            return (&name[..place], range);
+    let place = range_place(name);
+    match range_in(&name[place..]) {
+        Some(range) => (&name[..place], range),
+        None => (name, counted(size)),
+    }
+}
+
+// The only place at which a range may begin: that of the last `[` of a name that ends with `]`,
+// since no number has a bracket; else the end.
+fn range_place(name: &[u8]) -> usize
+    ensures within { result ≤ length name.now }
+    ensures only { (k : ℕ) → k ≢ result → range_in (drop k name.now) ≡ None }
+{
+    let len = name.len();
+    if len == 0 || name[len - 1] != b']' {
+        return len;
+    }
+    for place in (0..len).rev() {
+        if name[place] == b'[' {
+            return place;
         }
     }
-    (name, counted(size))
+    len
 }
 
 // The numbers of so many bits.
@@ -123,22 +139,10 @@ fn between_brackets(text: &[u8]) -> Option<&[u8]>
     }
 }
 
-// The place of the first colon, before which no bracket stands: none has a number there. So a name
-// of many brackets is looked through once, and not from each of them.
 fn first_colon(text: &[u8]) -> Option<usize>
-    ensures place { IfSome result (λ place. place ≡ position_or_len is_colon text.now) }
-    ensures within { IfSome result (λ place. place < length text.now) }
-    ensures none { IfNone result (range_between text.now ≡ None) }
+    ensures { result ≡ position is_colon text.now }
 {
-    for (place, &byte) in text.iter().enumerate() {
-        if byte == b':' {
-            return Some(place);
-        }
-        if byte == b'[' {
-            return None;
-        }
-    }
-    None
+    text.iter().position(|&byte| byte == b':')
 }
 
 // The number of a bit: digits, or `-` and digits, below 2^31.
