@@ -1,5 +1,5 @@
 -- Runs by the place of their first segment.
-use Rattle.std.proofs.Common.{◌≡◌, ◌≢◌, ℕ, zero, suc, ◌+◌, ◌-◌, ◌<◌, ◌≤◌, ◌==◌, ◌∙◌, List, [], ◌∷◌, ◌++◌, None, false, length, get_or, refl, sym, if◌then◌else◌, Result, Ok, Err, is_ok, ap, arith, inl, inr}
+use Rattle.std.proofs.Common.{◌≡◌, ◌≢◌, ℕ, zero, suc, ◌+◌, ◌-◌, ◌<◌, ◌≤◌, ◌==◌, ◌∙◌, List, [], ◌∷◌, ◌++◌, Option, None, Some, IfSome, false, length, get_or, refl, sym, if◌then◌else◌, Result, Ok, Err, is_ok, ap, arith, inl, inr}
 use Rattle.std.proofs.lemmas.Bool.{cases_lt}
 use Rattle.std.proofs.lemmas.Bool.Decides.{nat_tests}
 use Rattle.std.proofs.lemmas.List.{get_or-map, length-map, map-append}
@@ -98,38 +98,27 @@ module _ (edges : RunEdges) (all : TraceWords) (places : List ℕ) (from to : St
       rw more (ended-push edges (runs_at all places) from.time to.time placed.timed ended rising
       limit)
 
--- The run at one of the places, from the first to the end.
-module _ (all : TraceWords) (places : List ℕ) (place : ℕ) (inside : place < length places)
-    (placed : AreRunPlaces all places) (first end : ℕ) (is : first ≡ get_or places place first)
-    (next : IsNextPlace all.words false first (length all.timeline.segments) end) where
-  abbrev pub start : ℕ → Start
+-- the run at one of the places, from the first to the end
+pub run_there : (all : TraceWords) (places : List ℕ) (place first end : ℕ) (other : Run)
+    → place < length places → AreRunPlaces all places → first ≡ get_or places place first
+    → IsNextPlace all.words false first (length all.timeline.segments) end
+    → get_or (runs_at all places) place other
+    ≡ record { begin = time_at all first; end = time_at all end }
+run_there all places place first end other inside placed is next =
+    get_or-map (run_at all) places place first other inside
+    ∙ ap (run_at all) (sym is)
+    ∙ run_at-is all (start first) (start end) (record {
+      within = rw (sym is) at (placed.within place first inside);
+      next = next;
+      begin = refl;
+      end = refl;
+    }) where
+  start : ℕ → Start
   start place = record { place = place; time = time_at all place }
 
-  abbrev pub run : IsRunOf all (start first) (start end)
-  run = record {
-    within = rw (sym is) at (placed.within place first inside);
-    next = next;
-    begin = refl;
-    end = refl;
-  }
-
-  abbrev pub here : Run
-  here = between all (start first) (start end) run
-
-  run_there : get_or (runs_at all places) place here ≡ here
-  run_there =
-      get_or-map (run_at all) places place first here inside
-      ∙ ap (run_at all) (sym is)
-      ∙ run_at-is all (start first) (start end) run
-
-  run_inside : place < length (runs_at all places)
-  run_inside = omega (arith, inside, length-map places (run_at all))
-
-  pub lasts : (time_at all first < time_at all end) × (time_at all end ≤ TIME_MAX)
-  lasts = rw run_there at (placed.timed.bounded place here run_inside)
-
-  pub zone_there : (edges : RunEdges) (other : ZoneBounds)
-      → zone_of edges here ≡ get_or (zones_in edges (runs_at all places)) place other
-  zone_there edges other =
-      sym (zone_at edges (runs_at all places) place here other run_inside
-      ∙ ap (zone_of edges) run_there)
+-- Where the runs have to be those of words over a trace, it is one of them.
+pub known_run : (known : Option TraceWords) (own : TraceWords) (from to : Start)
+    → IfSome known (λ all. all ≡ own) → IsRunOf own from to
+    → IfSome known (λ all. IsRunOf all from to)
+known_run None own from to is run = tt
+known_run (Some all) own from to is run = rw is run

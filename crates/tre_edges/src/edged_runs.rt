@@ -61,6 +61,7 @@ pub fn run_set(
     let words = truth(alloc, state, &trace)?;
     let mut keeper = PlaceKeeper::new(alloc, &trace, &words, edges)?;
     each_run(&words, &trace, &mut keeper)?;
+    let edges = keeper.edges;
     let places = keeper.places;
     Ok(RunSet {
         trace,

@@ -38,7 +38,9 @@ pub struct RunSet {
 
 impl RunSet {
     ghost use Rattle.std.specs.Prelude.{get_or};
+    ghost use Rattle.tre_edges.specs.RunPlaces.{runs_at};
     ghost use Rattle.tre_edges.specs.RunSets.{zones_of};
+    ghost use Rattle.tre_edges.specs.declared.run_sets.Run.{Run};
     ghost use Rattle.tre_zone.specs.declared.zone_bounds.ZoneBounds.{ZoneBounds};
 
     /// How many zones there are.
@@ -57,11 +59,26 @@ impl RunSet {
         requires { place < length (zones_of self.now) }
         ensures { (other : ZoneBounds) → result ≡ get_or (zones_of self.now) place other }
     {
+        let run = self.run(place);
+        part_of_run(run.begin, run.end, self.edges)
+    }
+
+    // The run at the place. What is printed of it is made where it is called, without it.
+    #[inline(never)]
+    fn run(&self, place: usize) -> Run
+        requires { place < length self.now.places.items }
+        ensures { (other : Run) →
+            result ≡ get_or (runs_at (trace_words self.now.trace self.now.words.items)
+            self.now.places.items) place other }
+    {
         let first = self.places[place] as usize;
         let end = next_place(&self.words, false, first, self.trace.count());
         let from = self.trace.start_from(Start { place: 0, time: 0 }, first);
         let to = self.trace.start_from(from, end);
-        part_of_run(from.time, to.time, self.edges)
+        Run {
+            begin: from.time,
+            end: to.time,
+        }
     }
 }
 
