@@ -51,7 +51,7 @@ module _ (all : TraceWords) (from to : Start) (run : IsRunOf all from to) where
   end_place-is : end_place all from.place ≡ to.place
   end_place-is =
       let count : from.place + (length all.timeline.segments - from.place)
-          ≡ length all.timeline.segments = omega (arith, run.within) in
+      ≡ length all.timeline.segments = omega (arith, run.within) in
       first_clear-is all.words (length all.timeline.segments - from.place) from.place to.place
       (rw count run.next)
 
@@ -113,8 +113,8 @@ run_there all places place first end other inside placed is next =
       begin = refl;
       end = refl;
     }) where
-  start : ℕ → Start
-  start place = record { place = place; time = time_at all place }
+      start : ℕ → Start
+      start place = record { place = place; time = time_at all place }
 
 -- Where the runs have to be those of words over a trace, it is one of them.
 pub known_run : (known : Option TraceWords) (own : TraceWords) (from to : Start)
