@@ -40,35 +40,21 @@ pub struct Matches {
     pub end: u64,
 }
 
-// The matches that are wanted of an input, and where it ends.
-#[derive(Drop)]
-struct Found {
-    set: ZoneSet,
-    end: u64,
-}
-
-// The matches of the first pattern that are matches of none of the others, each over its trace, and
-// where the first trace ends. That goes as soon as its matches need it no more.
+// The matches of the first pattern over its trace that are matches of none of the others, each over
+// its own. The first trace goes as soon as its matches need it no more.
 fn wanted_matches(
     alloc: Global,
     patterns: &[Pattern],
-    traces: Vec<Packed>,
-) -> Result<Found, AllocError>
-    requires some { 0 < length patterns.now }
-    requires count { length traces.items ≡ length patterns.now }
-    requires are_traces { All (λ trace. IsTrace trace.segments) traces.items }
-    ensures set { IfOk result (λ found. (labels : List (List ℕ)) →
+    first: Packed,
+    others: &[Packed],
+) -> Result<ZoneSet, AllocError>
+    requires { length patterns.now ≡ length others.now + 1 }
+    ensures { IfOk result (λ set. (labels : List (List ℕ)) →
         length labels ≡ length patterns.now →
-        HoldExactly found.set (IsWanted (sought_by labels patterns.now) traces.items)) }
-    ensures end { IfOk result (λ found.
-        found.end ≡ end_of 0 (get_or traces.items 0 (quiet [])).segments) }
+        HoldExactly set (IsWanted (sought_by labels patterns.now) (first ∷ others.now))) }
 {
-    let mut traces = traces;
-    let first = traces.remove(0);
-    let end = first.end();
     let set = into_matches(alloc, &patterns[0], first)?;
-    let left = without_others(alloc, set, &patterns[1..], &traces)?;
-    Ok(Found { set: left, end })
+    without_others(alloc, set, &patterns[1..], others)
 }
 
 // What is left of a set without the matches of these patterns, each over its trace.
@@ -92,38 +78,52 @@ fn without_others(
     Ok(left)
 }
 
-// The zones of the matches of one pattern, where they are kept as runs, and where its trace ends.
-// None where they are not, or where the canonical zones are wanted.
-fn run_zones(
+// The zones that are printed of them.
+fn wanted_zones(
     alloc: Global,
     patterns: &[Pattern],
-    traces: &[Packed],
+    first: Packed,
+    others: &[Packed],
     normal: bool,
-) -> Result<Option<Matches>, AllocError>
-    requires some { 0 < length patterns.now }
-    requires count { length traces.now ≡ length patterns.now }
-    ensures zones { IfOk result (λ found. IfSome found (λ found.
-        AreWantedZones normal patterns.now traces.now (listed_zones found.zones))) }
-    ensures end { IfOk result (λ found. IfSome found (λ found.
-        found.end ≡ end_of 0 (get_or traces.now 0 (quiet [])).segments)) }
+) -> Result<Listed, AllocError>
+    requires { length patterns.now ≡ length others.now + 1 }
+    ensures { IfOk result (λ zones.
+        AreWantedZones normal patterns.now (first ∷ others.now) (listed_zones zones)) }
+{
+    let set = wanted_matches(alloc, patterns, first, others)?;
+    let zones = zones_for(alloc, set, normal)?;
+    Ok(Listed::Zones(zones))
+}
+
+// The same, as runs where they are kept so: the matches of one pattern, unless the canonical zones
+// are wanted.
+fn listed_matches(
+    alloc: Global,
+    patterns: &[Pattern],
+    first: Packed,
+    others: &[Packed],
+    normal: bool,
+) -> Result<Listed, AllocError>
+    requires { length patterns.now ≡ length others.now + 1 }
+    ensures { IfOk result (λ zones.
+        AreWantedZones normal patterns.now (first ∷ others.now) (listed_zones zones)) }
 {
     if patterns.len() > 1 || normal {
-        return Ok(None);
+        return wanted_zones(alloc, patterns, first, others, normal);
     }
-    let Some(runs) = run_matches(alloc, &patterns[0], &traces[0])? else {
-        return Ok(None);
-    };
-    // For the proof: the calls say how the zones stand.
-    let _count = runs.len();
-    later_rise();
-    Ok(Some(Matches {
-        zones: Listed::Runs(runs),
-        end: traces[0].end(),
-    }))
+    match run_matches(alloc, &patterns[0], first)? {
+        Ok(runs) => {
+            // For the proof: the calls say how the zones stand.
+            let _count = runs.len();
+            later_rise();
+            Ok(Listed::Runs(runs))
+        }
+        Err(first) => wanted_zones(alloc, patterns, first, others, normal),
+    }
 }
 
 // The zones that are printed of the matches that are wanted, and where the first trace ends.
-fn listed_matches(
+fn printed_matches(
     alloc: Global,
     patterns: &[Pattern],
     traces: Vec<Packed>,
@@ -131,21 +131,16 @@ fn listed_matches(
 ) -> Result<Matches, AllocError>
     requires some { 0 < length patterns.now }
     requires count { length traces.items ≡ length patterns.now }
-    requires are_traces { All (λ trace. IsTrace trace.segments) traces.items }
     ensures zones { IfOk result (λ found.
         AreWantedZones normal patterns.now traces.items (listed_zones found.zones)) }
     ensures end { IfOk result (λ found.
         found.end ≡ end_of 0 (get_or traces.items 0 (quiet [])).segments) }
 {
-    if let Some(found) = run_zones(alloc, patterns, &traces, normal)? {
-        return Ok(found);
-    }
-    let found = wanted_matches(alloc, patterns, traces)?;
-    let zones = zones_for(alloc, found.set, normal)?;
-    Ok(Matches {
-        zones: Listed::Zones(zones),
-        end: found.end,
-    })
+    let mut traces = traces;
+    let first = traces.remove(0);
+    let end = first.end();
+    let zones = listed_matches(alloc, patterns, first, &traces, normal)?;
+    Ok(Matches { zones, end })
 }
 
 // The zones that a job asks for of a set: the canonical ones, or those of the set as they are.
@@ -211,7 +206,7 @@ pub fn find_matches<S: Source, R: TraceReader + Drop>(
         IfSome (S.told source.old).name (λ told. told ≡ job.now.input) }
 {
     let traces = input.read_traces(alloc, job.input.text(), source)?;
-    let found = listed_matches(alloc, &asked.patterns, traces, job.normal)?;
+    let found = printed_matches(alloc, &asked.patterns, traces, job.normal)?;
     check_count(&found.zones, job.max_zones)?;
     Ok(found)
 }

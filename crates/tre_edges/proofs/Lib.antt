@@ -4,6 +4,7 @@ pub mod RunLists
 pub mod SpansWithin
 pub mod PartsOfRuns
 pub mod RunSets
+pub mod RunPlaces
 pub mod EdgesOfRuns
 pub mod InstantLists
 pub mod Literals

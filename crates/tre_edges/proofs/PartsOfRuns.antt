@@ -1,10 +1,12 @@
 -- The stretches of a run that begin or end at its edges, as one zone.
-use Rattle.std.proofs.Common.{◌≡◌, ℕ, ◌+◌, ◌-◌, ◌*◌, ◌<◌, ◌≤◌, ◌↔◌, Bool, true, false, None, List, arith, ap, ⊎_elim, pos, ◌-ℤ◌, neg_ℤ, refl}
+use Rattle.std.proofs.Common.{◌≡◌, ℕ, ◌+◌, ◌-◌, ◌*◌, ◌<◌, ◌≤◌, ◌↔◌, Bool, true, false, None, List, arith, ap, ⊎_elim, pos, ◌-ℤ◌, neg_ℤ, refl, ℤ}
 use Rattle.std.proofs.Math.Nat.{mul-le-mul_right}
 use Rattle.std.proofs.lemmas.Int.{ints}
+use Rattle.std.specs.Prelude.{◌&&◌, if◌then◌else◌, IsTrue}
 use Rattle.tre_pairs.specs.Pairs.{Pairs, Either, Lasting}
 use Rattle.tre_pairs.specs.declared.TheConstants.{TIME_MAX}
 use Rattle.tre_zone.specs.Zone.{ZoneHolds, IsCanonical, IsZoneOf}
+use Rattle.tre_zone.specs.Bound.{Meets}
 use Rattle.tre_zone.specs.ZoneList.{SetHolds, HoldExactly}
 use Rattle.tre_zone.specs.declared.zone_bounds.ZoneBounds.{ZoneBounds}
 use Rattle.tre_zone.proofs.CanonicalBounds.{bounds-canonical}
@@ -16,6 +18,25 @@ use Rattle.tre_edges.specs.declared.run_edges.RunEdges.{RunEdges}
 
 abbrev pub edges_of : Bool → Bool → RunEdges
 edges_of rise fall = record { rise = rise; fall = fall }
+
+-- The six bounds, one by one.
+pub part-is : (edges : RunEdges) (begin end : ℕ)
+    {begin_low begin_high end_low end_high dur_low dur_high : ℤ}
+    → begin_low ≡ pos 1 -ℤ pos (2 * begin)
+    → begin_high ≡ (if edges.rise then pos (2 * begin + 1) else pos (2 * end))
+    → end_low ≡ (if edges.fall then pos 1 -ℤ pos (2 * end) else neg_ℤ (pos (2 * begin)))
+    → end_high ≡ pos (2 * end + 1)
+    → dur_low ≡ (if edges.rise && edges.fall then pos 1 -ℤ pos (2 * (end - begin)) else pos 0)
+    → dur_high ≡ pos (2 * (end - begin) + 1)
+    → record {
+      begin_low = begin_low;
+      begin_high = begin_high;
+      end_low = end_low;
+      end_high = end_high;
+      dur_low = dur_low;
+      dur_high = dur_high;
+    } ≡ part_of edges.rise edges.fall begin end
+part-is edges begin end one two three four five six = rw (one, two, three, four, five, six) refl
 
 module _ (begin end : ℕ) (rising : begin < end) (limit : end ≤ TIME_MAX) where
   pub part-canonical : (rise fall : Bool) → IsCanonical (part_of rise fall begin end)
@@ -39,9 +60,6 @@ module _ (begin end : ℕ) (rising : begin < end) (limit : end ≤ TIME_MAX) whe
 whole : (end begin : ℕ) → begin < end → (end - begin) + begin ≡ end
 whole end begin rising = omega arith
 
-no : {A : Type 0} → false ≡ true → A
-no wrong = absurd cc
-
 module _ (begin end : ℕ) (rising : begin < end) (a b n : ℕ) (some : 0 < n) where
   width : (end - begin) * n + begin * n ≡ end * n
   width = omega (arith, ap (λ (t : ℕ). t * n) (whole end begin rising))
@@ -49,129 +67,90 @@ module _ (begin end : ℕ) (rising : begin < end) (a b n : ℕ) (some : 0 < n) w
   longer : begin * n + n ≤ end * n
   longer = omega (arith, mul-le-mul_right n rising)
 
+  -- ---- where it begins at the rise
+
+  at-rise : Meets (pos (2 * begin + 1)) a 0 n ↔ (a ≤ 0 + begin * n)
+  at-rise = Meets-at_most (pos (2 * begin + 1)) begin refl a 0 n
+
+  begins : (rise : Bool) → begin * n ≤ a
+      → Meets (if rise then pos (2 * begin + 1) else pos (2 * end)) a 0 n
+      → IsTrue rise → a ≡ begin * n
+  begins true after latest is = omega (arith, after, at-rise.0 latest)
+  begins false after latest wrong = cc
+
+  latest : (rise : Bool) → a < end * n → (IsTrue rise → a ≡ begin * n)
+      → Meets (if rise then pos (2 * begin + 1) else pos (2 * end)) a 0 n
+  latest true before at_rise = at-rise.1 (omega (arith, at_rise refl))
+  latest false before at_rise =
+      (Meets-less (pos (2 * end)) end refl a 0 n).1 (omega (arith, before))
+
+  -- ---- where it ends at the fall
+
+  at-fall : Meets (pos 1 -ℤ pos (2 * end)) 0 b n ↔ (0 + end * n ≤ b)
+  at-fall = Meets-at_least (pos 1 -ℤ pos (2 * end)) end refl 0 b n
+
+  ends : (fall : Bool) → b ≤ end * n
+      → Meets (if fall then pos 1 -ℤ pos (2 * end) else neg_ℤ (pos (2 * begin))) 0 b n
+      → IsTrue fall → b ≡ end * n
+  ends true before earliest is = omega (arith, before, at-fall.0 earliest)
+  ends false before earliest wrong = cc
+
+  earliest : (fall : Bool) → begin * n < b → (IsTrue fall → b ≡ end * n)
+      → Meets (if fall then pos 1 -ℤ pos (2 * end) else neg_ℤ (pos (2 * begin))) 0 b n
+  earliest true after at_fall = at-fall.1 (omega (arith, at_fall refl))
+  earliest false after at_fall =
+      (Meets-more (neg_ℤ (pos (2 * begin))) begin refl 0 b n).1 (omega (arith, after))
+
+  -- ---- how long it lasts
+
+  all-of-it : Meets (pos 1 -ℤ pos (2 * (end - begin))) a b n ↔ (a + (end - begin) * n ≤ b)
+  all-of-it = Meets-at_least (pos 1 -ℤ pos (2 * (end - begin))) (end - begin) refl a b n
+
+  some-time : Meets (pos 0) a b n ↔ (a + 0 * n < b)
+  some-time = Meets-more (pos 0) 0 refl a b n
+
+  lasts : (both : Bool)
+      → Meets (if both then pos 1 -ℤ pos (2 * (end - begin)) else pos 0) a b n → a < b
+  lasts true least = omega (arith, some, width, longer, all-of-it.0 least)
+  lasts false least = omega (arith, some-time.0 least)
+
+  least : (rise fall : Bool) → a < b → (IsTrue rise → a ≡ begin * n)
+      → (IsTrue fall → b ≡ end * n)
+      → Meets (if rise && fall then pos 1 -ℤ pos (2 * (end - begin)) else pos 0) a b n
+  least true true after at_rise at_fall =
+      all-of-it.1 (omega (arith, width, at_rise refl, at_fall refl))
+  least true false after at_rise at_fall = some-time.1 (omega (arith, after))
+  least false fall after at_rise at_fall = some-time.1 (omega (arith, after))
+
   pub part-holds : (rise fall : Bool) → ZoneHolds (part_of rise fall begin end) a b n
       ↔ IsPart (edges_of rise fall) begin end a b n
-  part-holds true true =
+  part-holds rise fall =
       let begin_low = Meets-at_least (pos 1 -ℤ pos (2 * begin)) begin refl 0 a n in
-      let begin_high = Meets-at_most (pos (2 * begin + 1)) begin refl a 0 n in
-      let end_low = Meets-at_least (pos 1 -ℤ pos (2 * end)) end refl 0 b n in
       let end_high = Meets-at_most (pos (2 * end + 1)) end refl b 0 n in
-      let dur_low = Meets-at_least (pos 1 -ℤ pos (2 * (end - begin))) (end - begin) refl a b n in
-      let dur_high = Meets-at_most (pos (2 * (end - begin) + 1)) (end - begin) refl b a n in
-      let long = width in
-      let more = longer in (
+      let dur_high = Meets-at_most (pos (2 * (end - begin) + 1)) (end - begin) refl b a n in (
         (λ z.
-            let one = begin_low.0 z.begin_low in
-            let two = begin_high.0 z.begin_high in
-            let three = end_low.0 z.end_low in
-            let four = end_high.0 z.end_high in
+            let after : begin * n ≤ a = omega (arith, begin_low.0 z.begin_low) in
+            let before : b ≤ end * n = omega (arith, end_high.0 z.end_high) in
             record {
-              span = record { starts = omega arith; lasts = omega arith; ends = omega arith };
-              begins = λ _. omega arith;
-              ends = λ _. omega arith;
+              span = record {
+                starts = after;
+                lasts = lasts (rise && fall) z.dur_low;
+                ends = before;
+              };
+              begins = begins rise after z.begin_high;
+              ends = ends fall before z.end_low;
             }),
         (λ p.
-            let one = p.begins refl in
-            let two = p.ends refl in
+            let after = p.span.starts in
+            let long = p.span.lasts in
+            let before = p.span.ends in
             record {
-              begin_low = begin_low.1 (omega arith);
-              begin_high = begin_high.1 (omega arith);
-              end_low = end_low.1 (omega arith);
-              end_high = end_high.1 (omega arith);
-              dur_low = dur_low.1 (omega arith);
-              dur_high = dur_high.1 (omega arith);
-            }),
-      )
-  part-holds true false =
-      let begin_low = Meets-at_least (pos 1 -ℤ pos (2 * begin)) begin refl 0 a n in
-      let begin_high = Meets-at_most (pos (2 * begin + 1)) begin refl a 0 n in
-      let end_low = Meets-more (neg_ℤ (pos (2 * begin))) begin refl 0 b n in
-      let end_high = Meets-at_most (pos (2 * end + 1)) end refl b 0 n in
-      let dur_low = Meets-more (pos 0) 0 refl a b n in
-      let dur_high = Meets-at_most (pos (2 * (end - begin) + 1)) (end - begin) refl b a n in
-      let long = width in (
-        (λ z.
-            let one = begin_low.0 z.begin_low in
-            let two = begin_high.0 z.begin_high in
-            let three = dur_low.0 z.dur_low in
-            let four = end_high.0 z.end_high in
-            record {
-              span = record { starts = omega arith; lasts = omega arith; ends = omega arith };
-              begins = λ _. omega arith;
-              ends = λ wrong. no wrong;
-            }),
-        (λ p.
-            let one = p.begins refl in
-            let two = p.span.lasts in
-            let three = p.span.ends in
-            record {
-              begin_low = begin_low.1 (omega arith);
-              begin_high = begin_high.1 (omega arith);
-              end_low = end_low.1 (omega arith);
-              end_high = end_high.1 (omega arith);
-              dur_low = dur_low.1 (omega arith);
-              dur_high = dur_high.1 (omega arith);
-            }),
-      )
-  part-holds false true =
-      let begin_low = Meets-at_least (pos 1 -ℤ pos (2 * begin)) begin refl 0 a n in
-      let begin_high = Meets-less (pos (2 * end)) end refl a 0 n in
-      let end_low = Meets-at_least (pos 1 -ℤ pos (2 * end)) end refl 0 b n in
-      let end_high = Meets-at_most (pos (2 * end + 1)) end refl b 0 n in
-      let dur_low = Meets-more (pos 0) 0 refl a b n in
-      let dur_high = Meets-at_most (pos (2 * (end - begin) + 1)) (end - begin) refl b a n in
-      let long = width in (
-        (λ z.
-            let one = begin_low.0 z.begin_low in
-            let two = end_low.0 z.end_low in
-            let three = dur_low.0 z.dur_low in
-            let four = end_high.0 z.end_high in
-            record {
-              span = record { starts = omega arith; lasts = omega arith; ends = omega arith };
-              begins = λ wrong. no wrong;
-              ends = λ _. omega arith;
-            }),
-        (λ p.
-            let one = p.ends refl in
-            let two = p.span.lasts in
-            let three = p.span.starts in
-            record {
-              begin_low = begin_low.1 (omega arith);
-              begin_high = begin_high.1 (omega arith);
-              end_low = end_low.1 (omega arith);
-              end_high = end_high.1 (omega arith);
-              dur_low = dur_low.1 (omega arith);
-              dur_high = dur_high.1 (omega arith);
-            }),
-      )
-  part-holds false false =
-      let begin_low = Meets-at_least (pos 1 -ℤ pos (2 * begin)) begin refl 0 a n in
-      let begin_high = Meets-less (pos (2 * end)) end refl a 0 n in
-      let end_low = Meets-more (neg_ℤ (pos (2 * begin))) begin refl 0 b n in
-      let end_high = Meets-at_most (pos (2 * end + 1)) end refl b 0 n in
-      let dur_low = Meets-more (pos 0) 0 refl a b n in
-      let dur_high = Meets-at_most (pos (2 * (end - begin) + 1)) (end - begin) refl b a n in
-      let long = width in (
-        (λ z.
-            let one = begin_low.0 z.begin_low in
-            let three = dur_low.0 z.dur_low in
-            let four = end_high.0 z.end_high in
-            record {
-              span = record { starts = omega arith; lasts = omega arith; ends = omega arith };
-              begins = λ wrong. no wrong;
-              ends = λ wrong. no wrong;
-            }),
-        (λ p.
-            let one = p.span.starts in
-            let two = p.span.lasts in
-            let three = p.span.ends in
-            record {
-              begin_low = begin_low.1 (omega arith);
-              begin_high = begin_high.1 (omega arith);
-              end_low = end_low.1 (omega arith);
-              end_high = end_high.1 (omega arith);
-              dur_low = dur_low.1 (omega arith);
-              dur_high = dur_high.1 (omega arith);
+              begin_low = begin_low.1 (omega (arith, after));
+              begin_high = latest rise (omega (arith, long, before)) p.begins;
+              end_low = earliest fall (omega (arith, after, long)) p.ends;
+              end_high = end_high.1 (omega (arith, before));
+              dur_low = least rise fall long p.begins p.ends;
+              dur_high = dur_high.1 (omega (arith, width, after, before));
             }),
       )
 

@@ -1,5 +1,5 @@
 -- Sets of the parts of runs.
-use Rattle.std.proofs.Common.{◌≡◌, ℕ, suc, ◌+◌, ◌*◌, ◌<◌, ◌≤◌, ◌∙◌, List, [], ◌∷◌, ◌++◌, None, length, get_or, if◌then◌else◌, Result, Ok, Err, is_ok, sym, arith, ⊎_elim, inl, inr}
+use Rattle.std.proofs.Common.{◌≡◌, ℕ, suc, ◌+◌, ◌*◌, ◌<◌, ◌≤◌, ◌∙◌, List, [], ◌∷◌, ◌++◌, None, length, get_or, if◌then◌else◌, Result, Ok, Err, is_ok, sym, ap, arith, ⊎_elim, inl, inr}
 use Rattle.std.proofs.Math.Nat.{mul-le-mul_right}
 use Rattle.std.proofs.lemmas.Int.{ints}
 use Rattle.std.proofs.lemmas.List.{get_or-map, length-map, map-append}
@@ -22,7 +22,7 @@ use Rattle.tre_edges.specs.declared.run_edges.RunEdges.{RunEdges}
 use Rattle.tre_edges.specs.declared.run_sets.Run.{Run}
 use Rattle.tre_edges.proofs.PartsOfRuns.{part-canonical, part-exact, part-holds, any_length}
 
-abbrev Lasts : Run → Type 0
+abbrev pub Lasts : Run → Type 0
 Lasts run = (run.begin < run.end) × (run.end ≤ TIME_MAX)
 
 abbrev EndsFirst : Run → Run → Type 0
@@ -47,6 +47,21 @@ module _ (edges : RunEdges) where
       → place < length runs
       → get_or (zones_in edges runs) place other ≡ zone_of edges (get_or runs place none)
   zone_at runs place none other within = get_or-map (zone_of edges) runs place none other within
+
+  -- the run at a place, by any other in its stead
+  module _ (runs : List Run) (place : ℕ) (run : Run)
+      (inside : place < length (zones_in edges runs))
+      (there : (other : Run) → run ≡ get_or runs place other) where
+    place_of : place < length runs
+    place_of = omega (arith, inside, length-map runs (zone_of edges))
+
+    pub lasts_there : AreInTime runs → Lasts run
+    lasts_there timed = rw (sym (there run)) at (timed.bounded place run place_of)
+
+    pub zone_there : (other : ZoneBounds)
+        → zone_of edges run ≡ get_or (zones_in edges runs) place other
+    zone_there other =
+        ap (zone_of edges) (there run) ∙ sym (zone_at runs place run other place_of)
 
   -- what the parts of a run are
   is_part : (run : Run) → Lasts run → (a b n : ℕ) → 0 < n → ZoneHolds (zone_of edges run) a b n

@@ -3,6 +3,7 @@
 pub mod Runs
 pub mod RunParts
 pub mod RunsInTime
+pub mod RunPlaces
 pub mod RunSets
 pub mod Instants
 pub mod StateWords

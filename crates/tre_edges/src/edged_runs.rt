@@ -1,5 +1,5 @@
 // The stretches of a trace on which a state holds, from its edges on or up to them, as a set.
-ghost use Rattle.std.specs.Prelude.{IfOk};
+ghost use Rattle.std.specs.Prelude.{◌<◌, ◌^◌, IfOk, length};
 ghost use Rattle.tre_pairs.specs.Pairs.{Lasting};
 ghost use Rattle.tre_state.specs.State.{tree_of};
 ghost use Rattle.tre_state.specs.StateTree.{NumbersBelow};
@@ -10,13 +10,14 @@ ghost use Rattle.tre_edges.specs.RunSets.{zones_of};
 
 use crate::each_run::{KeepsParts, each_run};
 use crate::part_within::part_within;
-use crate::room::{room_for_runs, run_count};
+use crate::room::room_for_runs;
 use crate::run_edges::RunEdges;
-use crate::run_sets::RunSet;
+use crate::run_sets::{PlaceKeeper, RunSet};
 use crate::truth_words::truth;
 use std::alloc::{AllocError, Global};
-use tre_packed::AnyTrace;
+use tre_packed::{AnyTrace, Packed};
 use tre_state::{NAMES_MAX, State};
+use tre_trace::Start;
 use tre_zone::Interval;
 use tre_zoneset::ZoneSet;
 
@@ -45,21 +46,29 @@ pub fn run_parts<T: AnyTrace>(
     Ok(parts.zones)
 }
 
-/// All of them, however long they last, in few bytes for each run.
-pub fn run_set<T: AnyTrace>(
+/// All of them, however long they last, in few bytes for each run beside the trace.
+pub fn run_set(
     alloc: Global,
     state: &State,
-    trace: &T,
+    trace: Packed,
     edges: RunEdges,
 ) -> Result<RunSet, AllocError>
-    requires { NumbersBelow NAMES_MAX (tree_of state.now) }
+    requires names { NumbersBelow NAMES_MAX (tree_of state.now) }
+    requires few { length trace.segments < 2 ^ 32 }
     ensures { IfOk result (λ set. HoldExactly (zones_of set)
-        (IsRunPart edges (tree_of state.now) (whole (T.timeline trace.now)))) }
+        (IsRunPart edges (tree_of state.now) (whole trace))) }
 {
-    let words = truth(alloc, state, trace)?;
-    let mut set = RunSet::with_room(alloc, run_count(&words), edges)?;
-    each_run(&words, trace, &mut set)?;
-    Ok(set)
+    let words = truth(alloc, state, &trace)?;
+    let mut keeper = PlaceKeeper::new(alloc, &trace, &words, edges)?;
+    each_run(&words, &trace, &mut keeper)?;
+    let edges = keeper.edges;
+    let places = keeper.places;
+    Ok(RunSet {
+        trace,
+        words,
+        places,
+        edges,
+    })
 }
 
 // The zones of parts, and which parts are kept.
@@ -71,11 +80,15 @@ struct Parts {
 }
 
 impl KeepsParts for Parts {
+    ghost use Rattle.std.specs.Prelude.{None};
+
     ghost kept = { λ parts. parts.zones };
 
     ghost edges = { λ parts. parts.edges };
 
     ghost interval = { λ parts. parts.interval };
+
+    ghost runs_of = { λ parts. None };
 
     #[inline(always)]
     fn edges(&self) -> RunEdges {
@@ -83,8 +96,8 @@ impl KeepsParts for Parts {
     }
 
     #[inline(always)]
-    fn keep(&mut self, begin: u64, end: u64) -> Result<(), AllocError> {
-        match part_within(begin, end, self.edges, &self.interval) {
+    fn keep(&mut self, from: Start, to: Start) -> Result<(), AllocError> {
+        match part_within(from.time, to.time, self.edges, &self.interval) {
             Some(zone) => self.zones.push_disjoint(zone),
             None => Ok(()),
         }

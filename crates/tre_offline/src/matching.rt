@@ -1,5 +1,5 @@
 // The matches of an expression, from those of its parts.
-ghost use Rattle.std.specs.Prelude.{IfOk, IfSome};
+ghost use Rattle.std.specs.Prelude.{◌≡◌, IfErr, IfOk, IfSome};
 ghost use Rattle.tre_pairs.specs.Pairs.{Lasting};
 ghost use Rattle.tre_syntax.specs.Expr.{tree_of};
 ghost use Rattle.tre_syntax.specs.Meaning.{Matches, MatchesRest};
@@ -19,7 +19,7 @@ use crate::lengths::{goes_first, is_repetition, longest_beside, longest_for};
 use crate::operators::{followed, joined, met, repeated, restricted, shortened};
 use std::alloc::{AllocError, Global};
 use tre_edges::{Piece, RunSet, run_set};
-use tre_packed::AnyTrace;
+use tre_packed::{AnyTrace, Packed};
 use tre_state::NAMES_MAX;
 use tre_syntax::{Expr, Pattern};
 use tre_zoneset::ZoneSet;
@@ -60,21 +60,26 @@ pub fn into_matches<T: AnyTrace + Drop>(
 }
 
 /// The matches over the whole trace in few bytes each, where the expression is a literal, with its
-/// edges or with none, that may last however long. None where it is not.
-pub fn run_matches<T: AnyTrace>(
+/// edges or with none, that may last however long. Where it is not, or where a place of the trace
+/// takes more than four bytes, the trace as it was.
+pub fn run_matches(
     alloc: Global,
     pattern: &Pattern,
-    trace: &T,
-) -> Result<Option<RunSet>, AllocError>
-    ensures { IfOk result (λ found. IfSome found (λ runs.
-        HoldExactly (zones_of runs) (Matches (pattern_tree pattern.now) (T.timeline trace.now)))) }
+    trace: Packed,
+) -> Result<Result<RunSet, Packed>, AllocError>
+    ensures runs { IfOk result (λ found. IfOk found (λ runs.
+        HoldExactly (zones_of runs) (Matches (pattern_tree pattern.now) trace))) }
+    ensures trace { IfOk result (λ found. IfErr found (λ left. left ≡ trace)) }
 {
+    if trace.count() > u32::MAX as usize {
+        return Ok(Err(trace));
+    }
     match unlimited(pattern.expr()) {
         Some(it) => {
             let runs = run_set(alloc, it.state, trace, it.edges)?;
-            Ok(Some(runs))
+            Ok(Ok(runs))
         }
-        None => Ok(None),
+        None => Ok(Err(trace)),
     }
 }
 

@@ -1,5 +1,5 @@
 -- Whether an end stands before another over some times, seen at one of them; and cut times.
-use Rattle.std.proofs.Common.{◌≡◌, ◌≢◌, ℕ, ◌+◌, ◌*◌, ◌<◌, ◌≤◌, ◌↔◌, Bool, true, false, cond, IsTrue, refl, sym, ap, arith, inl, inr, ⊎_elim, true≢false, mul-le-mul_right}
+use Rattle.std.proofs.Common.{◌≡◌, ◌≢◌, ℕ, ◌+◌, ◌-◌, ◌*◌, ◌<◌, ◌≤◌, ◌↔◌, Bool, true, false, cond, IsTrue, refl, sym, ap, arith, inl, inr, ⊎_elim, true≢false, mul-le-mul_right}
 use Rattle.std.proofs.lemmas.Bool.{cases_eq, cases_lt}
 use Rattle.tre_strips.specs.Bar.{place_of}
 use Rattle.tre_strips.specs.Times.{IsAmongTimes, Narrows, sample_of, IsSettled, Compares}
@@ -124,3 +124,52 @@ sample_near times = (omega arith, omega arith)
 pub flag_small : (flag : Bool) → cond flag 1 0 ≤ 1
 flag_small true = omega arith
 flag_small false = omega arith
+
+-- ---- a moving end and a fixed one
+
+pub is-so : {A : Type 0} → A → IsTrue true ↔ A
+is-so a = ((λ e. a), (λ b. refl))
+
+pub is-not : {A : Type 0} → (A → ⊥) → IsTrue false ↔ A
+is-not never = ((λ e. absurd (true≢false (sym e))), (λ a. absurd (never a)))
+
+-- The places where the two stand at the sample, in quarters of a tick.
+module _ (times : Times) (moving fixed : BarEnd) where
+  abbrev pub moving_place : ℕ
+  moving_place = 4 * moving.ticks + (2 * sample_of times + cond moving.after 1 0)
+
+  abbrev pub fixed_place : ℕ
+  fixed_place = 4 * fixed.ticks + cond fixed.after 1 0
+
+  pub meets-later : times.from < fixed.ticks - moving.ticks → moving_place < fixed_place
+  meets-later later =
+      omega (arith, later, (sample_near times).1, flag_small moving.after)
+
+  pub met-before : fixed.ticks - moving.ticks < times.from → fixed_place < moving_place
+  met-before before =
+      omega (arith, before, (sample_near times).0, flag_small fixed.after)
+
+  pub meets-never : fixed.ticks < moving.ticks → fixed_place < moving_place
+  meets-never past = omega (arith, past, flag_small fixed.after)
+
+  -- where they meet, their flags tell
+  module _ (meeting late one other : ℕ) (is : meeting ≡ fixed.ticks - moving.ticks)
+      (below : meeting ≤ times.from) (above : times.from ≤ meeting)
+      (rising : moving.ticks ≤ fixed.ticks) (later : 4 * times.from + late ≡ 2 * sample_of times)
+      (one_is : one ≡ cond moving.after 1 0) (other_is : other ≡ cond fixed.after 1 0) where
+    same : moving_place ≡ 4 * fixed.ticks + (one + late)
+    same = omega (arith, is, below, above, rising, later, one_is)
+
+    pub moving-first : {told : Bool} → (IsTrue told ↔ (one + late < other))
+        → IsTrue told ↔ (moving_place < fixed_place)
+    moving-first less = (
+      (λ e. omega (arith, same, other_is, less.0 e)),
+      (λ lt. less.1 (omega (arith, same, other_is, lt))),
+    )
+
+    pub fixed-first : {told : Bool} → (IsTrue told ↔ (other < one + late))
+        → IsTrue told ↔ (fixed_place < moving_place)
+    fixed-first less = (
+      (λ e. omega (arith, same, other_is, less.0 e)),
+      (λ lt. less.1 (omega (arith, same, other_is, lt))),
+    )

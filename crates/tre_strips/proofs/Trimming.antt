@@ -3,10 +3,10 @@ use Rattle.std.proofs.Common.{◌≡◌, ℕ, ◌+◌, ◌-◌, ◌^◌, ◌<◌
 use Rattle.std.specs.Int.{int_min}
 use Rattle.std.proofs.lemmas.Int.{ints, clamps, by_lt_z}
 use Rattle.std.proofs.lemmas.List.{take_all}
-use Rattle.tre_pairs.specs.Pairs.{Both}
+use Rattle.tre_pairs.specs.Pairs.{Pairs, Both}
 use Rattle.tre_pairs.specs.declared.TheConstants.{TIME_MAX}
 use Rattle.tre_zone.specs.Bound.{value_of, weakness_of, Meets, IsKeyWithin, IsValueWithin}
-use Rattle.tre_zone.specs.Zone.{ZoneHolds, Covers, IsCanonical, Includes, GivesZone, IsInFrame}
+use Rattle.tre_zone.specs.Zone.{ZoneHolds, AreKeysWithin, AreValuesWithin, Covers, IsCanonical, Includes, GivesZone, IsInFrame}
 use Rattle.tre_zone.specs.ZoneList.{SetHolds, HoldExactly, AreCanonical}
 use Rattle.tre_zone.specs.declared.zone_bounds.ZoneBounds.{ZoneBounds}
 use Rattle.tre_zone.proofs.Bounds.{split, split-unique, Splits, IsValueWithin-key}
@@ -57,95 +57,91 @@ Meets-behind key a n =
 
 -- ---- parts of a zone
 
+-- The bounds of a zone, but for those on its begins.
+abbrev pub begun : ZoneBounds → ℤ → ℤ → ZoneBounds
+begun zone low high = record {
+  begin_low = low;
+  begin_high = high;
+  end_low = zone.end_low;
+  end_high = zone.end_high;
+  dur_low = zone.dur_low;
+  dur_high = zone.dur_high;
+}
+
+-- Such bounds give the pairs of the zone that begin as they should.
+module _ (zone : ZoneBounds) (low high : ℤ) (Begins : ℕ → ℕ → Type 0) (P : Pairs)
+    (canonical : IsCanonical zone)
+    (both : (a n : ℕ) → 0 < n → (Meets low 0 a n × Meets high a 0 n)
+    ↔ ((Meets zone.begin_low 0 a n × Meets zone.begin_high a 0 n) × Begins a n))
+    (is : (a b n : ℕ) → P a b n ↔ (ZoneHolds zone a b n × Begins a n)) where
+  begun-given : (found : Option ZoneBounds)
+      → GivesZone found (Both (ZoneHolds (begun zone low high)) (IsInFrame TIME_MAX))
+      → GivesZone found P
+  begun-given found given = GivesZone-same found _ P (λ a b n some le. (
+    (λ h.
+        let z = h.left in
+        let parts = (both a n some).0 (z.begin_low, z.begin_high) in
+        (is a b n).1 (
+          record {
+            begin_low = parts.0.0;
+            begin_high = parts.0.1;
+            end_low = z.end_low;
+            end_high = z.end_high;
+            dur_low = z.dur_low;
+            dur_high = z.dur_high;
+          },
+          parts.1,
+        )),
+    (λ p.
+        let one = (is a b n).0 p in
+        let z = one.0 in
+        let begins = (both a n some).1 ((z.begin_low, z.begin_high), one.1) in
+        record {
+          left = record {
+            begin_low = begins.0;
+            begin_high = begins.1;
+            end_low = z.end_low;
+            end_high = z.end_high;
+            dur_low = z.dur_low;
+            dur_high = z.dur_high;
+          };
+          right = canonical-frame zone canonical a b n some z;
+        }),
+  )) given
+
 pub early_given : (zone : ZoneBounds) (last : ℤ) (found : Option ZoneBounds) (high : ℤ)
     → IsCanonical zone → high ≡ int_min zone.begin_high last
-    → GivesZone found (Both (ZoneHolds (record {
-      begin_low = zone.begin_low;
-      begin_high = high;
-      end_low = zone.end_low;
-      end_high = zone.end_high;
-      dur_low = zone.dur_low;
-      dur_high = zone.dur_high;
-    })) (IsInFrame TIME_MAX)) → GivesZone found (Early zone last)
+    → GivesZone found (Both (ZoneHolds (begun zone zone.begin_low high)) (IsInFrame TIME_MAX))
+    → GivesZone found (Early zone last)
 early_given zone last found high canonical is given =
-    GivesZone-same found _ (Early zone last) (λ a b n some le.
-    let both : Meets high a 0 n ↔ (Meets zone.begin_high a 0 n × Meets last a 0 n) =
+    begun-given zone zone.begin_low high (λ a n. Meets last a 0 n) (Early zone last) canonical
+    (λ a n some.
+    let less : Meets high a 0 n ↔ (Meets zone.begin_high a 0 n × Meets last a 0 n) =
     subst (λ (k : ℤ). Meets k a 0 n ↔ (Meets zone.begin_high a 0 n × Meets last a 0 n)) (sym is)
     (Meets-min zone.begin_high last a 0 n some) in (
-      (λ h.
-          let z = h.left in
-          let parts = both.0 z.begin_high in
-          record {
-            held = record {
-              begin_low = z.begin_low;
-              begin_high = parts.0;
-              end_low = z.end_low;
-              end_high = z.end_high;
-              dur_low = z.dur_low;
-              dur_high = z.dur_high;
-            };
-            begins = parts.1;
-          }),
-      (λ e.
-          let z = e.held in
-          record {
-            left = record {
-              begin_low = z.begin_low;
-              begin_high = both.1 (z.begin_high, e.begins);
-              end_low = z.end_low;
-              end_high = z.end_high;
-              dur_low = z.dur_low;
-              dur_high = z.dur_high;
-            };
-            right = canonical-frame zone canonical a b n some z;
-          }),
-    )) given
+      (λ m. let parts = less.0 m.1 in ((m.0, parts.0), parts.1)),
+      (λ m. (m.0.0, less.1 (m.0.1, m.1))),
+    ))
+    (λ a b n. ((λ e. (e.held, e.begins)), (λ e. record { held = e.0; begins = e.1 })))
+    found given
 
 pub late_given : (zone : ZoneBounds) (last : ℤ) (found : Option ZoneBounds) (low : ℤ)
     → IsCanonical zone → low ≡ int_min zone.begin_low (pos 1 -ℤ last)
-    → GivesZone found (Both (ZoneHolds (record {
-      begin_low = low;
-      begin_high = zone.begin_high;
-      end_low = zone.end_low;
-      end_high = zone.end_high;
-      dur_low = zone.dur_low;
-      dur_high = zone.dur_high;
-    })) (IsInFrame TIME_MAX)) → GivesZone found (Late zone last)
+    → GivesZone found (Both (ZoneHolds (begun zone low zone.begin_high)) (IsInFrame TIME_MAX))
+    → GivesZone found (Late zone last)
 late_given zone last found low canonical is given =
-    GivesZone-same found _ (Late zone last) (λ a b n some le.
-    let both : Meets low 0 a n ↔ (Meets zone.begin_low 0 a n × Meets (pos 1 -ℤ last) 0 a n) =
+    begun-given zone low zone.begin_high (λ a n. Meets last a 0 n → ⊥) (Late zone last) canonical
+    (λ a n some.
+    let less : Meets low 0 a n ↔ (Meets zone.begin_low 0 a n × Meets (pos 1 -ℤ last) 0 a n) =
     subst (λ (k : ℤ). Meets k 0 a n
     ↔ (Meets zone.begin_low 0 a n × Meets (pos 1 -ℤ last) 0 a n)) (sym is)
     (Meets-min zone.begin_low (pos 1 -ℤ last) 0 a n some) in
     let turned = Meets-behind last a n in (
-      (λ h.
-          let z = h.left in
-          let parts = both.0 z.begin_low in
-          record {
-            held = record {
-              begin_low = parts.0;
-              begin_high = z.begin_high;
-              end_low = z.end_low;
-              end_high = z.end_high;
-              dur_low = z.dur_low;
-              dur_high = z.dur_high;
-            };
-            begins = turned.0 parts.1;
-          }),
-      (λ e.
-          let z = e.held in
-          record {
-            left = record {
-              begin_low = both.1 (z.begin_low, turned.1 e.begins);
-              begin_high = z.begin_high;
-              end_low = z.end_low;
-              end_high = z.end_high;
-              dur_low = z.dur_low;
-              dur_high = z.dur_high;
-            };
-            right = canonical-frame zone canonical a b n some z;
-          }),
-    )) given
+      (λ m. let parts = less.0 m.0 in ((parts.0, m.1), turned.0 parts.1)),
+      (λ m. (less.1 (m.0.0, turned.1 m.1), m.0.1)),
+    ))
+    (λ a b n. ((λ e. (e.held, e.begins)), (λ e. record { held = e.0; begins = e.1 })))
+    found given
 
 -- ---- what is left of a zone
 
@@ -295,3 +291,15 @@ value_min one other key is within low =
 
 pub value_of_key : (key : ℤ) → IsKeyWithin (2 ^ 42) key → IsValueWithin (2 ^ 42) key
 value_of_key key within = IsValueWithin-key (2 ^ 42) (2 ^ 42) (omega arith) key within
+
+pub begun-values : (zone : ZoneBounds) (low high : ℤ) → AreKeysWithin (2 ^ 42) zone
+    → IsValueWithin (2 ^ 42) low → IsValueWithin (2 ^ 42) high
+    → AreValuesWithin (2 ^ 42) (begun zone low high)
+begun-values zone low high keys is_low is_high = record {
+  begin_low = is_low;
+  begin_high = is_high;
+  end_low = value_of_key _ keys.end_low;
+  end_high = value_of_key _ keys.end_high;
+  dur_low = value_of_key _ keys.dur_low;
+  dur_high = value_of_key _ keys.dur_high;
+}

@@ -1,11 +1,14 @@
-use Rattle.std.proofs.Common.{◌+◌, ◌<◌, ◌≤◌, ◌∙◌, length, refl, sym, arith, inl, inr, ⊎_elim}
+use Rattle.std.proofs.Common.{◌+◌, ◌<◌, ◌≤◌, ◌∙◌, length, refl, sym, arith, inl, inr, ⊎_elim, ap}
 use Rattle.tre_packed.proofs.Adding.{count-limit}
 use Rattle.tre_state.specs.StateTree.{HoldsOn}
 use Rattle.tre_zone.proofs.ZoneListLemmas.{SetHolds-empty}
 use Rattle.tre_edges.specs.RunParts.{IsFoundPart, LastsIn}
+use Rattle.tre_edges.specs.RunPlaces.{trace_words}
+use Rattle.tre_edges.proofs.EdgesOfRuns.{time_of-less}
 use Rattle.tre_edges.proofs.EndsOfLists.{EndBefore-empty, EndBefore-later}
 use Rattle.tre_edges.proofs.NextParts.{PartFrom, part_whole, part_found, either_lasting, calm_then}
 use Rattle.tre_edges.proofs.Places.{time_of, time_of-mono, time_of-limit, later}
+use Rattle.tre_edges.proofs.RunPlaces.{known_run}
 use Rattle.tre_edges.proofs.RunsOfTraces.{no_more}
 use Rattle.tre_edges.proofs.Turns.{exact_closed}
 use Rattle.tre_edges.proofs.each_run.each_run.Goals as goal
@@ -28,6 +31,7 @@ loop-at-init g c = record {
   calm = λ state truth _ none. absurd (omega (arith, none));
   edges = sym c.edges-edges.ensures;
   interval = refl;
+  runs_of = refl;
 }
 
 pub next_place-begin-requires-clause-limit : goal.next_place-begin-requires-clause-limit
@@ -55,15 +59,47 @@ keep_found-requires-clause-ended g c =
     (time_of-mono trace c.loop-at.at c.next_place-begin.result c.next_place-begin.ensures.late)
     _ (c.loop-at.invariant.ended (omega (arith, c.loop-at-test.true, count))))
 
-pub keep_found-requires-clause-order : goal.keep_found-requires-clause-order
-keep_found-requires-clause-order g c =
-    omega (
+pub keep_found-requires-clause-none : goal.keep_found-requires-clause-none
+keep_found-requires-clause-none g c = λ same.
+    rw (c.start_from-from.ensures.time, c.start_from-seen.ensures.time)
+    (ap (time_of (g.T.AnyTrace.timeline c.args.trace.now).segments)
+    (omega (arith, same, c.start_from-from.ensures.place, c.start_from-seen.ensures.place)))
+
+pub keep_found-requires-clause-some : goal.keep_found-requires-clause-some
+keep_found-requires-clause-some g c = λ apart.
+    rw (c.start_from-from.ensures.time, c.start_from-seen.ensures.time)
+    (time_of-less (g.T.AnyTrace.timeline c.args.trace.now).segments c.count-count.ensures.trace
+    c.next_place-begin.result c.next_place-end.result
+    (omega (
       arith,
-      c.start_from-from.ensures.time,
-      c.start_from-seen.ensures.time,
-      time_of-mono (g.T.AnyTrace.timeline c.args.trace.now).segments c.next_place-begin.result c.next_place-end.result
-          c.next_place-end.ensures.late,
-    )
+      apart,
+      c.start_from-from.ensures.place,
+      c.start_from-seen.ensures.place,
+      c.next_place-end.ensures.late,
+    ))
+    (omega (arith, c.next_place-end.ensures.within, c.count-count.ensures.count)))
+
+pub keep_found-requires-clause-run : goal.keep_found-requires-clause-run
+keep_found-requires-clause-run g c = λ apart.
+    let timeline = g.T.AnyTrace.timeline c.args.trace.now in
+    let next = rw c.count-count.ensures.count at c.next_place-end.ensures in
+    rw c.loop-at.invariant.runs_of
+    (known_run (g.K.KeepsParts.runs_of c.args.keeper.now)
+    (trace_words timeline c.args.words.now) c.start_from-from.result c.start_from-seen.result
+    c.requires.runs_of
+    (record {
+      within = omega (
+        arith,
+        apart,
+        c.start_from-from.ensures.place,
+        c.start_from-seen.ensures.place,
+        next.late,
+        next.within,
+      );
+      next = rw (c.start_from-from.ensures.place, c.start_from-seen.ensures.place) next;
+      begin = rw c.start_from-from.ensures.place c.start_from-from.ensures.time;
+      end = rw c.start_from-seen.ensures.place c.start_from-seen.ensures.time;
+    }))
 
 pub keep_found-requires-clause-limit : goal.keep_found-requires-clause-limit
 keep_found-requires-clause-limit g c =
@@ -124,10 +160,11 @@ loop-at-preserved g c =
           (same.calm state truth before) (omega (arith, inside));
       edges = c.keep_found.ensures.edges ∙ same.edges;
       interval = c.keep_found.ensures.interval ∙ same.interval;
+      runs_of = c.keep_found.ensures.runs_of ∙ same.runs_of;
     }
 
-pub returns : goal.returns
-returns g c = λ state truth.
+pub returns-clause-held : goal.returns-clause-held
+returns-clause-held g c = λ state truth.
     let whole = g.T.AnyTrace.timeline c.args.trace.now in
     let past : length whole.segments ≤ c.loop-at.at =
     omega (arith, c.loop-at-test.false, c.count-count.ensures.count) in

@@ -30,6 +30,7 @@ invariant-loop-at g l =
           → l.at < length trace.segments → IsCalmAt state trace.segments l.at;
       edges : g.K.KeepsParts.edges l.keeper ≡ l.edges;
       interval : g.K.KeepsParts.interval l.keeper ≡ interval;
+      runs_of : g.K.KeepsParts.runs_of l.keeper ≡ g.K.KeepsParts.runs_of l.initial.keeper;
     }
 
 abbrev pub decreases-loop-at : goal.decreases-loop-at

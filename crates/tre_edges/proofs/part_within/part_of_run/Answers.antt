@@ -1,53 +1,44 @@
-use Rattle.std.proofs.Common.{◌≡◌, ◌+◌, ◌-◌, ◌*◌, arith, pos, ◌-ℤ◌, refl}
+use Rattle.std.proofs.Common.{◌≡◌, arith, sym, subst, ◌∙◌}
 use Rattle.std.proofs.lemmas.Int.{ints}
-use Rattle.tre_edges.proofs.PartsOfRuns.{part-canonical, part-exact}
+use Rattle.tre_zone.specs.Zone.{IsCanonical, IsZoneOf}
+use Rattle.tre_zone.specs.declared.zone_bounds.ZoneBounds.{ZoneBounds}
+use Rattle.tre_edges.specs.RunParts.{IsPart}
+use Rattle.tre_edges.specs.RunsInTime.{part_of}
+use Rattle.tre_edges.proofs.PartsOfRuns.{part-canonical, part-exact, part-is}
 use Rattle.tre_edges.proofs.part_within.part_of_run.Goals as goal
+use Rattle.tre_edges.proofs.part_within.part_of_run.Goals.{After-weak-3}
+
+-- the bounds that are made
+abbrev made : After-weak-3 → ZoneBounds
+made c = record {
+  begin_low = c.weak.result;
+  begin_high = c.latest_begin.result;
+  end_low = c.earliest_end.result;
+  end_high = c.weak-2.result;
+  dur_low = c.least_length.result;
+  dur_high = c.weak-3.result;
+}
+
+made-is : (c : After-weak-3)
+    → made c ≡ part_of c.args.edges.rise c.args.edges.fall c.args.begin c.args.end
+made-is c =
+    part-is c.args.edges c.args.begin c.args.end
+    (omega (arith, ints, c.weak.ensures.key)) c.latest_begin.ensures c.earliest_end.ensures
+    (omega (arith, ints, c.weak-2.ensures.key)) c.least_length.ensures
+    (omega (arith, ints, c.weak-3.ensures.key))
 
 pub from_canonical-requires : goal.from_canonical-requires
 from_canonical-requires c =
-    let low : c.weak.result ≡ pos 1 -ℤ pos (2 * c.args.begin) =
-    omega (arith, ints, c.weak.ensures.key) in
-    let high : c.weak-2.result ≡ pos (2 * c.args.end + 1) =
-    omega (arith, ints, c.weak-2.ensures.key) in
-    let long : c.weak-3.result ≡ pos (2 * (c.args.end - c.args.begin) + 1) =
-    omega (arith, ints, c.weak-3.ensures.key) in
-    rw (low, high, long, c.latest_begin.ensures, c.earliest_end.ensures, c.least_length.ensures)
+    subst IsCanonical (sym (made-is (goal.at.from_canonical-requires c).After-weak-3))
     (part-canonical c.args.begin c.args.end c.requires.rising c.requires.limit
     c.args.edges.rise c.args.edges.fall)
 
 pub returns-clause-bounds : goal.returns-clause-bounds
 returns-clause-bounds c =
-    let low : c.weak.result ≡ pos 1 -ℤ pos (2 * c.args.begin) =
-    omega (arith, ints, c.weak.ensures.key) in
-    let high : c.weak-2.result ≡ pos (2 * c.args.end + 1) =
-    omega (arith, ints, c.weak-2.ensures.key) in
-    let long : c.weak-3.result ≡ pos (2 * (c.args.end - c.args.begin) + 1) =
-    omega (arith, ints, c.weak-3.ensures.key) in
-    rw (
-      c.from_canonical.ensures,
-      low,
-      high,
-      long,
-      c.latest_begin.ensures,
-      c.earliest_end.ensures,
-      c.least_length.ensures,
-    ) refl
+    c.from_canonical.ensures ∙ made-is (goal.at.returns-clause-bounds c).After-weak-3
 
 pub returns-clause-held : goal.returns-clause-held
 returns-clause-held c =
-    let low : c.weak.result ≡ pos 1 -ℤ pos (2 * c.args.begin) =
-    omega (arith, ints, c.weak.ensures.key) in
-    let high : c.weak-2.result ≡ pos (2 * c.args.end + 1) =
-    omega (arith, ints, c.weak-2.ensures.key) in
-    let long : c.weak-3.result ≡ pos (2 * (c.args.end - c.args.begin) + 1) =
-    omega (arith, ints, c.weak-3.ensures.key) in
-    rw (
-      c.from_canonical.ensures,
-      low,
-      high,
-      long,
-      c.latest_begin.ensures,
-      c.earliest_end.ensures,
-      c.least_length.ensures,
-    )
+    let is = c.from_canonical.ensures ∙ made-is (goal.at.returns-clause-held c).After-weak-3 in
+    subst (λ zone. IsZoneOf zone (IsPart c.args.edges c.args.begin c.args.end)) (sym is)
     (part-exact c.args.edges.rise c.args.edges.fall c.args.begin c.args.end c.requires.rising)

@@ -2,20 +2,14 @@ use Rattle.std.proofs.Common.{sym, subst}
 use Rattle.tre_zone.specs.Zone.{IsCanonical, GivesZone}
 use Rattle.tre_zone.specs.declared.zone_bounds.ZoneBounds.{ZoneBounds}
 use Rattle.tre_strips.specs.Trim.{Early}
-use Rattle.tre_strips.proofs.Trimming.{early_given, value_min, value_of_key}
+use Rattle.tre_strips.proofs.Trimming.{begun-values, early_given, value_min, value_of_key}
 use Rattle.tre_strips.proofs.trim.early.Goals as goal
 
 pub new-requires : goal.new-requires
 new-requires c =
     let keys = rw (← c.bounds-bounds.ensures.same) at c.bounds-bounds.ensures.keys in
-    record {
-      begin_low = value_of_key _ keys.begin_low;
-      begin_high = value_min _ _ _ c.tighter.ensures keys.begin_high c.requires.low;
-      end_low = value_of_key _ keys.end_low;
-      end_high = value_of_key _ keys.end_high;
-      dur_low = value_of_key _ keys.dur_low;
-      dur_high = value_of_key _ keys.dur_high;
-    }
+    begun-values _ _ _ keys (value_of_key _ keys.begin_low)
+    (value_min _ _ _ c.tighter.ensures keys.begin_high c.requires.low)
 
 pub returns : goal.returns
 returns c =

@@ -3,7 +3,7 @@ use Rattle.std.proofs.lemmas.Int.{ints}
 use Rattle.tre_zone.specs.Zone.{IsCanonical, GivesZone}
 use Rattle.tre_zone.specs.declared.zone_bounds.ZoneBounds.{ZoneBounds}
 use Rattle.tre_strips.specs.Trim.{Late}
-use Rattle.tre_strips.proofs.Trimming.{late_given, value_min, value_of_key}
+use Rattle.tre_strips.proofs.Trimming.{begun-values, late_given, value_min, value_of_key}
 use Rattle.tre_strips.proofs.trim.late.Goals as goal
 
 pub new-requires : goal.new-requires
@@ -11,14 +11,9 @@ new-requires c =
     let keys = rw (← c.bounds-bounds.ensures.same) at c.bounds-bounds.ensures.keys in
     let high = c.requires.high in
     let low : neg_ℤ (pos (2 ^ 42)) ≤ℤ (pos 1 -ℤ c.args.last.now) = omega (arith, ints) in
-    record {
-      begin_low = value_min _ _ _ (rw c.behind.ensures at c.tighter.ensures) keys.begin_low low;
-      begin_high = value_of_key _ keys.begin_high;
-      end_low = value_of_key _ keys.end_low;
-      end_high = value_of_key _ keys.end_high;
-      dur_low = value_of_key _ keys.dur_low;
-      dur_high = value_of_key _ keys.dur_high;
-    }
+    begun-values _ _ _ keys
+    (value_min _ _ _ (rw c.behind.ensures at c.tighter.ensures) keys.begin_low low)
+    (value_of_key _ keys.begin_high)
 
 pub returns : goal.returns
 returns c =

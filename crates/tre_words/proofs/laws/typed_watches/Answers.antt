@@ -1,51 +1,45 @@
-use Rattle.std.proofs.Common.{Some, refl, codes}
+use Rattle.std.proofs.Common.{◌≢◌, Option, None, Some, refl, codes}
 use Rattle.clap.proofs.OnLiterals.{clap_on_literals}
+use Rattle.clap.specs.Words.{Text}
 use Rattle.tre_words.specs.CommandLine.{command_line}
-use Rattle.tre_words.specs.Job.{plain_job}
-use Rattle.tre_words.specs.declared.job.Format.TheVariants.{Vcd}
+use Rattle.tre_words.specs.Job.{MayWatch, plain_job}
+use Rattle.tre_words.specs.declared.job.Format.{Format}
+use Rattle.tre_words.specs.declared.job.Format.TheVariants.{Text as TextFormat, Vcd, Csv}
 use Rattle.tre_words.specs.declared.job.Mode.TheVariants.{Offline}
 use Rattle.tre_words.proofs.Typed.{typed, typed_watch}
 use Rattle.tre_words.proofs.laws.typed_watches.Goals as goal
 
+-- a file that is no standard input, over an input that is no table
+may : (format : Format) (input : Text) (lets : Option Text) → format ≢ Csv
+    → MayWatch (record (plain_job Offline input (codes "f")) { format = format; lets = lets })
+may format input lets no_table = record {
+  mode = refl;
+  format = no_table;
+  normal = refl;
+  minus = refl;
+  apart = λ file. cc;
+}
+
 pub returns-clause-file : goal.returns-clause-file
 unfolding command_line clap_on_literals
 returns-clause-file c = record {
-  gives = typed_watch _ (plain_job Offline (codes "-") (codes "f"))
+  gives = typed_watch _ _
       (typed _ _ refl refl (refl, refl, refl, refl, refl, refl, refl, refl))
-      (record {
-        mode = refl;
-        format = λ e. cc;
-        normal = refl;
-        minus = refl;
-        apart = λ file input. cc;
-      });
+      (may TextFormat (codes "-") None (λ e. cc));
 }
 
 pub returns-clause-dump : goal.returns-clause-dump
 unfolding command_line clap_on_literals
 returns-clause-dump c = record {
-  gives = typed_watch _ (record (plain_job Offline (codes "x") (codes "f")) { format = Vcd })
+  gives = typed_watch _ _
       (typed _ _ refl refl (refl, refl, refl, refl, refl, refl, refl, refl))
-      (record {
-        mode = refl;
-        format = λ e. cc;
-        normal = refl;
-        minus = refl;
-        apart = λ file input. cc;
-      });
+      (may Vcd (codes "x") None (λ e. cc));
 }
 
 pub returns-clause-signals : goal.returns-clause-signals
 unfolding command_line clap_on_literals
 returns-clause-signals c = record {
-  gives = typed_watch _
-      (record (plain_job Offline (codes "-") (codes "f")) { format = Vcd; lets = Some (codes "d") })
+  gives = typed_watch _ _
       (typed _ _ refl refl (refl, refl, refl, refl, refl, refl, refl, refl))
-      (record {
-        mode = refl;
-        format = λ e. cc;
-        normal = refl;
-        minus = refl;
-        apart = λ file input. cc;
-      });
+      (may Vcd (codes "-") (Some (codes "d")) (λ e. cc));
 }

@@ -8,7 +8,7 @@ pub returns-in-Some-clause-ended : goal.returns-in-Some-clause-ended
 returns-in-Some-clause-ended c =
     let parts = c.args.self.now in
     on_ok_weaker c.push_disjoint.result
-    (λ held. part_ended (LastsIn parts.interval) parts.edges c.args.begin c.args.end
+    (λ held. part_ended (LastsIn parts.interval) parts.edges c.args.from.time c.args.to.time
     parts.zones c.push_disjoint.new.self c.in-Some.zone (omega (arith, c.requires.rising))
     c.requires.ended (rw c.in-Some.is at c.part_within.ensures) held)
     c.push_disjoint.ensures.held
