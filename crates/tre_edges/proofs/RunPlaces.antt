@@ -2,22 +2,21 @@
 use Rattle.std.proofs.Common.{◌≡◌, ◌≢◌, ℕ, zero, suc, ◌+◌, ◌-◌, ◌<◌, ◌≤◌, ◌==◌, ◌∙◌, List, [], ◌∷◌, ◌++◌, Option, None, Some, IfSome, false, length, get_or, refl, sym, if◌then◌else◌, Result, Ok, Err, is_ok, ap, arith, inl, inr}
 use Rattle.std.proofs.lemmas.Bool.{cases_lt}
 use Rattle.std.proofs.lemmas.Bool.Decides.{nat_tests}
-use Rattle.std.proofs.lemmas.List.{get_or-map, length-map, map-append}
+use Rattle.std.proofs.lemmas.List.{get_or-map, map-append}
 use Rattle.std.proofs.lemmas.List.Elements.{All-push}
 use Rattle.tre_pairs.specs.Pairs.{Either, Lasting}
 use Rattle.tre_pairs.specs.declared.TheConstants.{TIME_MAX}
 use Rattle.tre_trace.specs.Planes.{bit_in}
 use Rattle.tre_trace.specs.declared.trace.Start.{Start}
 use Rattle.tre_zone.specs.ZoneList.{HoldExactly, SetHolds}
-use Rattle.tre_zone.specs.declared.zone_bounds.ZoneBounds.{ZoneBounds}
 use Rattle.tre_edges.specs.Ends.{EndBefore}
 use Rattle.tre_edges.specs.NextPlace.{IsNextPlace}
 use Rattle.tre_edges.specs.RunParts.{IsPart, LastsIn}
 use Rattle.tre_edges.specs.RunPlaces.{AreRunPlaces, IsRunOf, TraceWords, end_place, first_clear, run_at, runs_at, time_at}
-use Rattle.tre_edges.specs.RunsInTime.{zone_of, zones_in}
+use Rattle.tre_edges.specs.RunsInTime.{zones_in}
 use Rattle.tre_edges.specs.declared.run_edges.RunEdges.{RunEdges}
 use Rattle.tre_edges.specs.declared.run_sets.Run.{Run}
-use Rattle.tre_edges.proofs.RunSets.{AreInTime-push, ended-push, held-push, zone_at}
+use Rattle.tre_edges.proofs.RunSets.{AreInTime-push, ended-push, held-push}
 
 not_zero : (n : ℕ) → n ≢ 0 → (n == 0) ≡ false
 not_zero n some = grind (arith, nat_tests)

@@ -54,7 +54,6 @@ impl RunSet {
     }
 
     /// The zone at the place.
-    #[inline(always)]
     pub fn zone(&self, place: usize) -> Zone
         requires { place < length (zones_of self.now) }
         ensures { (other : ZoneBounds) → result ≡ get_or (zones_of self.now) place other }
@@ -63,8 +62,7 @@ impl RunSet {
         part_of_run(run.begin, run.end, self.edges)
     }
 
-    // The run at the place. What is printed of it is made where it is called, without it.
-    #[inline(never)]
+    // The run at the place: it ends at the next segment on which the state doesn't hold.
     fn run(&self, place: usize) -> Run
         requires { place < length self.now.places.items }
         ensures { (other : Run) →

@@ -62,6 +62,7 @@ fn write_one_line(zone: &Zone, scale: u8, buffer: &mut [u8]) -> usize
 }
 
 /// Writes the line of the zone, so that it ends at `end`. Says where it begins.
+#[inline(always)]
 pub fn write_line(zone: &Zone, scale: u8, buffer: &mut [u8], end: usize) -> usize
     requires scale { scale ≤ SCALE_MAX }
     requires room { (LINE_MAX ≤ end) × (end ≤ length buffer.old) }

@@ -1,4 +1,4 @@
-use Rattle.std.proofs.Common.{◌≡◌, sym, arith}
+use Rattle.std.proofs.Common.{sym, arith}
 use Rattle.tre_packed.proofs.Adding.{count-limit}
 use Rattle.tre_edges.specs.RunPlaces.{trace_words}
 use Rattle.tre_edges.proofs.RunPlaces.{run_there}
