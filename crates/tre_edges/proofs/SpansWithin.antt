@@ -1,17 +1,14 @@
 -- The stretches of a run that last so long, as one zone.
-use Rattle.std.proofs.Common.{◌≡◌, ℕ, ◌+◌, ◌-◌, ◌*◌, ◌<◌, ◌≤◌, ◌↔◌, List, arith, ℤ, pos, ◌-ℤ◌, ◌≤ℤ◌, inl, inr, ⊎_elim, ap}
-use Rattle.std.proofs.Math.Nat.{mul-le-mul_right}
+use Rattle.std.proofs.Common.{◌≡◌, ℕ, ◌+◌, ◌-◌, ◌*◌, ◌<◌, ◌≤◌, ◌↔◌, arith, ℤ, pos, ◌-ℤ◌, ◌≤ℤ◌, ap}
 use Rattle.std.proofs.lemmas.Int.{ints}
-use Rattle.tre_pairs.specs.Pairs.{Either, Both, Lasting}
+use Rattle.tre_pairs.specs.Pairs.{Lasting}
 use Rattle.tre_pairs.specs.declared.TheConstants.{TIME_MAX}
 use Rattle.tre_zone.specs.Bound.{Meets, sum_of}
 use Rattle.tre_zone.specs.Interval.{IntervalEnds, IsAboveLow, IsBelowHigh, LastsWithin}
-use Rattle.tre_zone.specs.Zone.{ZoneHolds, IsCanonical, IsInSpan, HasNoPair, IsZoneOf}
-use Rattle.tre_zone.specs.ZoneList.{SetHolds, HoldExactly}
+use Rattle.tre_zone.specs.Zone.{IsCanonical, IsInSpan, HasNoPair, IsZoneOf}
 use Rattle.tre_zone.specs.declared.zone_bounds.ZoneBounds.{ZoneBounds}
 use Rattle.tre_zone.proofs.Bounds.{split, split-sum, value_of-sum_of, weakness_of-sum_of, Meets-at_least, Meets-at_most, Meets-more}
 use Rattle.tre_zone.proofs.Paths.{Meets-sum, Meets-loop}
-use Rattle.tre_edges.specs.Ends.{EndBefore}
 
 -- A stretch is no instant, and lasts no longer than its run: beside what an end says.
 pub no_instant : (key : ℤ) → key ≡ pos 0 → (p q n : ℕ) (Met End : Type 0)
@@ -151,59 +148,4 @@ module _ (begin end : ℕ) (from to low high : ℤ) (ends : IntervalEnds)
         (Meets-sum low high a b a n
         ((above a b n some le).1 (h.related.lasts, h.admitted.0))
         ((below b a n some le).1 (no_longer a b n h.related, h.admitted.1))));
-  }
-
--- ---- one more run
-
-module _ (D : ℕ → ℕ → Type 0) (begin end : ℕ) (old : List ZoneBounds) where
-  abbrev pub Behind : List ZoneBounds → Type 0
-  Behind new = HoldExactly new (Either (SetHolds old) (Lasting D (IsInSpan begin end)))
-
-  pub behind_some : (new : List ZoneBounds) (zone : ZoneBounds)
-      → HoldExactly new (Either (SetHolds old) (ZoneHolds zone))
-      → IsZoneOf zone (Lasting D (IsInSpan begin end)) → Behind new
-  behind_some new zone held is = record {
-    exact = λ a b n some le.
-        let one = held.exact a b n some le in
-        let two = is.exact a b n some le in (
-          (λ h. ⊎_elim (λ x. inl x) (λ x. inr (two.0 x)) (one.0 h)),
-          (λ h. one.1 (⊎_elim (λ x. inl x) (λ x. inr (two.1 x)) h)),
-        );
-  }
-
-  pub behind_none : HasNoPair (Lasting D (IsInSpan begin end)) → Behind old
-  behind_none none = record {
-    exact = λ a b n some le. (
-      (λ h. inl h),
-      (λ h. ⊎_elim (λ x. x) (λ x. absurd (none.never a b n some le x)) h),
-    );
-  }
-
-  pub behind_instant : begin ≡ end → Behind old
-  behind_instant same = behind_none (record {
-    never = λ a b n some le h.
-        let times : begin * n ≡ end * n = ap (λ (t : ℕ). t * n) same in
-        omega (arith, times, h.related.starts, h.related.lasts, h.related.ends);
-  })
-
-  pub disjoint_behind : (zone : ZoneBounds) → EndBefore begin old
-      → IsZoneOf zone (Lasting D (IsInSpan begin end))
-      → HasNoPair (Both (SetHolds old) (ZoneHolds zone))
-  disjoint_behind zone ended is = record {
-    never = λ a b n some le h.
-        let before = ended.every a b n some le h.left in
-        let span = ((is.exact a b n some le).0 h.right).related in
-        omega (arith, before, span.starts, span.lasts);
-  }
-
-  pub ended_behind : (new : List ZoneBounds) → begin ≤ end → EndBefore begin old → Behind new
-      → EndBefore (end + 1) new
-  ended_behind new rising ended held = record {
-    every = λ a b n some le h.
-        let more : begin * n ≤ end * n = mul-le-mul_right n rising in
-        let next : (end + 1) * n ≡ end * n + n = omega arith in
-        ⊎_elim
-        (λ x. let before = ended.every a b n some le x in omega (arith, before, more, next))
-        (λ x. omega (arith, x.related.ends, some, next))
-        ((held.exact a b n some le).0 h);
   }

@@ -1,11 +1,15 @@
 -- Stretches of runs that begin or end at an edge.
-use Rattle.std.specs.Prelude.{◌≡◌, ℕ, ◌*◌, ◌<◌, Bool, IsTrue, Option, IfSome}
+use Rattle.std.specs.Prelude.{◌≡◌, ℕ, ◌*◌, ◌<◌, Bool, false, IsTrue, Option, IfSome}
 use Rattle.tre_state.specs.StateTree.{StateTree}
 use Rattle.tre_syntax.specs.PatternTree.{literal, rise, fall}
 use Rattle.tre_syntax.specs.Rest.{Rest, AtomMatches}
 use Rattle.tre_zone.specs.Interval.{IntervalEnds, LastsWithin}
 use Rattle.tre_zone.specs.Zone.{IsInSpan}
 use Rattle.tre_edges.specs.declared.run_edges.RunEdges.{RunEdges}
+
+-- stretches that begin and end anywhere in their run
+abbrev pub anywhere : RunEdges
+anywhere = record { rise = false; fall = false }
 
 -- The pair is a stretch on which the state holds throughout. Where it is to begin at a rise, the
 -- state becomes true where it begins; where it is to end at a fall, it becomes false where it ends.

@@ -33,6 +33,8 @@ pub(crate) trait KeepsParts {
     ghost interval: { Self → Option IntervalEnds };
     /// Of which words over which trace they have to be runs, where that is known.
     ghost runs_of: { Self → Option TraceWords };
+    /// How they stand, besides: what each run that is kept leaves as it is.
+    ghost stands: { Self → Type 0 };
 
     fn edges(&self) -> RunEdges
         ensures { result ≡ edges self.now };
@@ -43,13 +45,15 @@ pub(crate) trait KeepsParts {
         requires rising { from.time < to.time }
         requires limit { to.time ≤ TIME_MAX }
         requires run { IfSome (runs_of self.old) (λ all. IsRunOf all from to) }
+        requires stands { stands self.old }
         ensures held { OnOk result (HoldExactly (kept self.new) (Either (SetHolds (kept self.old))
             (Lasting (LastsIn (interval self.old))
             (IsPart (edges self.old) from.time to.time)))) }
         ensures ended { OnOk result (EndBefore (to.time + 1) (kept self.new)) }
         ensures edges { edges self.new ≡ edges self.old }
         ensures interval { interval self.new ≡ interval self.old }
-        ensures runs_of { runs_of self.new ≡ runs_of self.old };
+        ensures runs_of { runs_of self.new ≡ runs_of self.old }
+        ensures stands { OnOk result (stands self.new) };
 }
 
 /// Keeps the parts of each longest run of places whose bit is 1, in the order of time.
@@ -62,10 +66,12 @@ pub(crate) fn each_run<T: AnyTrace, K: KeepsParts>(
     requires size { length words.now ≡ words_for (length (T.timeline trace.now).segments) }
     requires runs_of { IfSome (K.runs_of keeper.old) (λ all.
         all ≡ trace_words (T.timeline trace.now) words.now) }
+    requires stands { K.stands keeper.old }
     ensures held { (state : StateTree) → AreTruthOf state (T.timeline trace.now).segments words.now →
         OnOk result (HoldExactly (K.kept keeper.new) (Lasting (LastsIn (K.interval keeper.old))
         (IsRunPart (K.edges keeper.old) state (whole (T.timeline trace.now))))) }
     ensures runs_of { OnOk result (K.runs_of keeper.new ≡ K.runs_of keeper.old) }
+    ensures stands { OnOk result (K.stands keeper.new) }
 {
     let count = trace.count();
     let edges = keeper.edges();
@@ -108,6 +114,7 @@ fn keep_found<K: KeepsParts>(
     requires limit { to.time ≤ TIME_MAX }
     requires run { from.place ≢ to.place →
         IfSome (K.runs_of keeper.old) (λ all. IsRunOf all from to) }
+    requires stands { K.stands keeper.old }
     ensures held { OnOk result (HoldExactly (K.kept keeper.new) (Either
         (SetHolds (K.kept keeper.old)) (Lasting (LastsIn (K.interval keeper.old))
         (IsFoundPart found (K.edges keeper.old) from.time to.time)))) }
@@ -115,6 +122,7 @@ fn keep_found<K: KeepsParts>(
     ensures edges { K.edges keeper.new ≡ K.edges keeper.old }
     ensures interval { K.interval keeper.new ≡ K.interval keeper.old }
     ensures runs_of { K.runs_of keeper.new ≡ K.runs_of keeper.old }
+    ensures stands { OnOk result (K.stands keeper.new) }
 {
     if !found || from.place == to.place {
         return Ok(());

@@ -80,7 +80,7 @@ struct Parts {
 }
 
 impl KeepsParts for Parts {
-    ghost use Rattle.std.specs.Prelude.{None};
+    ghost use Rattle.std.specs.Prelude.{None, ⊤};
 
     ghost kept = { λ parts. parts.zones };
 
@@ -89,6 +89,8 @@ impl KeepsParts for Parts {
     ghost interval = { λ parts. parts.interval };
 
     ghost runs_of = { λ parts. None };
+
+    ghost stands = { λ parts. ⊤ };
 
     #[inline(always)]
     fn edges(&self) -> RunEdges {

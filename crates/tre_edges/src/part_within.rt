@@ -7,6 +7,7 @@ ghost use Rattle.tre_edges.specs.RunParts.{IsPart, LastsIn};
 ghost use Rattle.tre_edges.specs.RunsInTime.{part_of};
 
 use crate::run_edges::RunEdges;
+use crate::span_within::span_within;
 use tre_zone::{Bound, Interval, Zone, ZoneBounds};
 
 /// The stretches of a run from `begin` to `end` that begin and end at these edges, and whose
@@ -22,10 +23,14 @@ pub(crate) fn part_within(
     requires limit { end ≤ TIME_MAX }
     ensures { GivesZone result (Lasting (LastsIn interval.now) (IsPart edges begin end)) }
 {
-    let part = part_of_run(begin, end, edges);
     match interval {
-        None => Some(part),
-        Some(interval) => part.within(interval),
+        None => Some(part_of_run(begin, end, edges)),
+        Some(interval) => {
+            if edges.rise || edges.fall {
+                return part_of_run(begin, end, edges).within(interval);
+            }
+            span_within(begin, end, interval)
+        }
     }
 }
 

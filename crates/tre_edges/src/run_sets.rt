@@ -119,7 +119,7 @@ impl<'a> PlaceKeeper<'a> {
 }
 
 impl<'a> KeepsParts for PlaceKeeper<'a> {
-    ghost use Rattle.std.specs.Prelude.{None, Some};
+    ghost use Rattle.std.specs.Prelude.{None, Some, ⊤};
     ghost use Rattle.tre_edges.specs.RunSets.{zones_kept};
 
     ghost kept = { λ keeper. zones_kept keeper };
@@ -129,6 +129,8 @@ impl<'a> KeepsParts for PlaceKeeper<'a> {
     ghost interval = { λ keeper. None };
 
     ghost runs_of = { λ keeper. Some (trace_words keeper.trace.now keeper.words.now) };
+
+    ghost stands = { λ keeper. ⊤ };
 
     fn edges(&self) -> RunEdges {
         self.edges

@@ -1,20 +1,18 @@
 // The stretches of a trace on which a state holds.
-ghost use Rattle.std.specs.Prelude.{◌+◌, ◌≤◌, IfOk, OnOk};
-ghost use Rattle.tre_pairs.specs.Pairs.{Either, Lasting};
-ghost use Rattle.tre_pairs.specs.declared.TheConstants.{TIME_MAX};
+ghost use Rattle.std.specs.Prelude.{IfOk};
+ghost use Rattle.tre_pairs.specs.Pairs.{Lasting};
 ghost use Rattle.tre_state.specs.State.{tree_of};
 ghost use Rattle.tre_state.specs.StateTree.{NumbersBelow};
 ghost use Rattle.tre_syntax.specs.PatternTree as pattern;
 ghost use Rattle.tre_syntax.specs.Rest.{whole, AtomMatches};
 ghost use Rattle.tre_zone.specs.Interval.{LastsWithin};
-ghost use Rattle.tre_zone.specs.Zone.{IsInSpan};
-ghost use Rattle.tre_zone.specs.ZoneList.{SetHolds, HoldExactly};
-ghost use Rattle.tre_edges.specs.Ends.{EndBefore};
+ghost use Rattle.tre_zone.specs.ZoneList.{HoldExactly};
 ghost use Rattle.tre_edges.specs.Runs.{AreRuns};
 
-use crate::next_place::next_place;
+use crate::each_run::{KeepsParts, each_run};
+use crate::edged_runs::run_parts;
 use crate::room::room_for_runs;
-use crate::span_within::span_within;
+use crate::run_edges::RunEdges;
 use crate::truth_words::truth;
 use std::alloc::{AllocError, Global};
 use tre_packed::AnyTrace;
@@ -33,20 +31,10 @@ pub fn literal<T: AnyTrace>(alloc: Global, state: &State, trace: &T) -> Result<Z
     ensures runs { IfOk result (λ zones. AreRuns 0 zones) }
 {
     let words = truth(alloc, state, trace)?;
-    let count = trace.count();
-    let mut zones = room_for_runs(alloc, &words)?;
-    // All runs that begin before `at` are in, and times were added up as far as `seen`.
-    let mut at = 0;
-    let mut seen = Start { place: 0, time: 0 };
-    while at < count {
-        let begin = next_place(&words, true, at, count);
-        let end = next_place(&words, false, begin, count);
-        let from = trace.start_from(seen, begin);
-        seen = trace.start_from(from, end);
-        close(&mut zones, from.time, seen.time)?;
-        at = end + 1;
-    }
-    Ok(zones)
+    let zones = room_for_runs(alloc, &words)?;
+    let mut whole = WholeRuns { zones };
+    each_run(&words, trace, &mut whole)?;
+    Ok(whole.zones)
 }
 
 /// The stretches of [`literal`] whose duration is in the interval, one zone at most for each
@@ -61,59 +49,44 @@ pub fn literal_within<T: AnyTrace>(
     ensures { IfOk result (λ zones. HoldExactly zones (Lasting (LastsWithin interval.now)
         (AtomMatches (whole (T.timeline trace.now)) (pattern.literal (tree_of state.now))))) }
 {
-    let words = truth(alloc, state, trace)?;
-    let count = trace.count();
-    let mut zones = room_for_runs(alloc, &words)?;
-    // As above: all runs that begin before `at` are in.
-    let mut at = 0;
-    let mut seen = Start { place: 0, time: 0 };
-    while at < count {
-        let begin = next_place(&words, true, at, count);
-        let end = next_place(&words, false, begin, count);
-        let from = trace.start_from(seen, begin);
-        seen = trace.start_from(from, end);
-        close_within(&mut zones, from.time, seen.time, interval)?;
-        at = end + 1;
-    }
+    let anywhere = RunEdges {
+        rise: false,
+        fall: false,
+    };
+    let zones = run_parts(alloc, state, trace, anywhere, Some(*interval))?;
     Ok(zones)
 }
 
-// Adds the run from `begin` to `end`, where it lasts some time.
-fn close(zones: &mut ZoneSet, begin: u64, end: u64) -> Result<(), AllocError>
-    requires runs { AreRuns 0 zones.old }
-    requires ended { EndBefore begin zones.old }
-    requires order { begin ≤ end }
-    requires limit { end ≤ TIME_MAX }
-    ensures held { OnOk result
-        (HoldExactly zones.new (Either (SetHolds zones.old) (IsInSpan begin end))) }
-    ensures runs { OnOk result (AreRuns 0 zones.new) }
-    ensures ended { OnOk result (EndBefore (end + 1) zones.new) }
-{
-    if begin < end {
-        zones.push_disjoint(Zone::span(begin, end))?;
-    }
-    Ok(())
+// The zones of whole runs.
+#[derive(Drop)]
+struct WholeRuns {
+    zones: ZoneSet,
 }
 
-// The same of those of its stretches whose duration is in the interval.
-fn close_within(
-    zones: &mut ZoneSet,
-    begin: u64,
-    end: u64,
-    interval: &Interval,
-) -> Result<(), AllocError>
-    requires ended { EndBefore begin zones.old }
-    requires order { begin ≤ end }
-    requires limit { end ≤ TIME_MAX }
-    ensures held { OnOk result (HoldExactly zones.new
-        (Either (SetHolds zones.old) (Lasting (LastsWithin interval.now) (IsInSpan begin end)))) }
-    ensures ended { OnOk result (EndBefore (end + 1) zones.new) }
-{
-    if begin == end {
-        return Ok(());
+impl KeepsParts for WholeRuns {
+    ghost use Rattle.std.specs.Prelude.{None};
+    ghost use Rattle.tre_edges.specs.RunParts.{anywhere};
+
+    ghost kept = { λ whole. whole.zones };
+
+    ghost edges = { λ whole. anywhere };
+
+    ghost interval = { λ whole. None };
+
+    ghost runs_of = { λ whole. None };
+
+    ghost stands = { λ whole. AreRuns 0 whole.zones };
+
+    #[inline(always)]
+    fn edges(&self) -> RunEdges {
+        RunEdges {
+            rise: false,
+            fall: false,
+        }
     }
-    match span_within(begin, end, interval) {
-        Some(zone) => zones.push_disjoint(zone),
-        None => Ok(()),
+
+    #[inline(always)]
+    fn keep(&mut self, from: Start, to: Start) -> Result<(), AllocError> {
+        self.zones.push_disjoint(Zone::span(from.time, to.time))
     }
 }

@@ -32,6 +32,7 @@ loop-at-init g c = record {
   edges = sym c.edges-edges.ensures;
   interval = refl;
   runs_of = refl;
+  stands = c.requires.stands;
 }
 
 pub next_place-begin-requires-clause-limit : goal.next_place-begin-requires-clause-limit
@@ -161,6 +162,7 @@ loop-at-preserved g c =
       edges = c.keep_found.ensures.edges ∙ same.edges;
       interval = c.keep_found.ensures.interval ∙ same.interval;
       runs_of = c.keep_found.ensures.runs_of ∙ same.runs_of;
+      stands = c.in_ok-keep_found.ensures.stands;
     }
 
 pub returns-clause-held : goal.returns-clause-held

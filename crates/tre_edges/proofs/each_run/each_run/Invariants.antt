@@ -31,6 +31,7 @@ invariant-loop-at g l =
       edges : g.K.KeepsParts.edges l.keeper ≡ l.edges;
       interval : g.K.KeepsParts.interval l.keeper ≡ interval;
       runs_of : g.K.KeepsParts.runs_of l.keeper ≡ g.K.KeepsParts.runs_of l.initial.keeper;
+      stands : g.K.KeepsParts.stands l.keeper;
     }
 
 abbrev pub decreases-loop-at : goal.decreases-loop-at

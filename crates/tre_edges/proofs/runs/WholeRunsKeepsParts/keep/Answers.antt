@@ -1,0 +1,36 @@
+use Rattle.std.proofs.Common.{None, arith, subst, sym}
+use Rattle.std.proofs.lemmas.Result.{on_ok_weaker}
+use Rattle.tre_pairs.specs.Pairs.{Lasting}
+use Rattle.tre_edges.specs.RunParts.{IsPart, LastsIn, anywhere}
+use Rattle.tre_edges.specs.Runs.{AreRuns}
+use Rattle.tre_edges.proofs.PartsOfRuns.{added, part_ended, span_zone}
+use Rattle.tre_edges.proofs.RunLists.{AreRuns-push}
+use Rattle.tre_edges.proofs.runs.WholeRunsKeepsParts.keep.Goals as goal
+
+pub returns-clause-stands : goal.returns-clause-stands
+returns-clause-stands c =
+    on_ok_weaker c.push_disjoint.result
+    (λ ok. subst (λ zones. AreRuns 0 zones) (sym (rw c.span.ensures.bounds at ok))
+    (AreRuns-push 0 c.args.from.time c.args.to.time (omega arith)
+    c.requires.rising c.args.self.now.zones c.requires.stands c.requires.ended))
+    c.push_disjoint.ensures.ok
+
+pub returns-clause-held : goal.returns-clause-held
+returns-clause-held c =
+    let begin = c.args.from.time in
+    let end = c.args.to.time in
+    on_ok_weaker c.push_disjoint.result
+    (λ held. added (Lasting (LastsIn None) (IsPart anywhere begin end)) c.args.self.now.zones
+    c.push_disjoint.new.self c.span.result
+    (span_zone anywhere (λ r. absurd cc) (λ f. absurd cc) begin end c.span.result c.span.ensures.held) held)
+    c.push_disjoint.ensures.held
+
+pub returns-clause-ended : goal.returns-clause-ended
+returns-clause-ended c =
+    let begin = c.args.from.time in
+    let end = c.args.to.time in
+    on_ok_weaker c.push_disjoint.result
+    (λ held. part_ended (LastsIn None) anywhere begin end c.args.self.now.zones
+    c.push_disjoint.new.self c.span.result (omega (arith, c.requires.rising)) c.requires.ended
+    (span_zone anywhere (λ r. absurd cc) (λ f. absurd cc) begin end c.span.result c.span.ensures.held) held)
+    c.push_disjoint.ensures.held
