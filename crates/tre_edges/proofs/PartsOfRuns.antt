@@ -1,23 +1,15 @@
 -- The stretches of a run that begin or end at its edges, as one zone.
-<<<<<<< HEAD
-use Rattle.std.proofs.Common.{◌≡◌, ℕ, ◌+◌, ◌-◌, ◌*◌, ◌<◌, ◌≤◌, ◌↔◌, Bool, true, false, None, List, arith, ap, ⊎_elim, pos, ◌-ℤ◌, neg_ℤ, refl, ℤ}
-=======
-use Rattle.std.proofs.Common.{◌≡◌, ℕ, ◌+◌, ◌-◌, ◌*◌, ◌<◌, ◌≤◌, ◌↔◌, Bool, true, false, IsTrue, Option, None, Some, List, arith, ap, inl, inr, ⊎_elim, pos, ◌-ℤ◌, neg_ℤ, refl}
->>>>>>> 9415aa89
+use Rattle.std.proofs.Common.{◌≡◌, ℕ, ◌+◌, ◌-◌, ◌*◌, ◌<◌, ◌≤◌, ◌↔◌, Bool, true, false, Option, None, Some, List, arith, ap, inl, inr, ⊎_elim, pos, ◌-ℤ◌, neg_ℤ, refl, ℤ}
 use Rattle.std.proofs.Math.Nat.{mul-le-mul_right}
 use Rattle.std.proofs.lemmas.Int.{ints}
 use Rattle.std.specs.Prelude.{◌&&◌, if◌then◌else◌, IsTrue}
 use Rattle.tre_pairs.specs.Pairs.{Pairs, Either, Lasting}
 use Rattle.tre_pairs.specs.declared.TheConstants.{TIME_MAX}
-<<<<<<< HEAD
-use Rattle.tre_zone.specs.Zone.{ZoneHolds, IsCanonical, IsZoneOf}
-use Rattle.tre_zone.specs.Bound.{Meets}
-=======
 use Rattle.tre_state.specs.StateTree.{StateTree}
 use Rattle.tre_syntax.specs.PatternTree.{literal}
 use Rattle.tre_syntax.specs.Rest.{Rest, AtomMatches}
+use Rattle.tre_zone.specs.Bound.{Meets}
 use Rattle.tre_zone.specs.Zone.{GivesZone, IsInSpan, ZoneHolds, IsCanonical, IsZoneOf}
->>>>>>> 9415aa89
 use Rattle.tre_zone.specs.ZoneList.{SetHolds, HoldExactly}
 use Rattle.tre_zone.specs.declared.zone_bounds.ZoneBounds.{ZoneBounds}
 use Rattle.tre_zone.proofs.CanonicalBounds.{bounds-canonical}
