@@ -13,4 +13,5 @@ zones_of set =
 -- the zones of what was kept
 abbrev pub zones_kept : PlaceKeeper → List ZoneBounds
 zones_kept keeper =
-    zones_in keeper.edges (runs_at (trace_words keeper.trace.now keeper.words.now) keeper.places.items)
+    zones_in keeper.edges
+    (runs_at (trace_words keeper.trace.now keeper.words.now) keeper.places.items)

@@ -67,7 +67,8 @@ pub(crate) fn each_run<T: AnyTrace, K: KeepsParts>(
     requires runs_of { IfSome (K.runs_of keeper.old) (λ all.
         all ≡ trace_words (T.timeline trace.now) words.now) }
     requires stands { K.stands keeper.old }
-    ensures held { (state : StateTree) → AreTruthOf state (T.timeline trace.now).segments words.now →
+    ensures held { (state : StateTree) →
+        AreTruthOf state (T.timeline trace.now).segments words.now →
         OnOk result (HoldExactly (K.kept keeper.new) (Lasting (LastsIn (K.interval keeper.old))
         (IsRunPart (K.edges keeper.old) state (whole (T.timeline trace.now))))) }
     ensures runs_of { OnOk result (K.runs_of keeper.new ≡ K.runs_of keeper.old) }
