@@ -1,5 +1,5 @@
 -- What is wanted of patterns over their traces, and the zones that hold it.
-use Rattle.std.proofs.Common.{◌≡◌, ◌↔◌, ◌⊎◌, ⊎_elim, inl, inr, ℕ, ◌<◌, ◌≤◌, ◌+◌, Bool, false, List, [], ◌∷◌, length, take, drop, get_or, sym, ap, subst, ◌∙◌, arith, true≢false}
+use Rattle.std.proofs.Common.{◌≡◌, ◌↔◌, ◌⊎◌, ⊎_elim, inl, inr, ℕ, ◌<◌, ◌≤◌, ◌+◌, Bool, false, List, [], ◌∷◌, length, take, drop, get_or, refl, sym, ap, subst, ◌∙◌, arith, true≢false}
 use Rattle.std.proofs.lemmas.List.{drop_more, length-drop}
 use Rattle.std.proofs.Math.ListN.{drop_of_length-le}
 use Rattle.std.proofs.Math.Seq.{take-length}
@@ -149,6 +149,15 @@ pub behind_first : (patterns : List Pattern)
     → slice_range patterns 1 (length patterns) ≡ drop 1 patterns
 behind_first patterns = subst (λ count. take count (drop 1 patterns) ≡ drop 1 patterns)
     (length-drop 1 patterns) (take-length (drop 1 patterns))
+
+-- the first of them before the rest
+pub first_removed : (traces later : List Timeline) (first : Timeline) → 0 < length traces
+    → first ≡ get_or traces 0 first → later ≡ remove traces 0 → first ∷ later ≡ traces
+first_removed [] later first some is behind = absurd (omega (arith, some))
+first_removed (own ∷ traces) later first some is behind =
+    let same : first ≡ own = is in
+    let rest : later ≡ traces = behind in
+    rw (same, rest) refl
 
 -- what is left of the matches of the first without those of the others is what is wanted
 pub wanted-left : (patterns others : List Pattern) (traces later : List Timeline)

@@ -1,5 +1,5 @@
 // The matches over a whole input, told at once.
-ghost use Rattle.std.specs.Prelude.{◌≡◌, ◌≤◌, ◌<◌, ◌+◌, ℕ, All, List, [], false, get_or, IsTrue, IfOk, IfErr, IfSome, IsSomeAnd, OnOk, length};
+ghost use Rattle.std.specs.Prelude.{◌≡◌, ◌≤◌, ◌<◌, ◌+◌, ℕ, List, [], ◌∷◌, false, get_or, IsTrue, IfOk, IfErr, IfSome, IsSomeAnd, OnOk, length};
 ghost use Rattle.tre_answer.specs.Listed.{AreWantedZones, listed_zones};
 ghost use Rattle.tre_answer.specs.Parts.{IsFoundFor, IsInputOf, StopsAs};
 ghost use Rattle.tre_answer.specs.Recorded.{recording_for};
@@ -11,7 +11,7 @@ ghost use Rattle.tre_answer.specs.declared.asked.Definitions.{Definitions};
 ghost use Rattle.tre_pairs.specs.Except.{Except};
 ghost use Rattle.tre_show.specs.Line.{offline_text};
 ghost use Rattle.tre_tell.specs.Sought.{sought_by};
-ghost use Rattle.tre_trace.specs.Trace.{IsTrace, end_of, quiet};
+ghost use Rattle.tre_trace.specs.Trace.{end_of, quiet};
 ghost use Rattle.tre_words.specs.Job.{IsJob};
 ghost use Rattle.tre_zone.specs.ZoneList.{HoldExactly, SetHolds};
 ghost use Rattle.tre_zoneset.specs.ZoneSet.{IsZoneSet};
@@ -54,7 +54,8 @@ fn wanted_matches(
         HoldExactly set (IsWanted (sought_by labels patterns.now) (first ∷ others.now))) }
 {
     let set = into_matches(alloc, &patterns[0], first)?;
-    without_others(alloc, set, &patterns[1..], others)
+    let left = without_others(alloc, set, &patterns[1..], others)?;
+    Ok(left)
 }
 
 // What is left of a set without the matches of these patterns, each over its trace.

@@ -15,8 +15,8 @@ returns-in_err-traces-clause-stops g c =
     c.in_err-traces.field-0.0 same c.requires.input.limit c.text.ensures
     c.in_err-traces.ensures.stops)
 
-pub listed_matches-requires-clause-count : goal.listed_matches-requires-clause-count
-listed_matches-requires-clause-count g c =
+pub printed_matches-requires-clause-count : goal.printed_matches-requires-clause-count
+printed_matches-requires-clause-count g c =
     rw c.deref.ensures.value (a_trace_each (c.in_ok-traces.ensures.read _ c.requires.input.asks)
     ∙ length-map c.args.asked.now.patterns.items names_of)
 
