@@ -1,5 +1,5 @@
 -- The end of an answer that is told as its input comes.
-use Rattle.std.proofs.Common.{◌≡◌, ◌⊎◌, ℕ, Bool, true, MatchBool, List, map, string_bytes, Result, Ok, Err, refl, sym, ◌∙◌, ap, subst}
+use Rattle.std.proofs.Common.{◌≡◌, ◌⊎◌, ℕ, Bool, true, MatchBool, List, map, string_bytes, Result, Ok, Err, refl, sym, subst}
 use Rattle.tre_feed.specs.Input.{InputTold, OfAllBytes}
 use Rattle.tre_feed.specs.Comes.{Outcome, refuses, exceeds}
 use Rattle.tre_feed.specs.declared.fault.Fault.{Fault}

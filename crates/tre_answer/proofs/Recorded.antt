@@ -1,5 +1,5 @@
 -- What the inputs of a request say, and that no bytes say nothing.
-use Rattle.std.proofs.Common.{◌≡◌, ◌∙◌, ◌<◌, ℕ, suc, Bool, false, List, [], ◌∷◌, length, get_or, map, string_bytes, refl, sym, ap, arith}
+use Rattle.std.proofs.Common.{◌≡◌, ◌∙◌, ◌<◌, ℕ, Bool, false, List, [], ◌∷◌, length, get_or, map, string_bytes, refl, sym, ap, arith}
 use Rattle.std.proofs.lemmas.List.{length-map}
 use Rattle.tre_define.specs.Signals.{SignalDefined}
 use Rattle.tre_num.specs.Defined.{Defined}
@@ -7,7 +7,7 @@ use Rattle.tre_num.specs.Rows.{ColumnTerms as RowTerms, rows_recording}
 use Rattle.tre_parts.specs.Format.{recording_from}
 use Rattle.tre_syntax.specs.Pattern.{names_of}
 use Rattle.tre_syntax.specs.declared.pattern.Pattern.{Pattern}
-use Rattle.tre_tell.specs.Sought.{all_names, sought_by}
+use Rattle.tre_tell.specs.Sought.{sought_by}
 use Rattle.tre_tell.proofs.Loop.{asked_sought}
 use Rattle.tre_text.specs.TextReading.{text_recording}
 use Rattle.tre_trace.specs.Reading.{Recording, Vocabulary}

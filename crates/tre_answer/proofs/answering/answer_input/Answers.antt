@@ -1,7 +1,6 @@
-use Rattle.std.proofs.Common.{refl, subst, map}
+use Rattle.std.proofs.Common.{refl}
 use Rattle.std.proofs.lemmas.List.{get_or_read}
 use Rattle.std.proofs.lemmas.Result.{err_from_is_err_and}
-use Rattle.tre_feed.specs.Standing.{Asks}
 use Rattle.tre_answer.proofs.Recorded.{alone_names, dump_says, rows_says, text_says}
 use Rattle.tre_answer.proofs.Unread.{EndsAnswering-early}
 use Rattle.tre_answer.proofs.answering.answer_input.Goals as goal

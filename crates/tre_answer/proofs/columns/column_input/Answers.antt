@@ -1,9 +1,7 @@
-use Rattle.std.proofs.Common.{◌≡◌, ◌∙◌, ◌<◌, ℕ, List, [], ◌∷◌, length, map, refl, sym, ap, subst, arith}
-use Rattle.std.specs.Prelude.{All}
-use Rattle.std.specs.List.{AllZip}
+use Rattle.std.proofs.Common.{◌∙◌, ◌<◌, [], ◌∷◌, ap, arith}
 use Rattle.std.proofs.lemmas.List.Elements.{All-cons, All-nil}
 use Rattle.std.proofs.lemmas.Option.{slice_get_within}
-use Rattle.tre_feed.specs.Shares.{IsViewOf, group_of}
+use Rattle.tre_feed.specs.Shares.{group_of}
 use Rattle.tre_feed.specs.declared.view.View.{View}
 use Rattle.tre_num.specs.Rows.{rows_recording, terms_of}
 use Rattle.tre_syntax.specs.Pattern.{names_of}

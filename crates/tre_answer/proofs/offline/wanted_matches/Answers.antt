@@ -1,4 +1,4 @@
-use Rattle.std.proofs.Common.{◌∷◌, refl, sym, arith}
+use Rattle.std.proofs.Common.{◌∷◌, refl, arith}
 use Rattle.tre_answer.proofs.Wanted.{behind_first, wanted-left}
 use Rattle.tre_answer.proofs.offline.wanted_matches.Goals as goal
 

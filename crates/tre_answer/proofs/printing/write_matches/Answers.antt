@@ -1,6 +1,5 @@
-use Rattle.std.proofs.Common.{◌+◌, ◌++◌, ◌∙◌, length, take, sym, ap, arith}
-use Rattle.std.proofs.lemmas.Slice.{between_to_end}
-use Rattle.tre_show.specs.Line.{lines_of, offline_text}
+use Rattle.std.proofs.Common.{◌+◌, arith}
+use Rattle.tre_show.specs.Line.{lines_of}
 use Rattle.std.proofs.lemmas.Result.{err_from_is_err_and}
 use Rattle.tre_answer.proofs.TextPieces.{EndsPutting-cut, EndsPutting-last, WroteText-more, WroteText-none, lines_to, text_around, text_behind}
 use Rattle.tre_answer.proofs.printing.write_matches.Goals as goal
