@@ -1,47 +1,64 @@
 // Whether the blocks of a run with `--online` tell just what a run over the whole input finds.
 
-use crate::case::Case;
 use crate::device::SOUND;
-use crate::running::{Ran, run};
+use crate::run::{Given, run};
+use crate::text::{text_of, words_of};
 use std::alloc::{AllocError, Global};
 use tests_support::zone_of;
 use tre_zone::Zone;
 
 /// Whether this is so of the first lines of the input, however many, on so many halves of ticks.
-pub(crate) fn is_alike(alloc: Global, case: &Case, halves: u64) -> Result<bool, AllocError> {
+pub(crate) fn is_alike(alloc: Global, given: &Given<'_>, halves: u16) -> Result<bool, AllocError> {
+    let online = words_of(alloc, "--online", &given.case)?;
     let mut first = Vec::new(alloc);
-    for line in str::from_utf8(&case.input).unwrap_or_default().lines() {
-        first.extend_from_slice(line.as_bytes())?;
-        first.push(b'\n')?;
-        if !tells_all(alloc, case, &first, halves)? {
+    for line in text_of(given.input).lines() {
+        put_line(&mut first, line)?;
+        if !tells_all(alloc, given, &online, &first, halves)? {
             return Ok(false);
         }
     }
     Ok(true)
 }
 
-fn tells_all(alloc: Global, case: &Case, input: &[u8], halves: u64) -> Result<bool, AllocError> {
-    let whole = run(alloc, &case.words, input, case, SOUND)?;
-    let online = with_online(alloc, &case.words)?;
-    let blocks = run(alloc, &online, input, case, SOUND)?;
-    let all = zones_of(alloc, &whole)?;
-    let told = zones_of(alloc, &blocks)?;
-    Ok(whole.code == 0 && blocks.code == 0 && are_alike(&all, &told, halves))
+fn put_line(text: &mut Vec<u8>, line: &str) -> Result<(), AllocError> {
+    text.extend_from_slice(line.as_bytes())?;
+    text.extend_from_slice(b"\n")
 }
 
-fn with_online(alloc: Global, words: &[String]) -> Result<Vec<String>, AllocError> {
-    let mut all = Vec::new(alloc);
-    all.push(String::from_str(alloc, "--online")?)?;
-    for word in words {
-        all.push(String::from_str(alloc, word.as_str())?)?;
+fn tells_all(
+    alloc: Global,
+    given: &Given<'_>,
+    online: &[String],
+    input: &[u8],
+    halves: u16,
+) -> Result<bool, AllocError> {
+    let all = zones_of(alloc, &Given { input, ..*given })?;
+    let told = zones_of(
+        alloc,
+        &Given {
+            words: online,
+            input,
+            ..*given
+        },
+    )?;
+    Ok(match (&all, &told) {
+        (Some(all), Some(told)) => are_alike(all, told, u64::from(halves)),
+        _ => false,
+    })
+}
+
+// The zones that a run writes, if it ends well.
+fn zones_of(alloc: Global, given: &Given<'_>) -> Result<Option<Vec<Zone>>, AllocError> {
+    let ran = run(alloc, given, SOUND)?;
+    match ran.code {
+        0 => Ok(Some(zones_in(alloc, text_of(ran.out.bytes()))?)),
+        _ => Ok(None),
     }
-    Ok(all)
 }
 
-// The zones of the lines that are written.
-fn zones_of(alloc: Global, ran: &Ran) -> Result<Vec<Zone>, AllocError> {
+fn zones_in(alloc: Global, out: &str) -> Result<Vec<Zone>, AllocError> {
     let mut zones = Vec::new(alloc);
-    for line in str::from_utf8(&ran.out).unwrap_or_default().lines() {
+    for line in out.lines() {
         if let Some(zone) = zone_of(line) {
             zones.push(zone)?;
         }

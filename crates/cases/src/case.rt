@@ -1,148 +1,138 @@
-// A case, and how its lines make it.
+// A case, and what its lines say.
 
-use crate::device::{Device, MISSING, SOUND, device_of};
-use crate::pairs::{Pair, pair_of};
-use crate::text::{put_bytes, text_of, words_of};
+use crate::device::{Device, device_of};
+use crate::pairs::pair_of;
+use crate::text::put_bytes;
 use std::alloc::{AllocError, Global};
 
-/// What a run is given, and what it must come to.
-#[derive(Drop)]
-pub(crate) struct Case {
-    pub(crate) words: Vec<String>,
-    /// Empty: standard input.
-    pub(crate) file: String,
-    pub(crate) input: Vec<u8>,
-    pub(crate) checks: Vec<u8>,
-    pub(crate) out: Vec<u8>,
-    pub(crate) err: Vec<u8>,
-    pub(crate) code: u16,
-    /// None: sound, once with long reads and once with short ones.
-    pub(crate) reads: Option<Device>,
-    pub(crate) asks: Device,
-    pub(crate) writes: Device,
-    pub(crate) tells: Device,
-    /// On so many halves of ticks the blocks of a run with `--online` tell what the run finds.
-    pub(crate) alike: Option<u64>,
-    /// What the watch tells of the segments of the input.
-    pub(crate) says: Option<String>,
-    /// That is told with reads of each number of bytes up to this one too.
-    pub(crate) cuts: usize,
-    /// Which pairs of times the blocks of the run tell, and which not.
-    pub(crate) pairs: Vec<Pair>,
-    /// What the output ends with.
-    pub(crate) ends: Vec<u8>,
-    /// How many zones it has.
-    pub(crate) zones: Option<usize>,
-    /// The input of the case before.
-    before: Vec<u8>,
+/// What a run is given, and what it must come to: the words of the run, and the lines behind them.
+#[derive(Clone, Copy)]
+pub(crate) struct Case<'a> {
+    pub(crate) words: &'a str,
+    lines: &'a str,
 }
 
-impl Case {
-    /// A case with these words, of an empty input, behind one of that input.
-    pub(crate) fn new(alloc: Global, words: &str, before: Vec<u8>) -> Result<Case, AllocError> {
-        Ok(Case {
-            words: words_of(alloc, words)?,
-            file: String::new(alloc),
-            input: Vec::new(alloc),
-            checks: Vec::new(alloc),
-            out: Vec::new(alloc),
-            err: Vec::new(alloc),
-            code: 0,
-            reads: None,
-            asks: MISSING,
-            writes: SOUND,
-            tells: SOUND,
-            alike: None,
-            says: None,
-            cuts: 0,
-            pairs: Vec::new(alloc),
-            ends: Vec::new(alloc),
-            zones: None,
-            before,
-        })
+impl<'a> Case<'a> {
+    /// The case of a block of lines, of which the first has the words.
+    pub(crate) fn new(block: &'a str) -> Case<'a> {
+        let (words, lines) = block.split_once('\n').unwrap_or((block, ""));
+        Case { words, lines }
     }
 
-    /// The name of the input.
-    pub(crate) fn file_name(&self) -> &str {
-        if self.file.is_empty() {
-            return "-";
+    /// The first line that is none of a case.
+    pub(crate) fn unknown(&self) -> Option<&'a str> {
+        for line in self.lines.lines() {
+            if !is_known(&Line::new(line)) {
+                return Some(line);
+            }
         }
-        self.file.as_str()
+        None
     }
 
-    /// Takes in one more line. False where the line is none of a case.
-    pub(crate) fn take(
-        &mut self,
-        alloc: Global,
-        word: &str,
-        text: &str,
-    ) -> Result<bool, AllocError> {
-        match word {
-            "says" => self.says = Some(String::from_str(alloc, text)?),
-            "<" => put_bytes(&mut self.input, text)?,
-            "again" => self.input.extend_from_slice(&self.before)?,
-            ">" => put_bytes(&mut self.out, text)?,
-            "ends" => put_bytes(&mut self.ends, text)?,
-            "!" => put_bytes(&mut self.err, text)?,
-            "checks" => self.put_checks(text)?,
-            "file" => self.file.push_str(text)?,
-            "word" => self.put_word(alloc, text)?,
-            "holds" => return self.put_pair(text, true),
-            "lacks" => return self.put_pair(text, false),
-            _ => return Ok(self.set(word, text)),
+    /// The text of the first line of this word.
+    pub(crate) fn text(&self, word: &str) -> Option<&'a str> {
+        for line in self.lines.lines() {
+            let line = Line::new(line);
+            if line.word == word {
+                return Some(line.text);
+            }
         }
-        Ok(true)
+        None
     }
 
-    fn put_word(&mut self, alloc: Global, text: &str) -> Result<(), AllocError> {
-        let text = text_of(alloc, text)?;
-        match self.words.last_mut() {
-            Some(word) => word.push_str(text.as_str()),
-            None => Ok(()),
+    /// The number of the line of this word.
+    pub(crate) fn number(&self, word: &str) -> Option<u16> {
+        self.text(word)?.parse::<u16>().ok()
+    }
+
+    /// The device of the line of this word.
+    pub(crate) fn device(&self, word: &str) -> Option<Device> {
+        device_of(self.text(word)?)
+    }
+
+    /// Puts the texts of all lines of this word behind the bytes, without their escapes.
+    pub(crate) fn put_texts(&self, bytes: &mut Vec<u8>, word: &str) -> Result<(), AllocError> {
+        for line in self.lines.lines() {
+            let line = Line::new(line);
+            if line.word == word {
+                line.put_text(bytes)?;
+            }
         }
+        Ok(())
     }
 
-    fn put_pair(&mut self, text: &str, is_told: bool) -> Result<bool, AllocError> {
-        let Some(pair) = pair_of(text, is_told) else {
-            return Ok(false);
-        };
-        self.pairs.push(pair)?;
-        Ok(true)
+    /// These texts.
+    pub(crate) fn texts(&self, alloc: Global, word: &str) -> Result<Vec<u8>, AllocError> {
+        let mut bytes = Vec::new(alloc);
+        self.put_texts(&mut bytes, word)?;
+        Ok(bytes)
     }
 
-    fn put_checks(&mut self, text: &str) -> Result<(), AllocError> {
-        self.asks = SOUND;
-        put_bytes(&mut self.checks, text)
-    }
-
-    // Takes in a line of numbers.
-    fn set(&mut self, word: &str, text: &str) -> bool {
-        if word == "=" || word == "alike" || word == "cuts" || word == "zones" {
-            return self.set_number(word, text);
-        }
-        let Some(device) = device_of(text) else {
-            return false;
-        };
-        match word {
-            "reads" => self.reads = Some(device),
-            "asks" => self.asks = device,
-            "writes" => self.writes = device,
-            "tells" => self.tells = device,
-            _ => return false,
+    /// Whether each pair that a line of this word names is told, or is not.
+    pub(crate) fn all_pairs(&self, word: &str, out: &[u8], is_told: bool) -> bool {
+        for line in self.lines.lines() {
+            let line = Line::new(line);
+            if line.word == word && !line.has_pair(out, is_told) {
+                return false;
+            }
         }
         true
     }
+}
 
-    fn set_number(&mut self, word: &str, text: &str) -> bool {
-        let Ok(number) = text.parse::<u16>() else {
-            return false;
-        };
-        match word {
-            "=" => self.code = number,
-            "cuts" => self.cuts = usize::from(number),
-            "zones" => self.zones = Some(usize::from(number)),
-            _ => self.alike = Some(u64::from(number)),
+/// A line that is taken so many times.
+#[derive(Clone, Copy)]
+struct Line<'a> {
+    count: u32,
+    word: &'a str,
+    text: &'a str,
+}
+
+impl<'a> Line<'a> {
+    fn new(line: &'a str) -> Line<'a> {
+        let (word, text) = first_word(line);
+        if word != "times" {
+            return Line {
+                count: 1,
+                word,
+                text,
+            };
         }
-        true
+        let (count, line) = first_word(text);
+        let (word, text) = first_word(line);
+        Line {
+            count: count.parse::<u32>().unwrap_or(0),
+            word,
+            text,
+        }
+    }
+
+    fn put_text(&self, bytes: &mut Vec<u8>) -> Result<(), AllocError> {
+        for _ in 0..self.count {
+            put_bytes(bytes, self.text)?;
+        }
+        Ok(())
+    }
+
+    fn has_pair(&self, out: &[u8], is_told: bool) -> bool {
+        match pair_of(self.text) {
+            Some(pair) => pair.is_told_by(out) == is_told,
+            None => false,
+        }
+    }
+}
+
+fn first_word(line: &str) -> (&str, &str) {
+    line.split_once(' ').unwrap_or((line, ""))
+}
+
+// Whether the line is one of a case, or says nothing.
+fn is_known(line: &Line<'_>) -> bool {
+    match line.word {
+        "" | "<" | "again" | "checks" | ">" | "ends" | "!" | "file" | "word" | "says" => true,
+        "=" | "alike" | "cuts" | "zones" => line.text.parse::<u16>().is_ok(),
+        "reads" | "asks" | "writes" | "tells" => device_of(line.text).is_some(),
+        "holds" | "lacks" => pair_of(line.text).is_some(),
+        word => word.starts_with('#'),
     }
 }

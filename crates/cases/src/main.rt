@@ -1,7 +1,8 @@
 //! Runs of the program over memory, as files of cases say them: what a run is given, and what it
 //! must come to.
 //!
-//! A case is a block of lines. Each line is a word and, behind a blank, a text.
+//! A file of cases begins with a comment. A case is a block of lines, and each line is a word and,
+//! behind a blank, a text.
 //!
 //! ```text
 //! # Two stretches of p, of which the second goes on.
@@ -42,21 +43,27 @@
 
 mod alike;
 mod case;
+mod checking;
 mod device;
 mod pairs;
-mod running;
+mod run;
 mod says;
 mod text;
 
-use crate::running::run_file;
+use crate::checking::run_file;
+use std::alloc::Global;
 use std::{env, fs};
 
 fn main(rt: HostRuntime) -> Result<(), anyhow::Error> {
     let alloc = rt.alloc();
     let words = env::args(&rt)?.collect::<Vec<String>>(alloc)?;
     for name in words.iter().skip(1) {
-        let text = fs::read_to_string(&rt, name.as_str())?;
-        run_file(&rt, alloc, name.as_str(), text.as_str())?;
+        run_named(&rt, alloc, name.as_str())?;
     }
     Ok(())
+}
+
+fn run_named(rt: &HostRuntime, alloc: Global, name: &str) -> Result<(), anyhow::Error> {
+    let text = fs::read_to_string(rt, name)?;
+    run_file(rt, alloc, name, text.as_str())
 }

@@ -1,8 +1,8 @@
 // What a watch tells of the segments of an input, and of their begins.
 
-use crate::case::Case;
 use crate::device::Device;
-use crate::running::{Ran, run};
+use crate::run::{Given, Ran, run};
+use crate::text::text_of;
 use std::alloc::{AllocError, Global};
 use tests_support::zone_of;
 use tre_zone::Zone;
@@ -13,14 +13,15 @@ const READS: [usize; 7] = [4096, 1, 2, 3, 5, 16, 40];
 /// Whether the input says this: each segment as its length and its valuation, with `@` and the
 /// events at its begin, and then `@` and the events at the end, or the fault. The checks `p0`, `p1`
 /// and so on are propositions, and `e0` and so on events.
-pub(crate) fn says(alloc: Global, case: &Case, want: &str) -> Result<bool, AllocError> {
+pub(crate) fn says(alloc: Global, given: &Given<'_>, want: &str) -> Result<bool, AllocError> {
     for most in READS {
-        if !says_cut(alloc, case, most, want)? {
+        if !says_cut(alloc, given, most, want)? {
             return Ok(false);
         }
     }
-    for most in 1..=case.cuts {
-        if !says_cut(alloc, case, most, want)? {
+    let cuts = given.case.number("cuts").unwrap_or(0);
+    for most in 1..=usize::from(cuts) {
+        if !says_cut(alloc, given, most, want)? {
             return Ok(false);
         }
     }
@@ -28,13 +29,20 @@ pub(crate) fn says(alloc: Global, case: &Case, want: &str) -> Result<bool, Alloc
 }
 
 // The same of reads that give so many bytes.
-fn says_cut(alloc: Global, case: &Case, most: usize, want: &str) -> Result<bool, AllocError> {
-    let reads = Device {
-        most: most.max(1),
-        fails: 0,
+fn says_cut(alloc: Global, given: &Given<'_>, most: usize, want: &str) -> Result<bool, AllocError> {
+    let most = most.max(1);
+    let ran = run(alloc, given, Device { most, fails: 0 })?;
+    is_said(alloc, &ran, want)
+}
+
+fn is_said(alloc: Global, ran: &Ran, want: &str) -> Result<bool, AllocError> {
+    let mut said = Said {
+        text: String::new(alloc),
+        told: Vec::new(alloc),
+        begin: 0,
     };
-    let ran = run(alloc, &case.words, &case.input, case, reads)?;
-    Ok(said(alloc, &ran)?.as_str().trim_end() == want)
+    said.put(alloc, ran)?;
+    Ok(said.text.as_str().trim_end() == want)
 }
 
 // A zone that is told, the kind of its check, and the number in its name.
@@ -56,31 +64,52 @@ fn bits_of(told: &[Told], is_event: bool, begin: u64, end: u64) -> u64 {
     bits
 }
 
-// What the output and the line of standard error tell.
-fn said(alloc: Global, ran: &Ran) -> Result<String, AllocError> {
-    let mut text = String::new(alloc);
-    let mut told = Vec::new(alloc);
-    let mut begin = 0;
-    for line in text_of(&ran.out).lines() {
-        let (label, rest) = line.split_once(' ').unwrap_or((line, ""));
-        let plain = without_points(alloc, rest)?;
-        if label == "at" {
-            let end = plain.as_str().parse::<u64>().unwrap_or(0);
-            put_segment(&mut text, &told, begin, end)?;
-            begin = end;
-            told.clear();
-        } else if label == "end" {
-            put_events(&mut text, bits_of(&told, true, begin, begin))?;
-        } else if let Some(it) = told_by(label, plain.as_str()) {
-            told.push(it)?;
-        }
-    }
-    put_fault(&mut text, text_of(&ran.err))?;
-    Ok(text)
+// What is told of the segments so far, of the next one, and when that begins.
+#[derive(Drop)]
+struct Said {
+    text: String,
+    told: Vec<Told>,
+    begin: u64,
 }
 
-fn text_of(bytes: &[u8]) -> &str {
-    str::from_utf8(bytes).unwrap_or_default()
+impl Said {
+    // Puts what the output and the line of standard error tell.
+    fn put(&mut self, alloc: Global, ran: &Ran) -> Result<(), AllocError> {
+        for line in text_of(ran.out.bytes()).lines() {
+            let (label, rest) = line.split_once(' ').unwrap_or((line, ""));
+            let plain = without_points(alloc, rest)?;
+            self.put_line(label, plain.as_str())?;
+        }
+        put_fault(&mut self.text, text_of(ran.err.bytes()))
+    }
+
+    fn put_line(&mut self, label: &str, rest: &str) -> Result<(), AllocError> {
+        match label {
+            "at" => self.put_segment(rest.parse::<u64>().unwrap_or(0)),
+            "end" => self.put_events(),
+            _ => match told_by(label, rest) {
+                Some(it) => Ok(self.told.push(it)?),
+                None => Ok(()),
+            },
+        }
+    }
+
+    fn put_segment(&mut self, end: u64) -> Result<(), AllocError> {
+        let len = end.saturating_sub(self.begin);
+        let bits = bits_of(&self.told, false, self.begin, end);
+        write!(self.text, "{len}:{bits}")?;
+        self.put_events()?;
+        self.begin = end;
+        self.told.clear();
+        self.text.push(' ')
+    }
+
+    fn put_events(&mut self) -> Result<(), AllocError> {
+        match bits_of(&self.told, true, self.begin, self.begin) {
+            0 => Ok(()),
+            events => write!(self.text, "@{events}"),
+        }
+    }
 }
 
 // Decimals at a scale, as numbers of units.
@@ -104,28 +133,13 @@ fn told_by(label: &str, zone: &str) -> Option<Told> {
     })
 }
 
-fn put_segment(text: &mut String, told: &[Told], begin: u64, end: u64) -> Result<(), AllocError> {
-    let len = end.saturating_sub(begin);
-    write!(text, "{len}:{}", bits_of(told, false, begin, end))?;
-    put_events(text, bits_of(told, true, begin, begin))?;
-    text.push(' ')
-}
-
-fn put_events(text: &mut String, events: u64) -> Result<(), AllocError> {
-    if events != 0 {
-        write!(text, "@{events}")?;
-    }
-    Ok(())
-}
-
 // A fault of the trace, as its kind and its place.
 fn put_fault(text: &mut String, line: &str) -> Result<(), AllocError> {
     let Some(fault) = line.trim_end().strip_prefix("montre: trace: ") else {
         return text.push_str(line);
     };
     match fault.split_once(" at ") {
-        Some((kind, place)) => write!(text, "{kind} {place}")?,
-        None => text.push_str(fault)?,
+        Some((kind, place)) => write!(text, "{kind} {place}"),
+        None => text.push_str(fault),
     }
-    Ok(())
 }

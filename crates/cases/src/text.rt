@@ -1,16 +1,36 @@
 // Words and bytes, as a case spells them.
 
+use crate::case::Case;
 use std::alloc::{AllocError, Global};
 
-/// The words of a line, apart by blanks. A word in single quotes may have blanks, or none at all.
-pub(crate) fn words_of(alloc: Global, line: &str) -> Result<Vec<String>, AllocError> {
+/// These words, and those of the case: apart by blanks. A word in single quotes may have blanks, or
+/// none at all. The text of the lines `word` stands behind the last one.
+pub(crate) fn words_of(
+    alloc: Global,
+    first: &str,
+    case: &Case<'_>,
+) -> Result<Vec<String>, AllocError> {
     let mut words = Vec::new(alloc);
+    put_all_words(alloc, &mut words, first, case)?;
+    Ok(words)
+}
+
+fn put_all_words(
+    alloc: Global,
+    words: &mut Vec<String>,
+    first: &str,
+    case: &Case<'_>,
+) -> Result<(), AllocError> {
+    put_words(alloc, words, first, false)?;
     let mut quoted = false;
-    for part in line.split('\'') {
-        put_words(alloc, &mut words, part, quoted)?;
+    for part in case.words.split('\'') {
+        put_words(alloc, words, part, quoted)?;
         quoted = !quoted;
     }
-    Ok(words)
+    match words.last_mut() {
+        Some(last) => put_behind(alloc, last, case),
+        None => Ok(()),
+    }
 }
 
 fn put_words(
@@ -20,20 +40,29 @@ fn put_words(
     quoted: bool,
 ) -> Result<(), AllocError> {
     if quoted {
-        words.push(text_of(alloc, part)?)?;
-        return Ok(());
+        return put_word(alloc, words, part);
     }
     for word in part.split_whitespace() {
-        words.push(text_of(alloc, word)?)?;
+        put_word(alloc, words, word)?;
     }
     Ok(())
 }
 
-/// The text, without its escapes. Where its bytes are no text, it is empty.
-pub(crate) fn text_of(alloc: Global, part: &str) -> Result<String, AllocError> {
+fn put_word(alloc: Global, words: &mut Vec<String>, part: &str) -> Result<(), AllocError> {
     let mut bytes = Vec::new(alloc);
     put_bytes(&mut bytes, part)?;
-    String::from_str(alloc, str::from_utf8(&bytes).unwrap_or_default())
+    words.push(String::from_str(alloc, text_of(&bytes))?)?;
+    Ok(())
+}
+
+fn put_behind(alloc: Global, last: &mut String, case: &Case<'_>) -> Result<(), AllocError> {
+    let bytes = case.texts(alloc, "word")?;
+    last.push_str(text_of(&bytes))
+}
+
+/// The text of these bytes. Where they are none, it is empty.
+pub(crate) fn text_of(bytes: &[u8]) -> &str {
+    str::from_utf8(bytes).unwrap_or_default()
 }
 
 /// How far an escape has come.
