@@ -1,8 +1,9 @@
 -- What is known behind a declaration.
-use Rattle.std.proofs.Common.{◌≡◌, ℕ, List, [], ◌∷◌, take, refl, sym, subst}
-use Rattle.tre_vcd.specs.VcdReading.{Statement, var, offer_in}
+use Rattle.std.proofs.Common.{◌≡◌, ◌<◌, ◌≤◌, ℕ, List, [], ◌∷◌, ◌++◌, length, map, get_or, take, None, refl, sym, ap, ap₂, ◌∙◌, subst, arith, if◌then◌else◌}
+use Rattle.std.specs.Global.{Vec}
+use Rattle.tre_vcd.specs.VcdReading.{Statement, var, offer_in, offer_of, path}
 use Rattle.tre_vcd.specs.Kept.{IsQuiet, KnowsOfPast}
-use Rattle.tre_vcd.specs.Signals.{KnowsSignals}
+use Rattle.tre_vcd.specs.Signals.{KnowsSignals, begins_range}
 use Rattle.tre_vcd.specs.declared.past.Past.{Past}
 use Rattle.tre_vcd.specs.declared.signals.Signals.{Signals}
 
@@ -36,3 +37,60 @@ offer-six scopes (a ∷ b ∷ c ∷ []) = refl
 offer-six scopes (a ∷ b ∷ c ∷ d ∷ []) = refl
 offer-six scopes (a ∷ b ∷ c ∷ d ∷ e ∷ []) = refl
 offer-six scopes (a ∷ b ∷ c ∷ d ∷ e ∷ f ∷ tokens) = refl
+
+-- ---- what a declaration of four or five tokens offers, by each of them
+
+pub offered-four : (scopes : List (List ℕ)) (tokens : List (Vec ℕ))
+    (kind size identifier reference : Vec ℕ) (k s i r : List ℕ)
+    → 4 ≤ length tokens → length tokens < 5
+    → kind ≡ get_or tokens 0 kind → size ≡ get_or tokens 1 size
+    → identifier ≡ get_or tokens 2 identifier → reference ≡ get_or tokens 3 reference
+    → k ≡ kind.items → s ≡ size.items → i ≡ identifier.items → r ≡ reference.items
+    → offer_of k s i (path scopes r) ≡ offer_in scopes (map (λ (token : Vec ℕ). token.items) tokens)
+offered-four _ [] _ _ _ _ _ _ _ _ least _ _ _ _ _ _ _ _ _ =
+    absurd (omega (arith, least))
+offered-four _ (a ∷ []) _ _ _ _ _ _ _ _ least _ _ _ _ _ _ _ _ _ =
+    absurd (omega (arith, least))
+offered-four _ (a ∷ b ∷ []) _ _ _ _ _ _ _ _ least _ _ _ _ _ _ _ _ _ =
+    absurd (omega (arith, least))
+offered-four _ (a ∷ b ∷ c ∷ []) _ _ _ _ _ _ _ _ least _ _ _ _ _ _ _ _ _ =
+    absurd (omega (arith, least))
+offered-four scopes (a ∷ b ∷ c ∷ d ∷ []) _ _ _ _ k s i r _ _ one two three four ka sb ic rd =
+    ap₂ (λ x y. offer_of x y i (path scopes r)) (ka ∙ ap (λ (token : Vec ℕ). token.items) one)
+    (sb ∙ ap (λ (token : Vec ℕ). token.items) two)
+    ∙ ap₂ (λ x y. offer_of a.items b.items x (path scopes y))
+    (ic ∙ ap (λ (token : Vec ℕ). token.items) three)
+    (rd ∙ ap (λ (token : Vec ℕ). token.items) four)
+offered-four _ (a ∷ b ∷ c ∷ d ∷ e ∷ more) _ _ _ _ _ _ _ _ _ below _ _ _ _ _ _ _ _ =
+    absurd (omega (arith, below))
+
+pub offered-five : (scopes : List (List ℕ)) (tokens : List (Vec ℕ))
+    (kind size identifier reference range : Vec ℕ) (k s i r g : List ℕ)
+    → 5 ≤ length tokens → length tokens < 6
+    → kind ≡ get_or tokens 0 kind → size ≡ get_or tokens 1 size
+    → identifier ≡ get_or tokens 2 identifier → reference ≡ get_or tokens 3 reference
+    → range ≡ get_or tokens 4 range
+    → k ≡ kind.items → s ≡ size.items → i ≡ identifier.items → r ≡ reference.items
+    → g ≡ range.items
+    → (if begins_range g then offer_of k s i (path scopes (r ++ g)) else None)
+    ≡ offer_in scopes (map (λ (token : Vec ℕ). token.items) tokens)
+offered-five _ [] _ _ _ _ _ _ _ _ _ _ least _ _ _ _ _ _ _ _ _ _ _ =
+    absurd (omega (arith, least))
+offered-five _ (a ∷ []) _ _ _ _ _ _ _ _ _ _ least _ _ _ _ _ _ _ _ _ _ _ =
+    absurd (omega (arith, least))
+offered-five _ (a ∷ b ∷ []) _ _ _ _ _ _ _ _ _ _ least _ _ _ _ _ _ _ _ _ _ _ =
+    absurd (omega (arith, least))
+offered-five _ (a ∷ b ∷ c ∷ []) _ _ _ _ _ _ _ _ _ _ least _ _ _ _ _ _ _ _ _ _ _ =
+    absurd (omega (arith, least))
+offered-five _ (a ∷ b ∷ c ∷ d ∷ []) _ _ _ _ _ _ _ _ _ _ least _ _ _ _ _ _ _ _ _ _ _ =
+    absurd (omega (arith, least))
+offered-five scopes (a ∷ b ∷ c ∷ d ∷ e ∷ []) _ _ _ _ _ k s i r g _ _ one two three four five ka sb ic rd ge =
+    ap₂ (λ x y. if begins_range g then offer_of x y i (path scopes (r ++ g)) else None)
+    (ka ∙ ap (λ (token : Vec ℕ). token.items) one) (sb ∙ ap (λ (token : Vec ℕ). token.items) two)
+    ∙ ap₂ (λ x y. if begins_range g then offer_of a.items b.items x (path scopes (y ++ g)) else None)
+    (ic ∙ ap (λ (token : Vec ℕ). token.items) three)
+    (rd ∙ ap (λ (token : Vec ℕ). token.items) four)
+    ∙ ap (λ x. if begins_range x then offer_of a.items b.items c.items (path scopes (d.items ++ x))
+    else None) (ge ∙ ap (λ (token : Vec ℕ). token.items) five)
+offered-five _ (a ∷ b ∷ c ∷ d ∷ e ∷ f ∷ more) _ _ _ _ _ _ _ _ _ _ _ below _ _ _ _ _ _ _ _ _ _ =
+    absurd (omega (arith, below))

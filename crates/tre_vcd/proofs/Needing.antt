@@ -1,11 +1,11 @@
 -- What is known of the names that must be declared.
-use Rattle.std.proofs.Common.{◌≡◌, ◌≤◌, ℕ, Bool, refl, List, [], ◌∷◌, ◌++◌, length, map, take, drop, sym, ap, ◌∙◌, subst, arith}
+use Rattle.std.proofs.Common.{◌≡◌, ◌≤◌, ℕ, Bool, refl, List, [], ◌∷◌, ◌++◌, length, map, take, drop, sym, ap, ap₂, ◌∙◌, subst, arith}
 use Rattle.std.specs.Global.{Vec}
 use Rattle.std.specs.Prelude.{All}
 use Rattle.std.proofs.Math.Seq.{take-append_seam}
 use Rattle.std.proofs.lemmas.List.{map-append}
 use Rattle.tre_trace.specs.Reading.{Vocabulary}
-use Rattle.tre_vcd.specs.VcdReading.{Statement, var, scopes_at, is_signal, is_event}
+use Rattle.tre_vcd.specs.VcdReading.{Statement, Terms, var, scopes_at, is_signal, is_event}
 use Rattle.tre_vcd.specs.Kept.{identifier_of, KnowsNeeded, KnowsAll, AreNoLonger, AreWithin, DeclaresNoneWithin, plain_of, vocabulary_of}
 use Rattle.tre_define.specs.Signals.{SignalDefined}
 use Rattle.tre_vcd.specs.Offers.{KnowsOffers, KnowOffers}
@@ -91,6 +91,16 @@ written-back P now all len same knows =
     subst P
     (sym (ap (λ n. take n (now ++ drop (length now) all)) (sym same)
     ∙ take-append_seam now (drop (length now) all))) knows
+
+-- what is asked of the reader, by what changes of it
+abbrev pub terms_of : ℕ → List Vocabulary → List SignalDefined → Terms
+terms_of scale declared definitions =
+    record { declared = declared; scale = scale; definitions = definitions }
+
+pub same-terms : {now declared : List Vocabulary} {own definitions : List SignalDefined} (scale : ℕ)
+    → now ≡ declared → own ≡ definitions
+    → terms_of scale now own ≡ terms_of scale declared definitions
+same-terms scale named defined = ap₂ (terms_of scale) named defined
 
 -- ---- names that are longer
 

@@ -10,6 +10,7 @@ ghost use Rattle.tre_vcd.specs.VcdReading.{Form, Statement, var, time, change, d
 ghost use Rattle.tre_vcd.specs.Kept.{IsQuiet, events_at};
 ghost use Rattle.tre_vcd.specs.Signals.{offer_kept, occasion_of, letters_kept, part_kept, part_read, reads_part, part_at, watched_at, AreDefined, SignalsAreWatched, KnowsAt, KnowsChanges, SameAsked};
 
+use crate::definitions::copy_if;
 use crate::letters::Letters;
 use crate::offer::Offered;
 use crate::variable::set_bit;
@@ -148,17 +149,18 @@ impl Changes {
     pub fn add(
         &mut self,
         alloc: Global,
-        definition: Option<SignalDefinition>,
+        definition: Option<&SignalDefinition>,
     ) -> Result<(), AllocError>
         requires few { length self.old.list.items < 64 }
         ensures knows { (all : List SignalDefined) (names : List (List ℕ)) (name : List ℕ) →
             KnowsChanges all names self.old [] → length self.old.list.items ≡ length names →
-            definition ≡ signal_definition_of all name →
+            option_map (λ own. own.now) definition.entry ≡ signal_definition_of all name →
             OnOk result (KnowsChanges all (names ++ name ∷ []) self.new []) }
         ensures len { OnOk result (length self.new.list.items
             ≡ length self.old.list.items + 1) }
     {
         let number = self.list.as_slice().len() as u8;
+        let definition = copy_if(definition)?;
         let is_defined = definition.is_some();
         self.list.push(Watched {
             definition,
@@ -179,8 +181,7 @@ impl Changes {
             KnowsChanges all names self.old past →
             OnOk result (KnowsChanges all names self.new (var tokens ∷ past)) }
     {
-        declare_each(&mut self.list, alloc, offered)?;
-        Ok(())
+        declare_each(&mut self.list, alloc, offered)
     }
 
     // The declarations end.

@@ -1,5 +1,5 @@
 // Lists of definitions.
-ghost use Rattle.std.specs.Prelude.{◌≡◌, ◌∷◌, ◌++◌, [], IfOk, OnOk};
+ghost use Rattle.std.specs.Prelude.{◌≡◌, ◌∷◌, ◌++◌, [], is_ok, IfOk, OnOk, if◌then◌else◌};
 ghost use Rattle.std.specs.Option.{option_map};
 ghost use Rattle.tre_define.specs.Signals.{signal_definition_of};
 ghost use Rattle.tre_vcd.specs.VcdReading.{is_changes, of_changes};
@@ -16,9 +16,21 @@ pub fn copy_of(
 {
     let mut copies = Vec::new(alloc);
     for definition in definitions {
-        copies.push(definition.try_clone()?)?;
+        push_copy(&mut copies, definition)?;
     }
     Ok(copies)
+}
+
+// Puts a copy of the definition behind the others.
+pub fn push_copy(
+    list: &mut Vec<SignalDefinition>,
+    definition: &SignalDefinition,
+) -> Result<(), AllocError>
+    ensures { list.new.items
+        ≡ (if is_ok result then list.old.items ++ definition.now ∷ [] else list.old.items) }
+{
+    list.push(definition.try_clone()?)?;
+    Ok(())
 }
 
 // Copies of those that are of events.
@@ -46,7 +58,7 @@ fn add_changing(
     if !is_changes(definition.reads()) {
         return Ok(());
     }
-    changing.push(definition.try_clone()?)?;
+    push_copy(changing, definition)?;
     Ok(())
 }
 

@@ -39,10 +39,12 @@ impl Found {
             KnowsOffers (definitions_of found.needed.value) [] found) }
     {
         let needed = needed.clone()?;
-        let names = undeclared(alloc, needed.names.len())?;
-        let events = undeclared(alloc, needed.events.len())?;
-        let tests = undeclared(alloc, needed.defined_names().len())?;
-        let changes = undeclared(alloc, needed.defined_events().len())?;
+        let (names, events) = undeclared(alloc, needed.names.len(), needed.events.len())?;
+        let (tests, changes) = undeclared(
+            alloc,
+            needed.defined_names().len(),
+            needed.defined_events().len(),
+        )?;
         Ok(Found {
             needed,
             names,
@@ -113,8 +115,22 @@ impl Found {
     }
 }
 
-// None of so many names is declared.
-fn undeclared(alloc: Global, count: usize) -> Result<Vec<bool>, AllocError>
+// None of so many names and of so many events is declared.
+fn undeclared(
+    alloc: Global,
+    names: usize,
+    events: usize,
+) -> Result<(Vec<bool>, Vec<bool>), AllocError>
+    ensures { IfOk result (λ flags. (flags.0.items ≡ replicate names false)
+        × (flags.1.items ≡ replicate events false)) }
+{
+    let names = lowered(alloc, names)?;
+    let events = lowered(alloc, events)?;
+    Ok((names, events))
+}
+
+// So many flags, none of which is set.
+fn lowered(alloc: Global, count: usize) -> Result<Vec<bool>, AllocError>
     ensures { IfOk result (λ flags. flags.items ≡ replicate count false) }
 {
     let mut flags = Vec::new(alloc);

@@ -1,5 +1,5 @@
 // The letters of values.
-ghost use Rattle.std.specs.Prelude.{◌≡◌, None, Some, OnOk};
+ghost use Rattle.std.specs.Prelude.{◌≡◌, ◌++◌, None, Some, IfOk, OnOk};
 ghost use Rattle.tre_vcd.specs.VcdReading.{differs};
 ghost use Rattle.tre_vcd.specs.Signals.{letters_kept};
 
@@ -43,6 +43,15 @@ impl Letters {
         }
         part.differs(&self.bytes, &new.bytes)
     }
+}
+
+// The one text and the other behind it.
+pub fn joined(alloc: Global, front: &[u8], back: &[u8]) -> Result<Vec<u8>, AllocError>
+    ensures { IfOk result (λ both. both.items ≡ front.now ++ back.now) }
+{
+    let mut both = Vec::from_slice(alloc, front)?;
+    both.extend_from_slice(back)?;
+    Ok(both)
 }
 
 // Puts these letters in the place of others.

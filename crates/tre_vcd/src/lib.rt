@@ -20,6 +20,7 @@
 mod brief;
 mod changes;
 mod command;
+mod declaration;
 mod definitions;
 mod found;
 mod inside;

@@ -1,11 +1,11 @@
 // The names that a dump must declare.
-ghost use Rattle.std.specs.Prelude.{◌≡◌, ◌⊎◌, ◌&&◌, ◌∷◌, ◌++◌, ℕ, List, [], Bool, map, OnErr, OnOk};
+ghost use Rattle.std.specs.Prelude.{◌≡◌, ◌⊎◌, ◌&&◌, ◌∷◌, ◌++◌, ℕ, List, [], Bool, map, IfOk, OnErr, OnOk};
 ghost use Rattle.std.specs.List.{list_all};
 ghost use Rattle.tre_trace.specs.Reading.{no_names};
 ghost use Rattle.tre_vcd.specs.VcdReading.{of_changes};
 ghost use Rattle.tre_vcd.specs.Sorted.{AreSorted, JoinsNames, wanted};
 
-use crate::definitions::{copy_of, definition_of, of_changes};
+use crate::definitions::{copy_of, definition_of, of_changes, push_copy};
 use indexmap::IndexSet;
 use std::alloc::{AllocError, Global};
 use tre_define::SignalDefinition;
@@ -54,16 +54,25 @@ impl Needed {
         ensures definitions { OnOk result (definitions_of self.new ≡ definitions.now) }
         ensures needs { needs self.new ≡ no_names }
     {
-        let alloc = *self.names.allocator();
-        *self = Needed {
-            definitions: copy_of(alloc, definitions)?,
-            changing: of_changes(alloc, definitions)?,
+        *self = Needed::defined_by(*self.names.allocator(), definitions)?;
+        Ok(())
+    }
+
+    // No name must be declared, and these are the definitions.
+    fn defined_by(alloc: Global, definitions: &[SignalDefinition]) -> Result<Needed, AllocError>
+        ensures definitions { IfOk result (λ needed. definitions_of needed ≡ definitions.now) }
+        ensures needs { IfOk result (λ needed. needs needed ≡ no_names) }
+    {
+        let changing = of_changes(alloc, definitions)?;
+        let definitions = copy_of(alloc, definitions)?;
+        Ok(Needed {
+            definitions,
+            changing,
             names: IndexSet::new(alloc),
             tests: Vec::new(alloc),
             events: IndexSet::new(alloc),
             changes: Vec::new(alloc),
-        };
-        Ok(())
+        })
     }
 
     /// The definitions of the names that must be declared and have one.
@@ -93,8 +102,7 @@ impl Needed {
         ensures definitions { definitions_of self.new ≡ definitions_of self.old }
     {
         add_all(&mut self.names, &mut self.tests, &self.definitions, names)?;
-        add_all(&mut self.events, &mut self.changes, &self.changing, events)?;
-        Ok(())
+        add_all(&mut self.events, &mut self.changes, &self.changing, events)
     }
 }
 
@@ -164,7 +172,7 @@ fn add_definition(
     if definition_of(defined, definition.name().as_bytes()).is_some() {
         return Ok(());
     }
-    defined.push(definition.try_clone()?)?;
+    push_copy(defined, definition)?;
     Ok(())
 }
 

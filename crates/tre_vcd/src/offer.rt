@@ -1,10 +1,11 @@
 // What declarations offer to definitions.
-ghost use Rattle.std.specs.Prelude.{◌≡◌, ℕ, List, map, IfOk};
+ghost use Rattle.std.specs.Prelude.{◌≡◌, ◌++◌, ℕ, List, None, map, IfOk, if◌then◌else◌};
 ghost use Rattle.std.specs.Option.{option_map};
-ghost use Rattle.tre_vcd.specs.VcdReading.{has_bits, offer_in, offer_of};
+ghost use Rattle.tre_vcd.specs.VcdReading.{has_bits, offer_in, offer_of, path};
 ghost use Rattle.tre_vcd.specs.Kept.{AreScopes};
 ghost use Rattle.tre_vcd.specs.Signals.{begins_range, offer_kept, size_offered};
 
+use crate::letters::joined;
 use crate::scopes::Scopes;
 use crate::token::has_bits;
 use std::alloc::{AllocError, Global};
@@ -31,20 +32,38 @@ pub fn offer_in(
 {
     match tokens {
         [kind, size, identifier, reference] => {
-            let full_name = scopes.path(alloc, reference)?;
-            offer_of(alloc, kind, size, identifier, full_name)
+            offer_of(alloc, scopes, kind, size, identifier, reference)
         }
         [kind, size, identifier, reference, range] => {
-            if !begins_range(range) {
-                return Ok(None);
-            }
-            let mut full_reference = Vec::from_slice(alloc, reference)?;
-            full_reference.extend_from_slice(range)?;
-            let full_name = scopes.path(alloc, &full_reference)?;
-            offer_of(alloc, kind, size, identifier, full_name)
+            offer_of_range(alloc, scopes, kind, size, identifier, reference, range)
         }
         _ => Ok(None),
     }
+}
+
+// What a variable of this type, size and identifier offers, by its reference and the token behind.
+fn offer_of_range(
+    alloc: Global,
+    scopes: &Scopes,
+    kind: &[u8],
+    size: &[u8],
+    identifier: &[u8],
+    reference: &[u8],
+    range: &[u8],
+) -> Result<Option<Offered>, AllocError>
+    ensures { (open_scopes : List (List ℕ)) →
+        AreScopes open_scopes scopes.now.prefix.items scopes.now.lens.items →
+        IfOk result (λ offered. option_map offer_kept offered
+        ≡ (if begins_range range.now
+        then offer_of kind.now size.now identifier.now
+        (path open_scopes (reference.now ++ range.now))
+        else None)) }
+{
+    if !begins_range(range) {
+        return Ok(None);
+    }
+    let full_reference = joined(alloc, reference, range)?;
+    offer_of(alloc, scopes, kind, size, identifier, &full_reference)
 }
 
 // Whether a token is the range of a reference.
@@ -57,22 +76,27 @@ fn begins_range(token: &[u8]) -> bool
     }
 }
 
-// What a variable of this type, size, identifier and full name offers.
+// What a variable of this type, size, identifier and reference offers.
 fn offer_of(
     alloc: Global,
+    scopes: &Scopes,
     kind: &[u8],
     size: &[u8],
     identifier: &[u8],
-    full_name: Vec<u8>,
+    reference: &[u8],
 ) -> Result<Option<Offered>, AllocError>
-    ensures { IfOk result (λ offered. option_map offer_kept offered
-        ≡ offer_of kind.now size.now identifier.now full_name.items) }
+    ensures { (open_scopes : List (List ℕ)) →
+        AreScopes open_scopes scopes.now.prefix.items scopes.now.lens.items →
+        IfOk result (λ offered. option_map offer_kept offered
+        ≡ offer_of kind.now size.now identifier.now (path open_scopes reference.now)) }
 {
     let Some(size) = size_offered(kind, size) else {
         return Ok(None);
     };
+    let full_name = scopes.path(alloc, reference)?;
+    let identifier = Vec::from_slice(alloc, identifier)?;
     Ok(Some(Offered {
-        identifier: Vec::from_slice(alloc, identifier)?,
+        identifier,
         full_name,
         size,
     }))

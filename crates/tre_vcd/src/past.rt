@@ -79,8 +79,7 @@ impl Past {
             OnOk result (KnowsOfPast names.now event_names self.new (var tokens ∷ past)) }
     {
         self.propositions
-            .declare(self.alloc, names, path, identifier)?;
-        Ok(())
+            .declare(self.alloc, names, path, identifier)
     }
 
     // An event of this path is declared by these tokens of its declaration.
@@ -96,8 +95,7 @@ impl Past {
             DeclaresNone is_signal (scopes_at past) tokens →
             OnOk result (KnowsOfPast names events.now self.new (var tokens ∷ past)) }
     {
-        self.events.declare(self.alloc, events, path, identifier)?;
-        Ok(())
+        self.events.declare(self.alloc, events, path, identifier)
     }
 
     // The declarations end, those of the propositions of these names among them.

@@ -2,6 +2,7 @@ ghost use Rattle.std.specs.Prelude.{◌≡◌, ◌==◌, ◌<◌, ℕ, List, [],
 ghost use Rattle.tre_vcd.specs.VcdReading.{path};
 ghost use Rattle.tre_vcd.specs.Kept.{AreScopes};
 
+use crate::letters::joined;
 use std::alloc::{AllocError, Global};
 
 // The open scopes: their names, the outermost first, each with a full stop behind it, and how long
@@ -39,8 +40,12 @@ impl Scopes {
             OnOk result (AreScopes (name.now ∷ scopes) self.new.prefix.items
             self.new.lens.items) }
     {
-        self.lens.push(self.prefix.len())?;
-        self.prefix.extend_from_slice(name)?;
+        let Ok(()) = self.lens.push(self.prefix.len()) else {
+            return Err(AllocError);
+        };
+        let Ok(()) = self.prefix.extend_from_slice(name) else {
+            return Err(AllocError);
+        };
         self.prefix.push(b'.')?;
         Ok(())
     }
@@ -71,8 +76,6 @@ impl Scopes {
             AreScopes scopes self.now.prefix.items self.now.lens.items →
             IfOk result (λ name. name.items ≡ path scopes reference.now) }
     {
-        let mut name = Vec::from_slice(alloc, &self.prefix)?;
-        name.extend_from_slice(reference)?;
-        Ok(name)
+        joined(alloc, &self.prefix, reference)
     }
 }

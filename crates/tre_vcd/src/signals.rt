@@ -1,12 +1,12 @@
 // What names read by their definitions.
 ghost use Rattle.std.specs.Prelude.{◌≡◌, ◌≢◌, ◌==◌, ◌∷◌, ℕ, List, [], length, true, false, Some, None, IfOk, OnOk};
-ghost use Rattle.tre_vcd.specs.VcdReading.{Form, Statement, var, change, time, definitions, is_defined, scopes_at, offer_in};
+ghost use Rattle.tre_vcd.specs.VcdReading.{Form, Statement, var, change, time, definitions, is_defined, scopes_at, offer_in, of_changes};
 ghost use Rattle.tre_vcd.specs.Kept.{IsQuiet};
 ghost use Rattle.tre_vcd.specs.Taken.{behind_if};
 ghost use Rattle.tre_vcd.specs.Signals.{offer_kept, KnowsTests, KnowsChanges};
 
 use crate::changes::Changes;
-use crate::definitions::{copy_if, copy_of, definition_of, of_changes};
+use crate::definitions::{copy_of, definition_of, of_changes};
 use crate::offer::Offered;
 use crate::tests::Tests;
 use std::alloc::{AllocError, Global};
@@ -47,9 +47,8 @@ impl Signals {
         ensures knows { OnOk result (KnowsSignals names.now events.now self.new []) }
         ensures kept { OnOk result (self.new.definitions.items ≡ all.now) }
     {
-        let changing = of_changes(alloc, all)?;
         self.tests = tests_of(alloc, names, all)?;
-        self.changes = changes_of(alloc, events, &changing)?;
+        self.changes = changes_by(alloc, events, all)?;
         self.definitions = copy_of(alloc, all)?;
         Ok(())
     }
@@ -72,8 +71,7 @@ impl Signals {
         ensures kept { self.new.definitions ≡ self.old.definitions }
     {
         self.tests.declare(alloc, offered)?;
-        self.changes.declare(alloc, offered)?;
-        Ok(())
+        self.changes.declare(alloc, offered)
     }
 
     // The declarations end.
@@ -127,8 +125,7 @@ impl Signals {
         ensures kept { self.new.definitions ≡ self.old.definitions }
     {
         self.tests.change(identifier, letters);
-        self.changes.change(identifier, letters)?;
-        Ok(())
+        self.changes.change(identifier, letters)
     }
 }
 
@@ -139,11 +136,20 @@ fn tests_of(alloc: Global, names: &Names, all: &[SignalDefinition]) -> Result<Te
     let mut tests = Tests::new(alloc);
     for number in 0..names.len() as u8 {
         match names.name(number) {
-            Some(name) => tests.add(copy_if(definition_of(all, name.as_bytes()))?)?,
+            Some(name) => tests.add(definition_of(all, name.as_bytes()))?,
             None => unreachable!(),
         }
     }
     Ok(tests)
+}
+
+// The changes of the names by those of the definitions that are of events.
+fn changes_by(alloc: Global, names: &Names, all: &[SignalDefinition]) -> Result<Changes, AllocError>
+    ensures { IfOk result (λ changes.
+        KnowsChanges (of_changes all.now) names.now changes []) }
+{
+    let changing = of_changes(alloc, all)?;
+    changes_of(alloc, names, &changing)
 }
 
 // The changes of the names by these definitions.
@@ -153,7 +159,7 @@ fn changes_of(alloc: Global, names: &Names, all: &[SignalDefinition]) -> Result<
     let mut changes = Changes::new(alloc);
     for number in 0..names.len() as u8 {
         match names.name(number) {
-            Some(name) => changes.add(alloc, copy_if(definition_of(all, name.as_bytes()))?)?,
+            Some(name) => changes.add(alloc, definition_of(all, name.as_bytes()))?,
             None => unreachable!(),
         }
     }

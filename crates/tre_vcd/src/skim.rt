@@ -205,10 +205,8 @@ impl TokenReader {
             self.past.reach(ticks);
             return Taken::Whole;
         }
-        let len = ticks - self.past.time;
-        let val = self.signals.tests.valuation(self.past.valuation());
-        let ev = self.signals.changes.events(self.past.events());
-        match segments.push(Segment { len, val, ev }) {
+        let segment = self.segment_until(ticks);
+        match segments.push(segment) {
             Ok(()) => {
                 self.past.reach(ticks);
                 self.signals.changes.reach();

@@ -1,6 +1,7 @@
 // The tests by which names are defined.
 ghost use Rattle.std.specs.Prelude.{◌≡◌, ◌≢◌, ◌<◌, ◌+◌, ◌∷◌, ◌++◌, ℕ, List, [], length, map, true, false, Some, OnOk};
 ghost use Rattle.std.specs.Int.{bit_at};
+ghost use Rattle.std.specs.Option.{option_map};
 ghost use Rattle.tre_define.specs.Signals.{SignalDefined, signal_definition_of};
 ghost use Rattle.tre_define.specs.declared.test.Test.{Test};
 ghost use Rattle.tre_state.specs.Sieve.{MayBe};
@@ -9,6 +10,7 @@ ghost use Rattle.tre_vcd.specs.VcdReading.{Form, Statement, var, change, definit
 ghost use Rattle.tre_vcd.specs.Kept.{IsQuiet, valuation_behind};
 ghost use Rattle.tre_vcd.specs.Signals.{offer_kept, test_kept, test_read, test_told, test_at, bit_told, AreDefined, AreTested, KnowsTests};
 
+use crate::definitions::copy_if;
 use crate::offer::Offered;
 use crate::variable::set_bit;
 use std::alloc::{AllocError, Global};
@@ -110,17 +112,18 @@ impl Tests {
     }
 
     // The next name has this definition, or none.
-    pub fn add(&mut self, definition: Option<SignalDefinition>) -> Result<(), AllocError>
+    pub fn add(&mut self, definition: Option<&SignalDefinition>) -> Result<(), AllocError>
         requires few { length self.old.list.items < 64 }
         ensures knows { (all : List SignalDefined) (names : List (List ℕ))
             (name : List ℕ) → KnowsTests all names self.old [] →
             length self.old.list.items ≡ length names →
-            definition ≡ signal_definition_of all name →
+            option_map (λ own. own.now) definition.entry ≡ signal_definition_of all name →
             OnOk result (KnowsTests all (names ++ name ∷ []) self.new []) }
         ensures len { OnOk result (length self.new.list.items
             ≡ length self.old.list.items + 1) }
     {
         let number = self.list.as_slice().len() as u8;
+        let definition = copy_if(definition)?;
         let is_defined = definition.is_some();
         self.list.push(Tested {
             definition,
@@ -139,8 +142,7 @@ impl Tests {
             KnowsTests all names self.old past →
             OnOk result (KnowsTests all names self.new (var tokens ∷ past)) }
     {
-        declare_each(&mut self.list, alloc, offered)?;
-        Ok(())
+        declare_each(&mut self.list, alloc, offered)
     }
 
     // The declarations end.

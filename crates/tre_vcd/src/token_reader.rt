@@ -3,9 +3,10 @@ ghost use Rattle.std.specs.Prelude.{◌≡◌, ◌≢◌, ◌≤◌, ℕ, List, 
 ghost use Rattle.tre_decimal.specs.declared.TheConstants.{SCALE_MAX};
 ghost use Rattle.tre_parts.specs.Walk.{TellsPart};
 ghost use Rattle.tre_parts.specs.declared.said.Said.{Said};
+ghost use Rattle.tre_trace.specs.Reading.{segment_for};
 ghost use Rattle.tre_trace.specs.declared.fault.TraceKind.TheVariants.{Spent};
 ghost use Rattle.tre_define.specs.Signals.{SignalDefined};
-ghost use Rattle.tre_vcd.specs.VcdReading.{Terms, requiring, defining, first_place, scalar, wide, scopes_at, Statement, var, Place, nothing, section, comment, vector, number, is_defined, goes_to, vcd_format, command_says, section_says, ticks_say, keyword_says, scalar_says, vector_says, value_says, scope_says, declaration_says, change, token_at};
+ghost use Rattle.tre_vcd.specs.VcdReading.{Terms, requiring, defining, first_place, scalar, wide, scopes_at, Statement, var, Place, nothing, section, comment, vector, number, is_defined, goes_to, vcd_format, command_says, section_says, ticks_say, keyword_says, scalar_says, vector_says, value_says, scope_says, declaration_says, change, token_at, stretch_until};
 ghost use Rattle.tre_vcd.specs.Sections.{Holds, KnowsPast, asked_of_reader, terms_kept, command_of, is_nothing, dump_says, dump_end_says};
 ghost use Rattle.tre_vcd.specs.Needs.{definitions_of, needs};
 ghost use Rattle.tre_vcd.specs.Offers.{KnowOffers};
@@ -14,7 +15,8 @@ ghost use Rattle.tre_vcd.specs.Kept.{ends_true, plain_of, AreScopes, IsQuiet, Kn
 ghost use Rattle.tre_vcd.specs.Times.{vcd-keeps_time};
 
 use crate::command::{Command, command_of};
-use crate::found::{Found, are_declared, declare, declare_event, declare_offered};
+use crate::declaration::{declare_event, declare_proposition};
+use crate::found::{Found, are_declared, declare_offered};
 use crate::inside::Inside;
 use crate::letters::copy_into;
 use crate::needed::Needed;
@@ -97,8 +99,7 @@ impl TokenReader {
     {
         let alloc = self.past.alloc;
         self.signals
-            .define(alloc, &self.names, &self.events, definitions)?;
-        Ok(())
+            .define(alloc, &self.names, &self.events, definitions)
     }
 
     /// The dump must declare these names and events too, whether they are read or not. Their
@@ -205,12 +206,24 @@ impl TokenReader {
             self.past.reach(ticks);
             return Said::Nothing;
         }
+        let segment = self.segment_until(ticks);
+        self.past.reach(ticks);
+        self.signals.changes.reach();
+        Said::Says(segment)
+    }
+
+    // What the names read from the last time to this one.
+    #[inline(always)]
+    pub(crate) fn segment_until(&self, ticks: u64) -> Segment
+        requires { self.now.past.time ≤ ticks }
+        ensures { (past : List Statement) → KnowsPast self.now past →
+            result ≡ segment_for (asked_of_reader self.now)
+            (stretch_until self.now.signals.definitions.items past ticks) }
+    {
         let len = ticks - self.past.time;
         let val = self.signals.tests.valuation(self.past.valuation());
         let ev = self.signals.changes.events(self.past.events());
-        self.past.reach(ticks);
-        self.signals.changes.reach();
-        Said::Says(Segment { len, val, ev })
+        Segment { len, val, ev }
     }
 
     // Reads a command among the values.
@@ -432,8 +445,7 @@ impl TokenReader {
         if self.signals.is_empty() {
             return Ok(());
         }
-        self.declare_offered()?;
-        Ok(())
+        self.declare_offered()
     }
 
     // What the tokens offer is read by definitions.
@@ -460,9 +472,8 @@ impl TokenReader {
         let Some(offered) = offer_in(alloc, &self.past.scopes, &self.tokens)? else {
             return Ok(());
         };
-        self.signals.declare(alloc, &offered)?;
         declare_offered(&mut self.needed, &offered);
-        Ok(())
+        self.signals.declare(alloc, &offered)
     }
 
     // Four tokens declare a proposition, an event or neither, and any other number declares none. A
@@ -486,24 +497,20 @@ impl TokenReader {
         if tokens.len() != 4 {
             return Ok(());
         }
-        let alloc = self.past.alloc;
         let identifier = tokens[2].as_slice();
         let reference = tokens[3].as_slice();
         if self.past.scopes.is_path_longer(reference, self.longest) {
             return Ok(());
         }
         if is_signal(&tokens[0], &tokens[1]) {
-            let path = self.past.scopes.path(alloc, reference)?;
-            let name = path.as_slice();
-            self.past.declare(&self.names, name, identifier)?;
-            declare(&mut self.needed, name);
+            let needed = &mut self.needed;
+            declare_proposition(&self.names, &mut self.past, needed, reference, identifier)
         } else if is_event(&tokens[0]) {
-            let path = self.past.scopes.path(alloc, reference)?;
-            let name = path.as_slice();
-            self.past.declare_event(&self.events, name, identifier)?;
-            declare_event(&mut self.needed, name);
+            let needed = &mut self.needed;
+            declare_event(&self.events, &mut self.past, needed, reference, identifier)
+        } else {
+            Ok(())
         }
-        Ok(())
     }
 
     // A variable is declared by the section that ends.

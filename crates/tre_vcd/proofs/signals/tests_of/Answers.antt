@@ -17,8 +17,8 @@ loop-number-preserved c = record {
   knows = front-more (λ front. KnowsTests c.args.all.now front c.add.new.self []) _ _ _
       c.in-Some.ensures (omega (arith, c.loop-number-test.true, c.len-number-end.ensures.len))
       (λ long. c.in_ok-add-in-Some.ensures.knows c.args.all.now _ _ c.loop-number.invariant.knows
-      (c.loop-number.invariant.len ∙ sym long) (c.in_ok-copy_if-in-Some.ensures
-      ∙ c.definition_of.ensures ∙ ap (signal_definition_of c.args.all.now) c.as_bytes.ensures.value));
+      (c.loop-number.invariant.len ∙ sym long) (c.definition_of.ensures
+      ∙ ap (signal_definition_of c.args.all.now) c.as_bytes.ensures.value));
 }
 
 pub returns : goal.returns

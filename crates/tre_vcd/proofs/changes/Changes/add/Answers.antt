@@ -6,8 +6,8 @@ use Rattle.tre_vcd.proofs.changes.Changes.add.Goals as goal
 pub returns-clause-knows : goal.returns-clause-knows
 returns-clause-knows c = λ all names name knows same own.
     changes-pushed all names name c.args.self.now c.push.new.self
-    (record { definition = c.args.definition; asked = _; latest = _; earlier = _ })
+    (record { definition = c.in_ok-definition.definition; asked = _; latest = _; earlier = _ })
     c.set_bit.new.values _ c.in_ok-push.ensures.items refl c.new.ensures same c.requires.few
-    (omega (arith, c.as_slice.ensures.len, c.requires.few)) own
+    (omega (arith, c.as_slice.ensures.len, c.requires.few)) (c.in_ok-definition.ensures ∙ own)
     (c.set_bit.ensures.this ∙ ap bit_of c.is_some-is_defined.ensures) c.set_bit.ensures.others
     knows

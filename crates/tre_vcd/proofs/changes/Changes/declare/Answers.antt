@@ -1,5 +1,6 @@
 use Rattle.std.proofs.Common.{◌≡◌, ◌∷◌, length, map, sym, ap, ◌∙◌, subst, arith}
 use Rattle.std.proofs.lemmas.List.{with_items_is}
+use Rattle.std.proofs.lemmas.Result.{on_ok_weaker}
 use Rattle.std.specs.Vec.{with_items}
 use Rattle.tre_vcd.specs.VcdReading.{var}
 use Rattle.tre_vcd.specs.Signals.{SignalsAreWatched}
@@ -13,11 +14,11 @@ returns c = λ all names past tokens offered quiet before knows.
     let same : length now ≡ kept.list.len =
     omega (arith, c.declare_each.auto.list, c.deref_mut.ensures.len) in
     let items = with_items_is kept.list now same in
+    on_ok_weaker c.declare_each.result (λ asked.
     changes-declared all names kept past tokens (with_items kept.list now) quiet before
     (ap (map _) items ∙ c.declare_each.ensures.letters.0 ∙ ap (map _) c.deref_mut.ensures.value)
     (ap (map _) items ∙ c.declare_each.ensures.letters.1 ∙ ap (map _) c.deref_mut.ensures.value)
     (ap (map _) items ∙ c.declare_each.ensures.same ∙ ap (map _) c.deref_mut.ensures.value)
-    (subst (SignalsAreWatched (var tokens ∷ past)) (sym items)
-    (c.in_ok-declare_each.ensures.asks past tokens offered
-    (subst (SignalsAreWatched past) (sym c.deref_mut.ensures.value) knows.parts)))
-    knows
+    (subst (SignalsAreWatched (var tokens ∷ past)) (sym items) asked) knows)
+    (c.declare_each.ensures.asks past tokens offered
+    (subst (SignalsAreWatched past) (sym c.deref_mut.ensures.value) knows.parts))

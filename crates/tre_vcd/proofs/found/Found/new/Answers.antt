@@ -11,12 +11,12 @@ returns-clause-knows c =
     let one = c.deref.result.now.names.keys in
     let two = c.deref-2.result.now.events.keys in
     record {
-      names = c.in_ok-names.ensures
+      names = c.in_ok-names.ensures.0
           ∙ splat_is_map (map (λ name. name.items) one) c.len.result false
           (length-map one (λ name. name.items) ∙ sym c.len.ensures.len)
           ∙ ap (λ (needed : Needed). map (λ name. false) (map (λ name. name.items)
           needed.names.keys)) c.deref.ensures;
-      events = c.in_ok-events.ensures
+      events = c.in_ok-names.ensures.1
           ∙ splat_is_map (map (λ name. name.items) two) c.len-2.result false
           (length-map two (λ name. name.items) ∙ sym c.len-2.ensures.len)
           ∙ ap (λ (needed : Needed). map (λ name. false) (map (λ name. name.items)
@@ -30,10 +30,10 @@ returns-clause-offers c =
     let second = c.deref-4.ensures in
     record {
       same = refl;
-      tests = c.in_ok-tests.ensures ∙ splat_is_map c.defined_names.result.now _ false refl
+      tests = c.in_ok-tests.ensures.0 ∙ splat_is_map c.defined_names.result.now _ false refl
           ∙ ap (map (λ one. false)) (c.defined_names.ensures.value
           ∙ ap (λ (n : Needed). n.tests.items) first);
-      changes = c.in_ok-changes.ensures ∙ splat_is_map c.defined_events.result.now _ false refl
+      changes = c.in_ok-tests.ensures.1 ∙ splat_is_map c.defined_events.result.now _ false refl
           ∙ ap (map (λ one. false)) (c.defined_events.ensures.value
           ∙ ap (λ (n : Needed). n.changes.items) second);
       names =

@@ -1,4 +1,4 @@
-use Rattle.std.proofs.Common.{[], sym, ◌∙◌, subst}
+use Rattle.std.proofs.Common.{[], sym, subst}
 use Rattle.tre_vcd.specs.VcdReading.{of_changes}
 use Rattle.tre_vcd.specs.Signals.{KnowsChanges, KnowsTests}
 use Rattle.tre_vcd.proofs.signals.Signals.define.Goals as goal
@@ -12,7 +12,5 @@ returns-clause-knows c =
       tests = subst (λ own. KnowsTests own names c.in_ok-self.field-0 []) copied
           c.in_ok-self.ensures;
       changes = subst (λ own. KnowsChanges (of_changes own) events c.in_ok-self-2.field-0 [])
-          copied
-          (subst (λ own. KnowsChanges own events c.in_ok-self-2.field-0 [])
-          (c.deref.ensures.value ∙ c.in_ok-changing.ensures) c.in_ok-self-2.ensures);
+          copied c.in_ok-self-2.ensures;
     }

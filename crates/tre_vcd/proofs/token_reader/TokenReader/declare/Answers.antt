@@ -1,8 +1,9 @@
-use Rattle.std.proofs.Common.{◌≡◌, ℕ, List, Bool, ◌∷◌, length, map, true, false, sym, ap, subst, ◌∙◌, arith}
+use Rattle.std.proofs.Common.{◌≡◌, ℕ, List, Bool, ◌∷◌, length, map, true, false, refl, sym, ap, subst, ◌∙◌, arith}
+use Rattle.std.proofs.lemmas.Result.{on_ok_weaker}
 use Rattle.tre_vcd.specs.VcdReading.{var, path, scopes_at, is_signal, is_event}
-use Rattle.tre_vcd.specs.Kept.{KnowsAll, plain_of}
+use Rattle.tre_vcd.specs.Kept.{KnowsAll, plain_of, vocabulary_of}
 use Rattle.tre_vcd.specs.Offers.{KnowOffers}
-use Rattle.tre_vcd.proofs.Needing.{written-back}
+use Rattle.tre_vcd.proofs.Needing.{same-terms, written-back}
 use Rattle.tre_vcd.proofs.Sectioning.{knows-neither}
 use Rattle.tre_vcd.proofs.Tokens.{declares-kept, declares-longer, declares-none, kept-count, kept-tokens, none-within, signal-no_event, test-at, token-at}
 use Rattle.tre_vcd.proofs.token_reader.TokenReader.declare.Goals as goal
@@ -28,22 +29,20 @@ returns-then-is_path_longer-clause-knows c = λ past word tokens holds.
     (c.is_path_longer.ensures (scopes_at past) holds.knows.past.scopes c.if-is_path_longer.true) in
     knows-neither c.args.self.now past word tokens holds (longer is_signal) (longer is_event)
 
-pub returns-in_ok-declare-clause-knows : goal.returns-in_ok-declare-clause-knows
-returns-in_ok-declare-clause-knows c = λ past word tokens holds.
+pub returns-then-is_signal-clause-knows : goal.returns-then-is_signal-clause-knows
+returns-then-is_signal-clause-knows c = λ past word tokens holds.
     let reader = c.args.self.now in
     let kept = kept-tokens _ tokens c.as_slice-tokens.ensures.value holds.tokens in
     let four : length c.as_slice-tokens.result.now ≡ 4 = omega (arith, c.if-tokens-ne4.false) in
     let signal = sym c.is_signal.ensures ∙ c.if-is_signal.true in
-    let named : c.as_slice-name.result.now ≡ path (scopes_at past) c.as_slice-reference.result.now =
-    c.as_slice-name.ensures.value ∙ c.in_ok-path.ensures (scopes_at past) holds.knows.past.scopes in
     let declares =
     declares-kept is_signal (scopes_at past) tokens c.as_slice-identifier.result.now
-    c.as_slice-reference.result.now c.as_slice-name.result.now
+    c.as_slice-reference.result.now (path (scopes_at past) c.as_slice-reference.result.now)
     (token-at _ _ _ 2 (omega arith) kept four c.index-tokens-2.is
     c.as_slice-identifier.ensures.value)
     (token-at _ _ _ 3 (omega arith) kept four c.index-tokens-3.is
     c.as_slice-reference.ensures.value)
-    named (sym (kept-count _ _ tokens kept) ∙ four)
+    refl (sym (kept-count _ _ tokens kept) ∙ four)
     (test-at _ _ _ is_signal true kept four c.index-tokens-0.is
     c.deref.ensures.value c.index-tokens-1.is c.deref-2.ensures.value
     signal) in
@@ -51,42 +50,46 @@ returns-in_ok-declare-clause-knows c = λ past word tokens holds.
     declares-none is_event (scopes_at past) tokens
     (λ _. (test-at _ _ _ is_event false kept four c.index-tokens-0.is
     c.deref.ensures.value c.index-tokens-1.is c.deref-2.ensures.value
-    (signal-no_event c.deref.result.now c.deref-2.result.now signal))) in (
-      c.in_ok-declare.ensures reader.events past tokens holds.knows.past holds.suits declares none,
-      written-back (KnowsAll (var tokens ∷ past)) c.declare-then-is_signal.new.all reader.needed.items reader.needed.len
-          (omega (arith, c.declare-then-is_signal.auto.all, c.deref_mut.ensures.len))
-          (c.declare-then-is_signal.ensures.knows past c.as_slice-identifier.result.now tokens
-          (subst (KnowsAll past) (sym c.deref_mut.ensures.value) holds.knows.needed) declares none),
-    )
+    (signal-no_event c.deref.result.now c.deref-2.result.now signal))) in
+    on_ok_weaker c.declare_proposition.result (λ knows. (
+      knows.0,
+      written-back (KnowsAll (var tokens ∷ past)) c.declare_proposition.new.needed
+          reader.needed.items reader.needed.len
+          (omega (arith, c.declare_proposition.auto.needed, c.deref_mut.ensures.len)) knows.1,
+    ))
+    (c.declare_proposition.ensures.knows reader.events past tokens holds.knows.past holds.suits
+    (subst (KnowsAll past) (sym c.deref_mut.ensures.value) holds.knows.needed) declares none)
 
-pub returns-in_ok-declare_event-clause-knows : goal.returns-in_ok-declare_event-clause-knows
-returns-in_ok-declare_event-clause-knows c = λ past word tokens holds.
+pub returns-then-is_event-clause-knows : goal.returns-then-is_event-clause-knows
+returns-then-is_event-clause-knows c = λ past word tokens holds.
     let reader = c.args.self.now in
     let kept = kept-tokens _ tokens c.as_slice-tokens.ensures.value holds.tokens in
     let four : length c.as_slice-tokens.result.now ≡ 4 = omega (arith, c.if-tokens-ne4.false) in
-    let named : c.as_slice-name-then-is_event.result.now ≡ path (scopes_at past) c.as_slice-reference.result.now =
-    c.as_slice-name-then-is_event.ensures.value ∙ c.in_ok-path-2.ensures (scopes_at past) holds.knows.past.scopes in
     let declares =
     declares-kept is_event (scopes_at past) tokens c.as_slice-identifier.result.now
-    c.as_slice-reference.result.now c.as_slice-name-then-is_event.result.now
+    c.as_slice-reference.result.now (path (scopes_at past) c.as_slice-reference.result.now)
     (token-at _ _ _ 2 (omega arith) kept four c.index-tokens-2.is
     c.as_slice-identifier.ensures.value)
     (token-at _ _ _ 3 (omega arith) kept four c.index-tokens-3.is
     c.as_slice-reference.ensures.value)
-    named (sym (kept-count _ _ tokens kept) ∙ four)
+    refl (sym (kept-count _ _ tokens kept) ∙ four)
     (test-at _ _ _ is_event true kept four c.index-tokens-0-else-is_signal.is
     c.deref-else-is_signal.ensures.value c.index-tokens-1.is c.deref-2.ensures.value
     (sym (c.is_event.ensures c.deref-2.result.now) ∙ c.if-is_event.true)) in
     let none = declares-none is_signal (scopes_at past) tokens
     (λ _. (test-at _ _ _ is_signal false kept four c.index-tokens-0.is
     c.deref.ensures.value c.index-tokens-1.is c.deref-2.ensures.value
-    (sym c.is_signal.ensures ∙ c.if-is_signal.false))) in (
-      c.in_ok-declare_event.ensures reader.names past tokens holds.knows.past holds.suits declares none,
-      written-back (KnowsAll (var tokens ∷ past)) c.declare_event-then-is_event.new.all reader.needed.items reader.needed.len
-          (omega (arith, c.declare_event-then-is_event.auto.all, c.deref_mut-then-is_event.ensures.len))
-          (c.declare_event-then-is_event.ensures.knows past c.as_slice-identifier.result.now tokens
-          (subst (KnowsAll past) (sym c.deref_mut-then-is_event.ensures.value) holds.knows.needed) declares none),
-    )
+    (sym c.is_signal.ensures ∙ c.if-is_signal.false))) in
+    on_ok_weaker c.declare_event.result (λ knows. (
+      knows.0,
+      written-back (KnowsAll (var tokens ∷ past)) c.declare_event.new.needed reader.needed.items
+          reader.needed.len
+          (omega (arith, c.declare_event.auto.needed, c.deref_mut-then-is_event.ensures.len))
+          knows.1,
+    ))
+    (c.declare_event.ensures.knows reader.names past tokens holds.knows.past holds.suits
+    (subst (KnowsAll past) (sym c.deref_mut-then-is_event.ensures.value) holds.knows.needed)
+    declares none)
 
 pub returns-else-is_event-clause-knows : goal.returns-else-is_event-clause-knows
 returns-else-is_event-clause-knows c = λ past word tokens holds.
@@ -104,34 +107,52 @@ returns-else-is_event-clause-knows c = λ past word tokens holds.
     (none-within c.args.self.now.longest is_signal (scopes_at past) tokens none)
     (none-within c.args.self.now.longest is_event (scopes_at past) tokens silent)
 
-pub returns-in_ok-declare-clause-offers : goal.returns-in_ok-declare-clause-offers
-returns-in_ok-declare-clause-offers c = λ all past knows.
+pub returns-then-is_signal-clause-offers : goal.returns-then-is_signal-clause-offers
+returns-then-is_signal-clause-offers c = λ all past knows.
     let reader = c.args.self.now in
-    written-back (KnowOffers all past) c.declare-then-is_signal.new.all reader.needed.items reader.needed.len
-    (omega (arith, c.declare-then-is_signal.auto.all, c.deref_mut.ensures.len))
-    (c.declare-then-is_signal.ensures.offers all past
+    written-back (KnowOffers all past) c.declare_proposition.new.needed reader.needed.items reader.needed.len
+    (omega (arith, c.declare_proposition.auto.needed, c.deref_mut.ensures.len))
+    (c.declare_proposition.ensures.offers all past
     (subst (KnowOffers all past) (sym c.deref_mut.ensures.value) knows))
 
-pub returns-in_ok-declare-clause-plain : goal.returns-in_ok-declare-clause-plain
-returns-in_ok-declare-clause-plain c =
+pub returns-then-is_signal-clause-plain : goal.returns-then-is_signal-clause-plain
+returns-then-is_signal-clause-plain c =
     let reader = c.args.self.now in
-    written-back (λ all. map plain_of all ≡ map plain_of reader.needed.items) c.declare-then-is_signal.new.all
-    reader.needed.items reader.needed.len
-    (omega (arith, c.declare-then-is_signal.auto.all, c.deref_mut.ensures.len))
-    (c.declare-then-is_signal.ensures.plain ∙ ap (map plain_of) c.deref_mut.ensures.value)
+    written-back (λ all. map plain_of all ≡ map plain_of reader.needed.items)
+    c.declare_proposition.new.needed reader.needed.items reader.needed.len
+    (omega (arith, c.declare_proposition.auto.needed, c.deref_mut.ensures.len))
+    (c.declare_proposition.ensures.plain ∙ ap (map plain_of) c.deref_mut.ensures.value)
 
-pub returns-in_ok-declare_event-clause-offers : goal.returns-in_ok-declare_event-clause-offers
-returns-in_ok-declare_event-clause-offers c = λ all past knows.
+pub returns-then-is_signal-clause-same_terms : goal.returns-then-is_signal-clause-same_terms
+returns-then-is_signal-clause-same_terms c =
     let reader = c.args.self.now in
-    written-back (KnowOffers all past) c.declare_event-then-is_event.new.all reader.needed.items reader.needed.len
-    (omega (arith, c.declare_event-then-is_event.auto.all, c.deref_mut-then-is_event.ensures.len))
-    (c.declare_event-then-is_event.ensures.offers all past
+    same-terms reader.scale.exponent (written-back
+    (λ all. map vocabulary_of all ≡ map vocabulary_of reader.needed.items)
+    c.declare_proposition.new.needed reader.needed.items reader.needed.len
+    (omega (arith, c.declare_proposition.auto.needed, c.deref_mut.ensures.len))
+    (c.declare_proposition.ensures.same_names ∙ ap (map vocabulary_of) c.deref_mut.ensures.value)) refl
+
+pub returns-then-is_event-clause-offers : goal.returns-then-is_event-clause-offers
+returns-then-is_event-clause-offers c = λ all past knows.
+    let reader = c.args.self.now in
+    written-back (KnowOffers all past) c.declare_event.new.needed reader.needed.items reader.needed.len
+    (omega (arith, c.declare_event.auto.needed, c.deref_mut-then-is_event.ensures.len))
+    (c.declare_event.ensures.offers all past
     (subst (KnowOffers all past) (sym c.deref_mut-then-is_event.ensures.value) knows))
 
-pub returns-in_ok-declare_event-clause-plain : goal.returns-in_ok-declare_event-clause-plain
-returns-in_ok-declare_event-clause-plain c =
+pub returns-then-is_event-clause-plain : goal.returns-then-is_event-clause-plain
+returns-then-is_event-clause-plain c =
     let reader = c.args.self.now in
-    written-back (λ all. map plain_of all ≡ map plain_of reader.needed.items) c.declare_event-then-is_event.new.all
-    reader.needed.items reader.needed.len
-    (omega (arith, c.declare_event-then-is_event.auto.all, c.deref_mut-then-is_event.ensures.len))
-    (c.declare_event-then-is_event.ensures.plain ∙ ap (map plain_of) c.deref_mut-then-is_event.ensures.value)
+    written-back (λ all. map plain_of all ≡ map plain_of reader.needed.items)
+    c.declare_event.new.needed reader.needed.items reader.needed.len
+    (omega (arith, c.declare_event.auto.needed, c.deref_mut-then-is_event.ensures.len))
+    (c.declare_event.ensures.plain ∙ ap (map plain_of) c.deref_mut-then-is_event.ensures.value)
+
+pub returns-then-is_event-clause-same_terms : goal.returns-then-is_event-clause-same_terms
+returns-then-is_event-clause-same_terms c =
+    let reader = c.args.self.now in
+    same-terms reader.scale.exponent (written-back
+    (λ all. map vocabulary_of all ≡ map vocabulary_of reader.needed.items)
+    c.declare_event.new.needed reader.needed.items reader.needed.len
+    (omega (arith, c.declare_event.auto.needed, c.deref_mut-then-is_event.ensures.len))
+    (c.declare_event.ensures.same_names ∙ ap (map vocabulary_of) c.deref_mut-then-is_event.ensures.value)) refl

@@ -1,5 +1,6 @@
 use Rattle.std.specs.Global.{Vec}
 use Rattle.std.proofs.Common.{◌≡◌, ◌∷◌, ℕ, false, map, refl, sym, ap, ◌∙◌, subst}
+use Rattle.std.proofs.lemmas.Result.{on_ok_weaker}
 use Rattle.tre_vcd.specs.VcdReading.{var, is_defined}
 use Rattle.tre_vcd.specs.Offers.{KnowOffers}
 use Rattle.tre_vcd.proofs.Needing.{within-same}
@@ -38,7 +39,7 @@ returns-clause-knows c = λ past word tokens holds.
     let kept = c.declare_offered.ensures.same_past in
     let before : is_defined past ≡ false = holds.suits in
     let offered =
-    c.in_ok-declare_offered.ensures.knows past tokens (quiet-before past tokens (declared.0.quiet before))
+    c.declare_offered.ensures.knows past tokens (quiet-before past tokens (declared.0.quiet before))
     before declared.0.scopes (ap (λ (own : Vec (Vec ℕ)). map (λ token. token.items) own.items)
     c.declare.ensures.same_signals.1
     ∙ holds.tokens)
@@ -48,16 +49,16 @@ returns-clause-knows c = λ past word tokens holds.
     (subst (λ own. KnowOffers own.definitions.items past after.needed.items) (sym signals)
     (c.declare.ensures.offers reader.signals.definitions.items past holds.knows.offers)) in
     let names = c.declare_offered.ensures.same_names in
-    record {
+    on_ok_weaker c.declare_offered.result (λ both. record {
       past = knows-moved after.names last.names after.events last.events after.past last.past _
           (ap (λ own. own.names) names) (ap (λ own. own.events) names) kept.0 declared.0;
       needed = c.declare_offered.ensures.needed (var tokens ∷ past) declared.1;
       signals = signals-moved after.names last.names after.events last.events last.signals
           last.signals _ (ap (λ own. own.names) names) (ap (λ own. own.events) names) refl
-          offered.0;
+          both.0;
       offers = subst (λ all. KnowOffers all (var tokens ∷ past) last.needed.items)
-          (sym (ap (λ terms. terms.definitions) c.declare_offered.ensures.same_terms)) offered.1;
+          (sym (ap (λ terms. terms.definitions) c.declare_offered.ensures.same_terms)) both.1;
       within = within-same _ _ _ _ _ _ (kept.1 ∙ c.declare.ensures.same_longest)
           (names ∙ c.declare.ensures.same_names)
           (c.declare_offered.ensures.plain ∙ c.declare.ensures.plain) holds.knows.within;
-    }
+    }) offered

@@ -1,11 +1,12 @@
 use Rattle.std.proofs.Common.{◌≡◌, ◌∷◌, Some, None, map, sym, ap, ◌∙◌, subst, arith}
 use Rattle.std.specs.Option.{option_map}
+use Rattle.std.proofs.lemmas.Result.{on_ok_weaker}
 use Rattle.tre_vcd.specs.VcdReading.{var, scopes_at, offer_in}
-use Rattle.tre_vcd.specs.Kept.{KnowsAll, plain_of}
+use Rattle.tre_vcd.specs.Kept.{KnowsAll, plain_of, vocabulary_of}
 use Rattle.tre_vcd.specs.Offers.{KnowOffers}
 use Rattle.tre_vcd.specs.Signals.{offer_kept}
 use Rattle.tre_vcd.proofs.Declaring.{offer-six}
-use Rattle.tre_vcd.proofs.Needing.{written-back}
+use Rattle.tre_vcd.proofs.Needing.{same-terms, written-back}
 use Rattle.tre_vcd.proofs.Standing.{stays-unoffered}
 use Rattle.tre_vcd.proofs.Staying.{offers-stay, signals-stay}
 use Rattle.tre_vcd.proofs.token_reader.TokenReader.declare_offered.Goals as goal
@@ -32,15 +33,16 @@ returns-clause-knows c = λ past tokens quiet before scopes kept knows offers.
     sym (offer-six (scopes_at past) tokens)
     ∙ ap (offer_in (scopes_at past)) (sym (ap (map _) c.deref.ensures.value ∙ kept))
     ∙ sym (c.in_ok-offered.ensures (scopes_at past) scopes)
-    ∙ ap (option_map offer_kept) c.in-Some.is in (
-      c.in_ok-declare.ensures.knows reader.names reader.events past tokens offered quiet before
-          knows,
+    ∙ ap (option_map offer_kept) c.in-Some.is in
+    on_ok_weaker c.declare.result (λ signals. (
+      signals,
       written-back (KnowOffers all (var tokens ∷ past)) c.declare_offered.new.all
           reader.needed.items reader.needed.len
           (omega (arith, c.declare_offered.auto.all, c.deref_mut.ensures.len))
           (c.declare_offered.ensures.offers all past tokens offered
           (subst (KnowOffers all past) (sym c.deref_mut.ensures.value) offers)),
-    )
+    ))
+    (c.declare.ensures.knows reader.names reader.events past tokens offered quiet before knows)
 
 pub returns-clause-needed : goal.returns-clause-needed
 returns-clause-needed c = λ past knows.
@@ -57,3 +59,13 @@ returns-clause-plain c =
     c.declare_offered.new.all reader.needed.items reader.needed.len
     (omega (arith, c.declare_offered.auto.all, c.deref_mut.ensures.len))
     (c.declare_offered.ensures.plain ∙ ap (map plain_of) c.deref_mut.ensures.value)
+
+pub returns-clause-same_terms : goal.returns-clause-same_terms
+returns-clause-same_terms c =
+    let reader = c.args.self.now in
+    same-terms reader.scale.exponent (written-back
+    (λ all. map vocabulary_of all ≡ map vocabulary_of reader.needed.items)
+    c.declare_offered.new.all reader.needed.items reader.needed.len
+    (omega (arith, c.declare_offered.auto.all, c.deref_mut.ensures.len))
+    (c.declare_offered.ensures.same_names ∙ ap (map vocabulary_of) c.deref_mut.ensures.value))
+    (ap (λ own. own.items) c.declare.ensures.kept)

@@ -1,9 +1,10 @@
-use Rattle.std.proofs.Common.{[], sym, ◌∙◌, subst}
-use Rattle.tre_vcd.specs.Kept.{KnowsAll}
+use Rattle.std.proofs.Common.{[], ◌∷◌, ◌++◌, map, refl, sym, ap, ◌∙◌, subst}
+use Rattle.std.proofs.lemmas.List.{map-append}
+use Rattle.tre_vcd.specs.Kept.{KnowsAll, vocabulary_of}
 use Rattle.tre_vcd.specs.Offers.{KnowOffers, KnowsOffers}
 use Rattle.tre_vcd.specs.Sections.{asked_of_reader}
 use Rattle.tre_vcd.proofs.Longest.{both-below}
-use Rattle.tre_vcd.proofs.Needing.{needed-more, offers-more, within-more, within-push}
+use Rattle.tre_vcd.proofs.Needing.{needed-more, offers-more, same-terms, within-more, within-push}
 use Rattle.tre_vcd.proofs.token_reader.TokenReader.must_declare.Goals as goal
 
 pub returns-clause-begins : goal.returns-clause-begins
@@ -37,3 +38,12 @@ returns-clause-begins c = λ holds same.
       suits = holds.suits;
       letters = holds.letters;
     }
+
+pub returns-clause-terms : goal.returns-clause-terms
+returns-clause-terms c =
+    let reader = c.args.self.now in
+    let before = map vocabulary_of reader.needed.items in
+    same-terms reader.scale.exponent
+    (ap (map vocabulary_of) c.in_ok-push.ensures.items
+    ∙ map-append vocabulary_of reader.needed.items (c.in_ok-found.found ∷ [])
+    ∙ ap (λ needed. before ++ needed ∷ []) c.in_ok-found.ensures.needs) refl

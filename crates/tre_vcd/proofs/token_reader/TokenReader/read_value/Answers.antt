@@ -1,9 +1,10 @@
-use Rattle.std.proofs.Common.{refl, sym, ◌∙◌}
-use Rattle.tre_vcd.specs.VcdReading.{number}
-use Rattle.tre_vcd.specs.Sections.{terms_kept}
+use Rattle.std.proofs.Common.{refl, sym, ap, subst, ◌∙◌}
+use Rattle.tre_parts.specs.Walk.{TellsPart}
+use Rattle.tre_vcd.specs.VcdReading.{number, keyword_says}
+use Rattle.tre_vcd.specs.Sections.{Holds, asked_of_reader, terms_kept}
 use Rattle.tre_vcd.proofs.FirstBytes.{letter-says}
 use Rattle.tre_vcd.specs.declared.inside.Inside.TheVariants.{Number as OpenNumber}
-use Rattle.tre_vcd.specs.declared.token.Letter.TheVariants.{Number}
+use Rattle.tre_vcd.specs.declared.token.Letter.TheVariants.{Time, Keyword, Vector, Number, Scalar}
 use Rattle.tre_vcd.proofs.Staying.{knows-kept}
 use Rattle.tre_vcd.proofs.token_reader.TokenReader.read_value.Goals as goal
 
@@ -24,3 +25,40 @@ returns-in-Number-clause-tells c past holds defined =
         letters = tt;
       };
     }
+
+pub returns-in-Scalar-clause-tells : goal.returns-in-Scalar-clause-tells
+returns-in-Scalar-clause-tells c = λ past holds defined.
+    let reader = c.args.self.now in
+    subst (λ said. TellsPart (asked_of_reader reader) said (Holds c.read_scalar.new.self)
+    c.read_scalar.result)
+    (sym (letter-says (terms_kept reader) past c.args.token.now c.in-Some.first.now
+    c.in-Some.rest.now Scalar c.in-Some.ensures.cases.0 (sym c.letter_of.ensures ∙ c.in-Scalar.is)))
+    (c.read_scalar.ensures.tells past holds defined)
+
+pub returns-in-Time-clause-tells : goal.returns-in-Time-clause-tells
+returns-in-Time-clause-tells c = λ past holds defined.
+    let reader = c.args.self.now in
+    subst (λ said. TellsPart (asked_of_reader reader) said (Holds c.read_time.new.self)
+    c.read_time.result)
+    (sym (letter-says (terms_kept reader) past c.args.token.now c.in-Some.first.now
+    c.in-Some.rest.now Time c.in-Some.ensures.cases.0 (sym c.letter_of.ensures ∙ c.in-Time.is)))
+    (c.read_time.ensures.tells past holds defined)
+
+pub returns-in-Vector-clause-tells : goal.returns-in-Vector-clause-tells
+returns-in-Vector-clause-tells c = λ past holds defined.
+    let reader = c.args.self.now in
+    subst (λ said. TellsPart (asked_of_reader reader) said (Holds c.read_vector.new.self)
+    c.read_vector.result)
+    (sym (letter-says (terms_kept reader) past c.args.token.now c.in-Some.first.now
+    c.in-Some.rest.now Vector c.in-Some.ensures.cases.0 (sym c.letter_of.ensures ∙ c.in-Vector.is)))
+    (c.read_vector.ensures.tells past holds defined)
+
+pub returns-in-Keyword-clause-tells : goal.returns-in-Keyword-clause-tells
+returns-in-Keyword-clause-tells c = λ past holds defined.
+    let reader = c.args.self.now in
+    subst (λ said. TellsPart (asked_of_reader reader) said (Holds c.read_keyword.new.self)
+    c.read_keyword.result)
+    (sym (letter-says (terms_kept reader) past c.args.token.now c.in-Some.first.now
+    c.in-Some.rest.now Keyword c.in-Some.ensures.cases.0 (sym c.letter_of.ensures ∙ c.in-Keyword.is)
+    ∙ ap (keyword_says past) (sym c.in-Some.ensures.cases.0)))
+    (c.read_keyword.ensures.tells past holds defined)

@@ -1,7 +1,6 @@
-use Rattle.std.proofs.Common.{◌≢◌, ◌∷◌, [], ◌++◌, ◌-◌, append-nil, sym, ap, ◌∙◌, arith}
+use Rattle.std.proofs.Common.{◌≢◌, ◌∷◌, [], ◌++◌, append-nil, sym, ap, ◌∙◌, arith}
 use Rattle.tre_vcd.specs.VcdReading.{time_at, stretch_until}
 use Rattle.tre_vcd.specs.Sections.{terms_kept}
-use Rattle.tre_vcd.proofs.Masks.{segment-with}
 use Rattle.tre_vcd.proofs.Skimming.{holds-again, holds-later, time-again, time-later}
 use Rattle.tre_vcd.proofs.token_reader.TokenReader.skim_time.Goals as goal
 
@@ -24,17 +23,11 @@ returns-in-Ok-clause-taken c = λ past letters holds defined.
     let ticks = c.in-Some.ticks in
     let apart : ticks ≢ time_at past =
     λ e. c.if-ticks-self-2.false (e ∙ sym holds.knows.past.time) in
-    let is = segment-with _ _ _ _ _ _ (ap (λ n. ticks - n) holds.knows.past.time)
-    (c.valuation-val.ensures reader.signals.definitions.items reader.names past
-    holds.knows.signals.tests
-    (c.valuation.ensures reader.names reader.events past holds.knows.past))
-    (c.events-ev.ensures reader.signals.definitions.items reader.events past
-    holds.knows.signals.changes
-    (c.events.ensures reader.names reader.events past holds.knows.past)) in
     record {
       stretches = stretch_until reader.signals.definitions.items past ticks ∷ [];
       added = c.in-Ok.ensures.items
-          ∙ ap (λ segment. c.args.segments.now.items ++ segment ∷ []) is;
+          ∙ ap (λ segment. c.args.segments.now.items ++ segment ∷ [])
+          (c.segment_until-segment.ensures past holds.knows);
       goes_on = time-later (terms_kept reader) past c.args.digits.now ticks
           c.in-Some.ensures.digits c.in-Some.ensures.value c.if-ticks-gt-TIME_MAX.false
           (omega (arith, holds.knows.past.time, c.if-ticks-self.false)) apart

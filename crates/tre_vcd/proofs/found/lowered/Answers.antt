@@ -1,6 +1,6 @@
 use Rattle.std.proofs.Common.{◌∙◌}
 use Rattle.tre_vcd.proofs.Flagging.{all-false}
-use Rattle.tre_vcd.proofs.found.undeclared.Goals as goal
+use Rattle.tre_vcd.proofs.found.lowered.Goals as goal
 
 pub returns : goal.returns
 returns c =
