@@ -1,6 +1,7 @@
 -- What `parse` answers, against the outcome of the text.
-use Rattle.std.specs.Prelude.{◌≡◌, ◌-◌, ◌⊎◌, Result, Ok, Err, MatchOption, length}
+use Rattle.std.specs.Prelude.{◌≡◌, ◌≤◌, ◌-◌, ◌⊎◌, None, Result, Ok, Err, MatchOption, length, position}
 use Rattle.tre_syntax.specs.declared.pattern.Pattern.{Pattern}
+use Rattle.tre_syntax.specs.declared.pattern.TheConstants.{NODES_MAX}
 use Rattle.tre_syntax.specs.Pattern.{pattern_tree, names_of}
 use Rattle.tre_parse.specs.declared.fault.ParseFault.{ParseFault}
 use Rattle.tre_parse.specs.declared.fault.ParseFault.TheVariants.{Syntax, Memory}
@@ -8,9 +9,10 @@ use Rattle.tre_parse.specs.declared.cursor.Stop.{Stop}
 use Rattle.tre_parse.specs.declared.cursor.Stop.TheVariants.{Syntax as Stuck, Memory as Lacking}
 use Rattle.tre_parse.specs.declared.scan.Scan.{Scan}
 use Rattle.tre_parse.specs.Front.{tokens_in, offsets_in}
+use Rattle.tre_parse.specs.Operands.{Operand}
 use Rattle.tre_parse.specs.Scan.{vocabulary_in}
 use Rattle.tre_parse.specs.Outcome.{Outcome, spelt, refused}
-use Rattle.tre_parse.specs.TokenOutcome.{TextTokens, offset_of, limit_fault, IsOutcomeOfTokens}
+use Rattle.tre_parse.specs.TokenOutcome.{TextTokens, offset_of, is_past, limit_fault, IsOutcomeOfTokens}
 
 -- The answer is an outcome of which this is so, or want of memory.
 abbrev pub Answers : (Outcome → Type 0) → Result Pattern ParseFault → Type 0
@@ -37,3 +39,10 @@ text_tokens_in scan =
 abbrev pub IsFaultOf : TextTokens → Stop → ParseFault → Type 0
 IsFaultOf words Lacking fault = fault ≡ Memory
 IsFaultOf words (Stuck left) fault = fault ≡ Syntax (offset_of words (length words.tokens - left))
+
+-- The expression that the words of a scan spell has no interval that can't be kept, no name past
+-- the first ones, and no more nodes than a pattern may have.
+pub record IsWithinLimits (scan : Scan) (whole : Operand) : Type 0 where
+  pub kept : whole.unkept ≡ None
+  pub named : position is_past (tokens_in scan.tokens.items) ≡ None
+  pub small : whole.nodes ≤ NODES_MAX

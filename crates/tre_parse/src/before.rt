@@ -5,7 +5,7 @@ use crate::token::Token;
 use tre_syntax::NameKind;
 
 /// What stands right before a token, as far as it says of which kind a name there is.
-#[derive(Clone, Copy, Debug)]
+#[derive(Clone, Copy)]
 pub enum Before {
     /// `event`
     EventWord,

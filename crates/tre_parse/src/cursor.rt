@@ -1,4 +1,4 @@
-ghost use Rattle.std.specs.Prelude.{◌≡◌, ◌≢◌, List, length};
+ghost use Rattle.std.specs.Prelude.{◌≡◌, ◌≢◌, Err, List, ◌∷◌, length, IfOk, IfErr};
 ghost use Rattle.tre_parse.specs.declared.token.Token.{Token};
 ghost use Rattle.tre_parse.specs.Front.{tokens_in, front, tail};
 ghost use Rattle.tre_parse.specs.Reading.{Accepts, Passes};
@@ -73,6 +73,18 @@ impl<'a> Cursor<'a> {
             return Ok(());
         }
         Err(self.refused())
+    }
+
+    /// What was read, if the token behind it is the next, which is passed.
+    pub(crate) fn close<T: Drop>(&mut self, read: T, token: Token) -> Result<T, Stop>
+        requires { token ≢ Token.EndOfText }
+        ensures ok { IfOk result (λ x. (x ≡ read) × (self.old ≡ token ∷ self.new)) }
+        ensures err { IfErr result (λ stop. Passes token (Err stop) self.old self.new) }
+    {
+        match self.expect(token) {
+            Ok(()) => Ok(read),
+            Err(stop) => Err(stop),
+        }
     }
 
     /// The fault that the next token can't stand where it does.

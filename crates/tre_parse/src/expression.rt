@@ -1,5 +1,7 @@
 //! Expressions, one function for each kind of rule.
-ghost use Rattle.std.specs.Prelude.{◌≡◌, ◌≤◌, None, length, IfOk};
+ghost use Rattle.std.specs.Prelude.{◌≡◌, ◌≢◌, ◌≤◌, None, Ok, Err, length, IfOk, IfErr};
+ghost use Rattle.tre_parse.specs.declared.token.Token.{Token};
+ghost use Rattle.tre_parse.specs.declared.cursor.Stop.{Stop};
 ghost use Rattle.tre_parse.specs.Joins.{edge_sign, plain_literal, edged_literal};
 ghost use Rattle.tre_parse.specs.Operands.{RepresentsState, Represents, Turns};
 ghost use Rattle.tre_parse.specs.Front.{front};
@@ -75,12 +77,34 @@ fn operand(alloc: Global, tokens: &mut Cursor) -> Result<Operand, Stop>
             Token::Percent => {
                 tokens.advance();
                 let at = tokens.left();
-                let within = interval(tokens)?;
-                whole = restricted(alloc, whole, within, at)?;
+                let (body, within) = both(whole, interval(tokens))?;
+                whole = restricted(alloc, body, within, at)?;
             }
-            Token::Ends => return Err(tokens.refused()),
-            _ => return Ok(whole),
+            _ => return not_ended(whole, tokens),
         }
+    }
+}
+
+// What was read, and what was read behind it, unless that stops.
+fn both<A: Drop, B: Drop>(first: A, second: Result<B, Stop>) -> Result<(A, B), Stop>
+    ensures ok { IfOk result (λ pair. (pair.0 ≡ first) × (second ≡ Ok pair.1)) }
+    ensures err { IfErr result (λ stop. second ≡ Err stop) }
+{
+    match second {
+        Ok(second) => Ok((first, second)),
+        Err(stop) => Err(stop),
+    }
+}
+
+// What was read, where no `:>` is next.
+fn not_ended<T: Drop>(read: T, tokens: &Cursor) -> Result<T, Stop>
+    ensures ok { IfOk result (λ x. (x ≡ read) × (front tokens.now ≢ Token.Ends)) }
+    ensures err { IfErr result (λ stop. (front tokens.now ≡ Token.Ends)
+        × (stop ≡ Stop.Syntax (length tokens.now))) }
+{
+    match tokens.peek() {
+        Token::Ends => Err(tokens.refused()),
+        _ => Ok(read),
     }
 }
 
@@ -99,8 +123,7 @@ fn primary(alloc: Global, tokens: &mut Cursor) -> Result<Operand, Stop>
         Token::LeftParen => {
             tokens.advance();
             let inside = expression(alloc, Join::Alternation, tokens)?;
-            tokens.expect(Token::RightParen)?;
-            Ok(inside)
+            tokens.close(inside, Token::RightParen)
         }
         Token::Rise => edge(alloc, true, tokens),
         Token::Fall => edge(alloc, false, tokens),

@@ -3,6 +3,7 @@ ghost use Rattle.tre_state.specs.StateTree.{StateTree, negation};
 ghost use Rattle.tre_parse.specs.Joins.{connected};
 ghost use Rattle.tre_parse.specs.Operands.{RepresentsState, Turns};
 
+use crate::boxes::{boxed, boxes};
 use crate::connective::Connective;
 use crate::counted::Counted;
 use crate::limits::COUNT_MAX;
@@ -19,7 +20,7 @@ pub(crate) fn negated(alloc: Global, formula: Formula) -> Result<Formula, AllocE
     let nodes = (formula.nodes + 1).min(COUNT_MAX);
     let tree = match formula.into_tree(nodes) {
         None => None,
-        Some(state) => Some(State::Not(Box::new(alloc, state)?)),
+        Some(state) => Some(State::Not(boxed(alloc, state)?)),
     };
     Ok(Counted {
         nodes,
@@ -48,8 +49,7 @@ pub(crate) fn connected(
             unkept: None,
         }),
         Some((first, second)) => {
-            let left = Box::new(alloc, first)?;
-            let right = Box::new(alloc, second)?;
+            let (left, right) = boxes(alloc, first, second)?;
             let tree = Some(match how {
                 Connective::And => State::And(left, right),
                 Connective::Or => State::Or(left, right),

@@ -7,6 +7,7 @@ ghost use Rattle.tre_parse.specs.Operands.{RepresentsState, Represents, Turns};
 ghost use Rattle.tre_parse.specs.Parts.{IsMadeOf};
 ghost use Rattle.tre_parse.specs.Unkept.{unkept_at};
 
+use crate::boxes::{boxed, boxes};
 use crate::connective::Join;
 use crate::counted::Counted;
 use crate::formula::Formula;
@@ -76,8 +77,7 @@ pub(crate) fn joined(
             unkept,
         }),
         Some((first, second)) => {
-            let left = Box::new(alloc, first)?;
-            let right = Box::new(alloc, second)?;
+            let (left, right) = boxes(alloc, first, second)?;
             let tree = Some(match how {
                 Join::Sequence => Expr::Seq(left, right),
                 Join::Intersection => Expr::Meet(left, right),
@@ -101,7 +101,7 @@ pub(crate) fn repeated(alloc: Global, operand: Operand) -> Result<Operand, Alloc
     let unkept = operand.unkept;
     let tree = match operand.into_tree(nodes) {
         None => None,
-        Some(expr) => Some(Expr::Star(Box::new(alloc, expr)?)),
+        Some(expr) => Some(Expr::Star(boxed(alloc, expr)?)),
     };
     Ok(Counted {
         nodes,
@@ -121,8 +121,9 @@ pub(crate) fn at_least_once(alloc: Global, operand: Operand) -> Result<Operand, 
     let tree = match operand.into_tree(nodes) {
         None => None,
         Some(expr) => {
-            let again = Expr::Star(Box::new(alloc, expr.try_clone(alloc)?)?);
-            Some(Expr::Seq(Box::new(alloc, expr)?, Box::new(alloc, again)?))
+            let first = boxed(alloc, expr)?;
+            let again = boxed(alloc, first.try_clone(alloc)?)?;
+            Some(Expr::Seq(first, boxed(alloc, Expr::Star(again))?))
         }
     };
     Ok(Counted {
@@ -149,7 +150,7 @@ pub(crate) fn restricted(
     let unkept = operand.unkept.or(unkept_at(&interval, at));
     let tree = match operand.into_tree(nodes).zip(interval) {
         None => None,
-        Some((expr, interval)) => Some(Expr::Within(Box::new(alloc, expr)?, interval)),
+        Some((expr, interval)) => Some(Expr::Within(boxed(alloc, expr)?, interval)),
     };
     Ok(Counted {
         nodes,

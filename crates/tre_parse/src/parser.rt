@@ -1,4 +1,4 @@
-ghost use Rattle.std.specs.Prelude.{◌≡◌, ◌≤◌, ◌<◌, [], Ok, Err, Some, None, IfOk, length};
+ghost use Rattle.std.specs.Prelude.{◌≡◌, ◌≤◌, ◌<◌, [], Ok, Err, Some, None, IfOk, IfErr, length};
 ghost use Rattle.tre_parse.specs.declared.limits.TheConstants.{TEXT_MAX};
 ghost use Rattle.tre_decimal.specs.declared.TheConstants.{SCALE_MAX};
 ghost use Rattle.tre_syntax.specs.Pattern.{pattern_tree, names_of};
@@ -9,7 +9,7 @@ ghost use Rattle.tre_parse.specs.Unkept.{FindsUpTo};
 ghost use Rattle.tre_parse.specs.Numbering.{IsNumberedByUse};
 ghost use Rattle.tre_parse.specs.Outcome.{IsSpelling, Outcome, IsOutcome};
 ghost use Rattle.tre_parse.specs.TokenOutcome.{limit_fault};
-ghost use Rattle.tre_parse.specs.Answers.{text_tokens_in, IsFaultOf, IsOutcomeWithin, Answers};
+ghost use Rattle.tre_parse.specs.Answers.{text_tokens_in, IsFaultOf, IsOutcomeWithin, IsWithinLimits, Answers};
 
 use crate::connective::Join;
 use crate::cursor::{Cursor, Stop};
@@ -48,6 +48,40 @@ fn parse_words(alloc: Global, scan: Scan) -> Result<Pattern, ParseFault>
     requires { IsNumberedByUse (text_tokens_in scan) }
     ensures { Answers (IsOutcomeWithin (text_tokens_in scan)) result }
 {
+    match read_words(alloc, &scan) {
+        Ok(whole) => build(scan, whole),
+        Err(fault) => Err(fault),
+    }
+}
+
+// The expression that the words of a text spell, where they meet every limit.
+fn read_words(alloc: Global, scan: &Scan) -> Result<Operand, ParseFault>
+    ensures small { IfOk result (λ _. limit_fault (text_tokens_in scan.now) ≡ None) }
+    ensures whole { IfOk result (λ whole. Reads (PatternTask.expression_by Join.Alternation)
+        (Ok whole) (tokens_in scan.now.tokens.items) []) }
+    ensures unkept { IfOk result (λ whole. FindsUpTo (tokens_in scan.now.tokens.items) []
+        whole.unkept) }
+    ensures judged { IfOk result (λ whole. IsWithinLimits scan.now whole) }
+    ensures fault { IfErr result (λ fault. Answers (IsOutcomeWithin (text_tokens_in scan.now))
+        (Err fault)) }
+{
+    within_limits(scan)?;
+    let mut rest = Cursor::new(&scan.tokens);
+    match expression(alloc, Join::Alternation, &mut rest) {
+        Ok(whole) => match judge(scan, &rest, &whole) {
+            Ok(()) => Ok(whole),
+            Err(fault) => Err(fault),
+        },
+        Err(stop) => Err(fault_of(scan, stop)),
+    }
+}
+
+// Refuses a number that is too big, and brackets that are too deep.
+fn within_limits(scan: &Scan) -> Result<(), ParseFault>
+    ensures ok { IfOk result (λ _. limit_fault (text_tokens_in scan.now) ≡ None) }
+    ensures fault { IfErr result (λ fault. Answers (IsOutcomeWithin (text_tokens_in scan.now))
+        (Err fault)) }
+{
     if let Some(place) = first_big(&scan.tokens) {
         let at = scan.offset(place);
         return Err(ParseFault::Number { at });
@@ -56,16 +90,7 @@ fn parse_words(alloc: Global, scan: Scan) -> Result<Pattern, ParseFault>
         let at = scan.offset(place);
         return Err(ParseFault::TooDeep { at });
     }
-    let mut rest = Cursor::new(&scan.tokens);
-    match expression(alloc, Join::Alternation, &mut rest) {
-        Ok(whole) => {
-            if rest.left() > 0 {
-                return Err(fault_of(&scan, rest.refused()));
-            }
-            judge(scan, whole)
-        }
-        Err(stop) => Err(fault_of(&scan, stop)),
-    }
+    Ok(())
 }
 
 // The fault of a text whose tokens can't be read on.
@@ -80,15 +105,21 @@ fn fault_of(scan: &Scan, stop: Stop) -> ParseFault
     }
 }
 
-// What becomes of an expression that is spelt: the limits on its intervals, its names and its size.
-fn judge(scan: Scan, whole: Operand) -> Result<Pattern, ParseFault>
-    requires numbered { IsNumberedByUse (text_tokens_in scan) }
-    requires small { limit_fault (text_tokens_in scan) ≡ None }
-    requires whole { Reads (PatternTask.expression_by Join.Alternation) (Ok whole)
-        (tokens_in scan.tokens.items) [] }
-    requires unkept { FindsUpTo (tokens_in scan.tokens.items) [] whole.unkept }
-    ensures { Answers (IsOutcomeWithin (text_tokens_in scan)) result }
+// Refuses an expression that isn't the whole text, or isn't within the limits on its intervals, its
+// names and its size.
+fn judge(scan: &Scan, rest: &Cursor, whole: &Operand) -> Result<(), ParseFault>
+    requires small { limit_fault (text_tokens_in scan.now) ≡ None }
+    requires whole { Reads (PatternTask.expression_by Join.Alternation) (Ok whole.now)
+        (tokens_in scan.now.tokens.items) rest.now }
+    requires unkept { FindsUpTo (tokens_in scan.now.tokens.items) rest.now whole.now.unkept }
+    ensures all { IfOk result (λ _. rest.now ≡ []) }
+    ensures judged { IfOk result (λ _. IsWithinLimits scan.now whole.now) }
+    ensures fault { IfErr result (λ fault. Answers (IsOutcomeWithin (text_tokens_in scan.now))
+        (Err fault)) }
 {
+    if rest.left() > 0 {
+        return Err(fault_of(scan, rest.refused()));
+    }
     if let Some(left) = whole.unkept {
         let at = scan.offset(scan.place_of_left(left));
         return Err(ParseFault::EmptyInterval { at });
@@ -101,6 +132,20 @@ fn judge(scan: Scan, whole: Operand) -> Result<Pattern, ParseFault>
     if nodes > NODES_MAX {
         return Err(ParseFault::TooLarge { nodes });
     }
+    Ok(())
+}
+
+// The pattern of an expression that meets every limit.
+fn build(scan: Scan, whole: Operand) -> Result<Pattern, ParseFault>
+    requires numbered { IsNumberedByUse (text_tokens_in scan) }
+    requires small { limit_fault (text_tokens_in scan) ≡ None }
+    requires whole { Reads (PatternTask.expression_by Join.Alternation) (Ok whole)
+        (tokens_in scan.tokens.items) [] }
+    requires unkept { FindsUpTo (tokens_in scan.tokens.items) [] whole.unkept }
+    requires judged { IsWithinLimits scan whole }
+    ensures { Answers (IsOutcomeWithin (text_tokens_in scan)) result }
+{
+    let nodes = whole.nodes;
     let Scan { names, events, .. } = scan;
     let Some(expr) = whole.into_tree(nodes) else {
         unreachable!()

@@ -1,5 +1,5 @@
 /// A token of an expression's text. A name goes by its number among those of its kind.
-#[derive(Clone, Copy, Debug, PartialEq, Eq)]
+#[derive(Clone, Copy, PartialEq, Eq)]
 pub enum Token {
     /// A name, by the number of its proposition. 64 stands for every name past the first 64.
     Name(u8),

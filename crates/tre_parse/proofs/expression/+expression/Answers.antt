@@ -1,12 +1,20 @@
-use Rattle.std.proofs.Common.{None, length, subst, arith, ◌∙◌, ◌∷◌, refl, sym, ap}
+use Rattle.std.proofs.Common.{◌≡◌, ◌≢◌, ◌≤◌, ℕ, false, Option, None, Result, Ok, Err, List, length, subst, arith, ◌∙◌, ◌∷◌, refl, sym, ap}
+use Rattle.std.specs.Prelude.{IfOk, IfErr}
 use Rattle.std.proofs.lemmas.Result.{err_from_is_err_and}
 use Rattle.std.specs.Option.{option_or}
 use Rattle.tre_syntax.specs.PatternTree.{PatternTree, atom, empty, sequence, alternation, repetition, restriction}
-use Rattle.tre_parse.specs.declared.token.Token.TheVariants.{Eps, LeftParen, RightParen, Star, Plus, Question, Percent}
+use Rattle.tre_parse.specs.declared.token.Token.{Token}
+use Rattle.tre_parse.specs.declared.token.Token.TheVariants.{Eps, LeftParen, RightParen, Star, Plus, Question, Percent, Ends}
+use Rattle.tre_parse.specs.declared.cursor.Stop.{Stop}
+use Rattle.tre_parse.specs.declared.cursor.Stop.TheVariants.{Syntax}
 use Rattle.tre_parse.specs.declared.connective.Join.TheVariants.{Alternation}
 use Rattle.tre_parse.specs.Front.{front}
 use Rattle.tre_parse.specs.Joins.{joined_by, join_sign}
-use Rattle.tre_parse.specs.Reader.{got, give, expect, expression_by, expression_after, operand, operand_after, unsigned, of_interval, expression_part, run, read, read_pattern}
+use Rattle.tre_parse.specs.Operands.{Operand, Represents}
+use Rattle.tre_parse.specs.Reading.{ReadingGoes, IsReadAs, Passes, Stops}
+use Rattle.tre_parse.specs.Parts.{IsMadeOf}
+use Rattle.tre_zone.specs.Interval.{IntervalEnds}
+use Rattle.tre_parse.specs.Reader.{Reading, is_behind, got, give, expect, expression_by, expression_after, operand, operand_after, unsigned, of_interval, expression_part, run, read, read_pattern}
 use Rattle.tre_parse.proofs.Counts.{leaf_counts}
 use Rattle.tre_parse.proofs.Equations.{not_sign, passed, unpassed, expression_begins, expression_goes_on, expression_ends, operand_begins, star_read, plus_read, question_read, percent_read, operand_ends, ends_stop, eps_read, parens_read, no_sign_behind}
 use Rattle.tre_parse.proofs.Steps.{goes_past, one_shorter, goes_here, goes_first, goes_turned, goes_on, goes_joined, stops_first, stops_joined, stops_at}
@@ -98,56 +106,66 @@ primary-returns-in_err-inside-in-LeftParen-clause-reads t c =
     (ap (λ ts. read_pattern unsigned ts) e ∙ parens_read c.advance-in-LeftParen.new.self)
     c.in_err-inside-in-LeftParen.ensures.reads)
 
-pub primary-returns-in_err-expect-in-LeftParen-clause-reads
-    : goal.primary-returns-in_err-expect-in-LeftParen-clause-reads
-primary-returns-in_err-expect-in-LeftParen-clause-reads t c =
+closed_reads : (r : Result Operand Stop) (inside : Operand) (q : Reading PatternTree)
+    (us new : List Token)
+    → ReadingGoes Represents inside q (λ x. run read (expect RightParen (give x)) us)
+    → IfOk r (λ x. (x ≡ inside) × (us ≡ RightParen ∷ new))
+    → IfErr r (λ s. Passes RightParen (Err s) us new) → IsReadAs Represents q r new
+closed_reads (Ok x) inside q us new h ok err =
+    let P = λ (y : Operand). ReadingGoes Represents y q (λ t. got t new) in
+    subst P (sym ok.0) (goes_on (λ t. got t new) h
+    (λ t. passed RightParen (give t) us new refl ok.1))
+closed_reads (Err s) inside q us new h ok err =
+    let stopped = λ (t : PatternTree). unpassed RightParen (give t) s us new err in
+    stops_at s new h (stopped (atom empty)).0 (λ t. (stopped t).1)
+
+closed_shorter : (r : Result Operand Stop) (inside : Operand) (us new : List Token) (n : ℕ)
+    → length us ≤ n → IfOk r (λ x. (x ≡ inside) × (us ≡ RightParen ∷ new))
+    → IfOk r (λ x. length new ≤ n)
+closed_shorter (Ok x) inside us new n h ok =
+    let m = one_shorter us new RightParen ok.1 in omega (arith, m, h)
+closed_shorter (Err s) inside us new n h ok = tt
+
+closed_unkept : (r : Result Operand Stop) (inside : Operand) (old us new : List Token)
+    → FindsUpTo old us inside.unkept → IfOk r (λ x. (x ≡ inside) × (us ≡ RightParen ∷ new))
+    → IfOk r (λ x. FindsUpTo old new x.unkept)
+closed_unkept (Ok x) inside old us new h ok =
+    up_to_end RightParen old us new inside.unkept x.unkept h ok.1 (λ q. cc)
+    (ap (λ (y : Operand). y.unkept) ok.0)
+closed_unkept (Err s) inside old us new h ok = tt
+
+pub primary-returns-in_ok-inside-in-LeftParen-clause-reads
+    : goal.primary-returns-in_ok-inside-in-LeftParen-clause-reads
+primary-returns-in_ok-inside-in-LeftParen-clause-reads t c =
     let e = goes_past c.args.tokens.now c.advance-in-LeftParen.new.self LeftParen
     c.in-LeftParen.ensures (λ q. cc) c.advance-in-LeftParen.ensures in
-    let p = err_from_is_err_and c.from_residual-in_err-expect-in-LeftParen.result
-    c.from_residual-in_err-expect-in-LeftParen.ensures.1 in
-    let stopped = λ (x : PatternTree). unpassed RightParen (give x)
-    c.in_err-expect-in-LeftParen.field-0.0 c.expression.new.tokens c.expect.new.self
-    c.in_err-expect-in-LeftParen.ensures in
-    rw (p.1, p.2) (stops_at c.in_err-expect-in-LeftParen.field-0.0 c.expect.new.self
+    closed_reads c.close.result c.in_ok-inside-in-LeftParen.inside
+    (read_pattern unsigned c.args.tokens.now) c.expression.new.tokens c.close.new.self
     (goes_first (read_pattern unsigned c.args.tokens.now)
     (λ x us. run read (expect RightParen (give x)) us)
     (ap (λ ts. read_pattern unsigned ts) e ∙ parens_read c.advance-in-LeftParen.new.self)
-    c.in_ok-inside-in-LeftParen.ensures.reads) (stopped (atom empty)).0 (λ x. (stopped x).1))
+    c.in_ok-inside-in-LeftParen.ensures.reads) c.close.ensures.ok c.close.ensures.err
 
-pub primary-returns-in_ok-expect-in-LeftParen-clause-reads
-    : goal.primary-returns-in_ok-expect-in-LeftParen-clause-reads
-primary-returns-in_ok-expect-in-LeftParen-clause-reads t c =
-    let e = goes_past c.args.tokens.now c.advance-in-LeftParen.new.self LeftParen
-    c.in-LeftParen.ensures (λ q. cc) c.advance-in-LeftParen.ensures in
-    goes_on (λ x. got x c.expect.new.self)
-    (goes_first (read_pattern unsigned c.args.tokens.now)
-    (λ x us. run read (expect RightParen (give x)) us)
-    (ap (λ ts. read_pattern unsigned ts) e ∙ parens_read c.advance-in-LeftParen.new.self)
-    c.in_ok-inside-in-LeftParen.ensures.reads)
-    (λ x. passed RightParen (give x) c.expression.new.tokens c.expect.new.self refl
-    c.in_ok-expect-in-LeftParen.ensures)
-
-pub primary-returns-in_ok-expect-in-LeftParen-clause-shorter
-    : goal.primary-returns-in_ok-expect-in-LeftParen-clause-shorter
-primary-returns-in_ok-expect-in-LeftParen-clause-shorter t c =
+pub primary-returns-in_ok-inside-in-LeftParen-clause-shorter
+    : goal.primary-returns-in_ok-inside-in-LeftParen-clause-shorter
+primary-returns-in_ok-inside-in-LeftParen-clause-shorter t c =
     let e = goes_past c.args.tokens.now c.advance-in-LeftParen.new.self LeftParen
     c.in-LeftParen.ensures (λ q. cc) c.advance-in-LeftParen.ensures in
     let n = one_shorter c.args.tokens.now c.advance-in-LeftParen.new.self LeftParen e in
-    let m = one_shorter c.expression.new.tokens c.expect.new.self RightParen
-    c.in_ok-expect-in-LeftParen.ensures in
-    omega (arith, n, m, c.in_ok-inside-in-LeftParen.ensures.shorter)
+    closed_shorter c.close.result c.in_ok-inside-in-LeftParen.inside c.expression.new.tokens
+    c.close.new.self (length c.args.tokens.now)
+    (omega (arith, n, c.in_ok-inside-in-LeftParen.ensures.shorter)) c.close.ensures.ok
 
-pub primary-returns-in_ok-expect-in-LeftParen-clause-unkept
-    : goal.primary-returns-in_ok-expect-in-LeftParen-clause-unkept
-primary-returns-in_ok-expect-in-LeftParen-clause-unkept t c =
+pub primary-returns-in_ok-inside-in-LeftParen-clause-unkept
+    : goal.primary-returns-in_ok-inside-in-LeftParen-clause-unkept
+primary-returns-in_ok-inside-in-LeftParen-clause-unkept t c =
     let e = goes_past c.args.tokens.now c.advance-in-LeftParen.new.self LeftParen
     c.in-LeftParen.ensures (λ q. cc) c.advance-in-LeftParen.ensures in
-    up_to_end RightParen c.args.tokens.now c.expression.new.tokens c.expect.new.self
-    c.in_ok-inside-in-LeftParen.inside.unkept c.in_ok-inside-in-LeftParen.inside.unkept
+    closed_unkept c.close.result c.in_ok-inside-in-LeftParen.inside c.args.tokens.now
+    c.expression.new.tokens c.close.new.self
     (up_to_past LeftParen c.args.tokens.now c.advance-in-LeftParen.new.self
     c.expression.new.tokens c.in_ok-inside-in-LeftParen.inside.unkept e (λ q. cc)
-    c.in_ok-inside-in-LeftParen.ensures.unkept) c.in_ok-expect-in-LeftParen.ensures
-    (λ q. cc) refl
+    c.in_ok-inside-in-LeftParen.ensures.unkept) c.close.ensures.ok
 
 pub primary-returns-in-Eps-clause-unkept : goal.primary-returns-in-Eps-clause-unkept
 primary-returns-in-Eps-clause-unkept t c =
@@ -238,56 +256,99 @@ operand-loop-tokens-preserved-in-Question t c =
           ∙ or_none c.loop-tokens.whole.unkept);
     }
 
-pub operand-returns-in_err-within-in-Percent-clause-reads
-    : goal.operand-returns-in_err-within-in-Percent-clause-reads
-operand-returns-in_err-within-in-Percent-clause-reads t c =
+percent_err : (r : Result (Option IntervalEnds) Stop) (s : Stop) (us new : List Token)
+    → IsReadAs IsMadeOf (read of_interval us) r new → r ≡ Err s → Stops (read of_interval us) s new
+percent_err r s us new h e =
+    let P = λ (q : Result (Option IntervalEnds) Stop).
+    IsReadAs IsMadeOf (read of_interval us) q new in
+    subst P e h
+
+percent_ok : (r : Result (Option IntervalEnds) Stop) (w : Option IntervalEnds) (us new : List Token)
+    → IsReadAs IsMadeOf (read of_interval us) r new → r ≡ Ok w
+    → ReadingGoes IsMadeOf w (read of_interval us) (λ ends. got ends new)
+percent_ok r w us new h e =
+    let P = λ (q : Result (Option IntervalEnds) Stop).
+    IsReadAs IsMadeOf (read of_interval us) q new in
+    subst P e h
+
+percent_shorter : (r : Result (Option IntervalEnds) Stop) (w : Option IntervalEnds)
+    (us new : List Token)
+    → IfOk r (λ x. length new ≤ length us) → r ≡ Ok w → length new ≤ length us
+percent_shorter r w us new h e =
+    let P = λ (q : Result (Option IntervalEnds) Stop). IfOk q (λ x. length new ≤ length us) in
+    subst P e h
+
+pub operand-returns-in_err-body-in-Percent-clause-reads
+    : goal.operand-returns-in_err-body-in-Percent-clause-reads
+operand-returns-in_err-body-in-Percent-clause-reads t c =
     let e = goes_past c.loop-tokens.tokens c.advance-in-Percent.new.self Percent
     c.in-Percent.ensures (λ q. cc) c.advance-in-Percent.ensures in
-    let p = err_from_is_err_and c.from_residual-in_err-within-in-Percent.result
-    c.from_residual-in_err-within-in-Percent.ensures.1 in
+    let p = err_from_is_err_and c.from_residual-in_err-body-in-Percent.result
+    c.from_residual-in_err-body-in-Percent.ensures.1 in
     rw (p.1, p.2) (stops_joined (read of_interval c.advance-in-Percent.new.self)
-    c.in_err-within-in-Percent.field-0.0 c.interval.new.tokens
+    c.in_err-body-in-Percent.field-0.0 c.interval.new.tokens
     (λ x ends us. read_pattern (operand_after (restriction x ends)) us)
     c.loop-tokens.invariant.reads
     (λ x. ap (λ ts. read_pattern (operand_after x) ts) e
-    ∙ percent_read x c.advance-in-Percent.new.self) c.in_err-within-in-Percent.ensures.reads)
+    ∙ percent_read x c.advance-in-Percent.new.self)
+    (percent_err c.interval.result c.in_err-body-in-Percent.field-0.0
+    c.advance-in-Percent.new.self c.interval.new.tokens c.interval.ensures.reads
+    c.in_err-body-in-Percent.ensures.err))
 
 pub operand-loop-tokens-preserved : goal.operand-loop-tokens-preserved
 operand-loop-tokens-preserved t c =
     let e = goes_past c.loop-tokens.tokens c.advance-in-Percent.new.self Percent
     c.in-Percent.ensures (λ q. cc) c.advance-in-Percent.ensures in
     let n = one_shorter c.loop-tokens.tokens c.advance-in-Percent.new.self Percent e in
+    let us = c.advance-in-Percent.new.self in
+    let w = c.in_ok-body-in-Percent.within in
+    let same = c.in_ok-body-in-Percent.ensures.ok in
+    let reads = percent_ok c.interval.result w us c.interval.new.tokens c.interval.ensures.reads
+    same.1 in
+    let short = percent_shorter c.interval.result w us c.interval.new.tokens
+    c.interval.ensures.shorter same.1 in
     record {
       reads = goes_joined c.in_ok-whole-in-Percent.whole
           (λ x. read_pattern (operand_after x) c.interval.new.tokens) restriction
           (λ x ends us. read_pattern (operand_after (restriction x ends)) us)
-          c.loop-tokens.invariant.reads c.in_ok-within-in-Percent.ensures.reads
-          (λ x ends h m. c.in_ok-whole-in-Percent.ensures.stands x ends m h)
-          (λ x. ap (λ ts. read_pattern (operand_after x) ts) e
-          ∙ percent_read x c.advance-in-Percent.new.self) (λ x ends. refl);
-      shorter = omega (
-        arith,
-        n,
-        c.in_ok-within-in-Percent.ensures.shorter,
-        c.loop-tokens.invariant.shorter,
-      );
+          c.loop-tokens.invariant.reads reads
+          (λ x ends h m. c.in_ok-whole-in-Percent.ensures.stands x ends m
+          (subst (λ y. Represents y x) (sym same.0) h))
+          (λ x. ap (λ ts. read_pattern (operand_after x) ts) e ∙ percent_read x us)
+          (λ x ends. refl);
+      shorter = omega (arith, n, short, c.loop-tokens.invariant.shorter);
       unkept = up_to_joined c.args.tokens.now c.loop-tokens.tokens c.interval.new.tokens
-          c.loop-tokens.whole.unkept
-          (unkept_at c.in_ok-within-in-Percent.within (length c.advance-in-Percent.new.self))
-          c.in_ok-whole-in-Percent.whole.unkept c.loop-tokens.invariant.unkept
-          (subst (λ ts. FindsUpTo ts c.interval.new.tokens
-          (unkept_at c.in_ok-within-in-Percent.within (length c.advance-in-Percent.new.self)))
-          (sym e) (up_to_interval c.in_ok-within-in-Percent.within c.advance-in-Percent.new.self
-          c.interval.new.tokens c.in_ok-within-in-Percent.ensures.reads))
+          c.loop-tokens.whole.unkept (unkept_at w (length us)) c.in_ok-whole-in-Percent.whole.unkept
+          c.loop-tokens.invariant.unkept
+          (subst (λ ts. FindsUpTo ts c.interval.new.tokens (unkept_at w (length us)))
+          (sym e) (up_to_interval w us c.interval.new.tokens reads))
           (c.in_ok-whole-in-Percent.ensures.unkept
-          ∙ ap (λ k. option_or c.loop-tokens.whole.unkept
-          (unkept_at c.in_ok-within-in-Percent.within k)) c.left-at.ensures);
+          ∙ ap (λ (y : Operand). option_or y.unkept (unkept_at w c.left-at.result)) same.0
+          ∙ ap (λ k. option_or c.loop-tokens.whole.unkept (unkept_at w k)) c.left-at.ensures);
     }
 
-pub operand-returns-in-Ends-clause-reads : goal.operand-returns-in-Ends-clause-reads
-operand-returns-in-Ends-clause-reads t c =
-    stops_at c.refused.result c.loop-tokens.tokens c.loop-tokens.invariant.reads
-    c.refused.ensures (λ x. ends_stop x c.loop-tokens.tokens (sym c.in-Ends.ensures))
+ended_reads : (r : Result Operand Stop) (whole : Operand) (q : Reading PatternTree)
+    (ts : List Token) → is_behind (front ts) ≡ false
+    → ReadingGoes Represents whole q (λ x. read_pattern (operand_after x) ts)
+    → IfOk r (λ x. (x ≡ whole) × (front ts ≢ Ends))
+    → IfErr r (λ s. (front ts ≡ Ends) × (s ≡ Syntax (length ts))) → IsReadAs Represents q r ts
+ended_reads (Ok x) whole q ts none h ok err =
+    let P = λ (y : Operand). ReadingGoes Represents y q (λ t. got t ts) in
+    subst P (sym ok.0) (goes_on (λ t. got t ts) h (λ t. operand_ends t ts none ok.1))
+ended_reads (Err s) whole q ts none h ok err =
+    stops_at s ts h err.1 (λ t. ends_stop t ts err.0)
+
+ended_unkept : (r : Result Operand Stop) (whole : Operand) (old ts : List Token)
+    → FindsUpTo old ts whole.unkept → IfOk r (λ x. (x ≡ whole) × (front ts ≢ Ends))
+    → IfOk r (λ x. FindsUpTo old ts x.unkept)
+ended_unkept (Ok x) whole old ts h ok =
+    let P = λ (y : Operand). FindsUpTo old ts y.unkept in subst P (sym ok.0) h
+ended_unkept (Err s) whole old ts h ok = tt
+
+ended_shorter : (r : Result Operand Stop) (ts old : List Token) → length ts ≤ length old
+    → IfOk r (λ x. length ts ≤ length old)
+ended_shorter (Ok x) ts old h = h
+ended_shorter (Err s) ts old h = tt
 
 pub operand-returns-in_default-clause-reads : goal.operand-returns-in_default-clause-reads
 operand-returns-in_default-clause-reads t c =
@@ -296,6 +357,16 @@ operand-returns-in_default-clause-reads t c =
     (λ q. c.in_default.not-Plus (c.peek.ensures ∙ q))
     (λ q. c.in_default.not-Question (c.peek.ensures ∙ q))
     (λ q. c.in_default.not-Percent (c.peek.ensures ∙ q)) in
-    goes_on (λ x. got x c.loop-tokens.tokens) c.loop-tokens.invariant.reads
-    (λ x. operand_ends x c.loop-tokens.tokens none
-    (λ q. c.in_default.not-Ends (c.peek.ensures ∙ q)))
+    ended_reads c.not_ended.result c.loop-tokens.whole (read_pattern operand c.args.tokens.now)
+    c.loop-tokens.tokens none c.loop-tokens.invariant.reads c.not_ended.ensures.ok
+    c.not_ended.ensures.err
+
+pub operand-returns-in_default-clause-shorter : goal.operand-returns-in_default-clause-shorter
+operand-returns-in_default-clause-shorter t c =
+    ended_shorter c.not_ended.result c.loop-tokens.tokens c.args.tokens.now
+    c.loop-tokens.invariant.shorter
+
+pub operand-returns-in_default-clause-unkept : goal.operand-returns-in_default-clause-unkept
+operand-returns-in_default-clause-unkept t c =
+    ended_unkept c.not_ended.result c.loop-tokens.whole c.args.tokens.now c.loop-tokens.tokens
+    c.loop-tokens.invariant.unkept c.not_ended.ensures.ok

@@ -1,78 +1,86 @@
-use Rattle.std.proofs.Common.{length, ◌-◌, refl, sym, ◌∙◌, ap, arith, inr}
+use Rattle.std.proofs.Common.{◌≡◌, ◌≤◌, ◌-◌, List, [], ◌∷◌, length, refl, sym, ◌∙◌, ap, arith, inr, subst}
 use Rattle.std.specs.Prelude.{position}
+use Rattle.tre_parse.specs.declared.token.Token.{Token}
 use Rattle.tre_parse.specs.Front.{tokens_in}
+use Rattle.tre_parse.specs.Operands.{Represents}
+use Rattle.tre_parse.specs.Reader.{got}
+use Rattle.tre_parse.specs.Reading.{ReadingGoes}
 use Rattle.tre_parse.specs.TokenOutcome.{offset_of, is_past}
-use Rattle.tre_parse.specs.Scan.{vocabulary_in}
 use Rattle.tre_parse.specs.Answers.{text_tokens_in}
-use Rattle.tre_parse.proofs.Judging.{is_whole, none_found, first_found, empty_outcome, past_outcome, large_outcome, is_buildable, expr_is, expr_some, pattern_some, spelt_outcome}
+use Rattle.tre_parse.specs.Unkept.{FindsUpTo}
+use Rattle.tre_parse.proofs.Judging.{rest_outcome, is_whole, none_found, first_found, empty_outcome, past_outcome, large_outcome}
+use Rattle.tre_parse.proofs.Whole.{read_whole}
 use Rattle.tre_parse.proofs.parser.judge.Goals as goal
 
-pub returns-in-Some : goal.returns-in-Some
-returns-in-Some c =
-    let words = text_tokens_in c.args.scan in
-    inr (empty_outcome words c.args.whole (length words.tokens - c.in-Some.left)
+none_left : (ts : List Token) → length ts ≤ 0 → ts ≡ []
+none_left [] h = refl
+none_left (t ∷ ts) h = absurd (omega arith)
+
+pub returns-then-left-gt0-clause-fault : goal.returns-then-left-gt0-clause-fault
+returns-then-left-gt0-clause-fault c =
+    rest_outcome (text_tokens_in c.args.scan.now) c.refused.result c.fault_of.result
+    c.args.whole.now c.args.rest.now c.requires.small c.requires.whole
+    (λ q. let n = ap length q in omega (arith, n, c.left.ensures, c.if-left-gt0.true))
+    c.refused.ensures c.fault_of.ensures
+
+pub returns-in-Some-clause-fault : goal.returns-in-Some-clause-fault
+returns-in-Some-clause-fault c =
+    let none = none_left c.args.rest.now (omega (arith, c.left.ensures, c.if-left-gt0.false)) in
+    let words = text_tokens_in c.args.scan.now in
+    let whole = c.args.whole.now in
+    let P = λ (ts : List Token). ReadingGoes Represents whole (read_whole words.tokens)
+    (λ e. got e ts) in
+    let Q = λ (ts : List Token). FindsUpTo words.tokens ts whole.unkept in
+    let reads = subst P none c.requires.whole in
+    let finds = subst Q none c.requires.unkept in
+    inr (empty_outcome words whole (length words.tokens - c.in-Some.left)
     c.offset-at.result c.requires.small
-    (is_whole words c.args.whole c.requires.whole)
-    (first_found words c.args.whole c.in-Some.left c.requires.small c.requires.unkept c.in-Some.is)
+    (is_whole words whole reads)
+    (first_found words whole c.in-Some.left c.requires.small finds c.in-Some.is)
     (c.offset-at.ensures ∙ ap (offset_of words) c.place_of_left.ensures))
 
-pub returns-in-Some-first_past : goal.returns-in-Some-first_past
-returns-in-Some-first_past c =
-    let words = text_tokens_in c.args.scan in
-    inr (past_outcome words c.args.whole c.in-Some-first_past.place _ c.requires.small
-    (is_whole words c.args.whole c.requires.whole)
-    (none_found words c.args.whole c.requires.small c.requires.unkept c.in_default.is)
+pub returns-in-Some-first_past-clause-fault : goal.returns-in-Some-first_past-clause-fault
+returns-in-Some-first_past-clause-fault c =
+    let none = none_left c.args.rest.now (omega (arith, c.left.ensures, c.if-left-gt0.false)) in
+    let words = text_tokens_in c.args.scan.now in
+    let whole = c.args.whole.now in
+    let P = λ (ts : List Token). ReadingGoes Represents whole (read_whole words.tokens)
+    (λ e. got e ts) in
+    let Q = λ (ts : List Token). FindsUpTo words.tokens ts whole.unkept in
+    let reads = subst P none c.requires.whole in
+    let finds = subst Q none c.requires.unkept in
+    inr (past_outcome words whole c.in-Some-first_past.place _ c.requires.small
+    (is_whole words whole reads)
+    (none_found words whole c.requires.small finds c.in_default.is)
     (ap (λ ts. position is_past (tokens_in ts)) (sym c.deref.ensures.value)
     ∙ sym c.first_past.ensures ∙ c.in-Some-first_past.is)
     c.offset-at-in-Some-first_past.ensures)
 
-pub returns-then-nodes-gt-NODES_MAX : goal.returns-then-nodes-gt-NODES_MAX
-returns-then-nodes-gt-NODES_MAX c =
-    inr (large_outcome (text_tokens_in c.args.scan) c.args.whole _ c.requires.small
-    (is_whole (text_tokens_in c.args.scan) c.args.whole c.requires.whole)
-    (none_found (text_tokens_in c.args.scan) c.args.whole c.requires.small c.requires.unkept
-    c.in_default.is) (ap (λ ts. position is_past (tokens_in ts)) (sym c.deref.ensures.value)
+pub returns-then-nodes-gt-NODES_MAX-clause-fault
+    : goal.returns-then-nodes-gt-NODES_MAX-clause-fault
+returns-then-nodes-gt-NODES_MAX-clause-fault c =
+    let none = none_left c.args.rest.now (omega (arith, c.left.ensures, c.if-left-gt0.false)) in
+    let words = text_tokens_in c.args.scan.now in
+    let whole = c.args.whole.now in
+    let P = λ (ts : List Token). ReadingGoes Represents whole (read_whole words.tokens)
+    (λ e. got e ts) in
+    let Q = λ (ts : List Token). FindsUpTo words.tokens ts whole.unkept in
+    let reads = subst P none c.requires.whole in
+    let finds = subst Q none c.requires.unkept in
+    inr (large_outcome words whole _ c.requires.small (is_whole words whole reads)
+    (none_found words whole c.requires.small finds c.in_default.is)
+    (ap (λ ts. position is_past (tokens_in ts)) (sym c.deref.ensures.value)
     ∙ sym c.first_past.ensures ∙ c.in_default-first_past.is) refl
     c.if-nodes-gt-NODES_MAX.true)
 
-pub unreachable-requires : goal.unreachable-requires
-unreachable-requires c =
-    let w = is_whole (text_tokens_in c.args.scan) c.args.whole c.requires.whole in
-    let b = is_buildable (text_tokens_in c.args.scan) c.args.whole c.requires.small w
-    (none_found (text_tokens_in c.args.scan) c.args.whole c.requires.small c.requires.unkept
-    c.in_default.is) (ap (λ ts. position is_past (tokens_in ts)) (sym c.deref.ensures.value)
-    ∙ sym c.first_past.ensures ∙ c.in_default-first_past.is)
-    (omega arith) c.requires.numbered in
-    expr_some (vocabulary_in c.args.scan) c.args.whole w.tree c.into_tree.result b c.into_tree.ensures
-    (omega arith) c.in_default-into_tree.is
+pub returns-clause-all : goal.returns-clause-all
+returns-clause-all c =
+    none_left c.args.rest.now (omega (arith, c.left.ensures, c.if-left-gt0.false))
 
-pub unreachable-requires-in_default-new : goal.unreachable-requires-in_default-new
-unreachable-requires-in_default-new c =
-    let w = is_whole (text_tokens_in c.args.scan) c.args.whole c.requires.whole in
-    let b = is_buildable (text_tokens_in c.args.scan) c.args.whole c.requires.small w
-    (none_found (text_tokens_in c.args.scan) c.args.whole c.requires.small c.requires.unkept
-    c.in_default.is) (ap (λ ts. position is_past (tokens_in ts)) (sym c.deref.ensures.value)
-    ∙ sym c.first_past.ensures ∙ c.in_default-first_past.is)
-    (omega arith) c.requires.numbered in
-    let e = expr_is (vocabulary_in c.args.scan) c.args.whole w.tree c.into_tree.result
-    c.in-Some-into_tree.expr b c.into_tree.ensures c.in-Some-into_tree.is in
-    let never = c.in_default-new.ensures.some.1 (pattern_some (vocabulary_in c.args.scan) c.args.whole w.tree
-    c.in-Some-into_tree.expr b e) in
-    (cc)
-
-pub returns : goal.returns
-returns c =
-    let w = is_whole (text_tokens_in c.args.scan) c.args.whole c.requires.whole in
-    let b = is_buildable (text_tokens_in c.args.scan) c.args.whole c.requires.small w
-    (none_found (text_tokens_in c.args.scan) c.args.whole c.requires.small c.requires.unkept
-    c.in_default.is) (ap (λ ts. position is_past (tokens_in ts)) (sym c.deref.ensures.value)
-    ∙ sym c.first_past.ensures ∙ c.in_default-first_past.is)
-    (omega arith) c.requires.numbered in
-    let e = expr_is (vocabulary_in c.args.scan) c.args.whole w.tree c.into_tree.result
-    c.in-Some-into_tree.expr b c.into_tree.ensures c.in-Some-into_tree.is in
-    spelt_outcome (text_tokens_in c.args.scan) c.args.whole _ _ c.requires.small w
-    (none_found (text_tokens_in c.args.scan) c.args.whole c.requires.small c.requires.unkept
-    c.in_default.is) (ap (λ ts. position is_past (tokens_in ts)) (sym c.deref.ensures.value)
-    ∙ sym c.first_past.ensures ∙ c.in_default-first_past.is)
-    (omega arith)
-    (c.in-Some-new.ensures.tree ∙ e) c.in-Some-new.ensures.names
+pub returns-clause-judged : goal.returns-clause-judged
+returns-clause-judged c = record {
+  kept = c.in_default.is;
+  named = ap (λ ts. position is_past (tokens_in ts)) (sym c.deref.ensures.value)
+      ∙ sym c.first_past.ensures ∙ c.in_default-first_past.is;
+  small = omega arith;
+}
