@@ -1,6 +1,6 @@
 -- What views show of the rows, for the names of each who asks.
-use Rattle.std.proofs.Common.{◌≡◌, ◌∙◌, ℕ, zero, suc, ◌+◌, ◌<◌, Bool, List, [], ◌∷◌, ◌++◌, All, length, map, get_or, refl, sym, ap, ap₂, subst, arith}
-use Rattle.std.proofs.lemmas.List.{length-map, map-append}
+use Rattle.std.proofs.Common.{◌≡◌, ◌∙◌, ℕ, zero, suc, ◌+◌, ◌<◌, Bool, List, [], ◌∷◌, ◌++◌, All, length, map, take, get_or, refl, sym, ap, ap₂, subst, arith}
+use Rattle.std.proofs.lemmas.List.{length-map, map-append, take_more}
 use Rattle.std.proofs.lemmas.List.Elements.{All-head, All-tail}
 use Rattle.std.proofs.lemmas.Option.{get_or_from_slice_get, slice_get_within}
 use Rattle.tre_feed.specs.Places.{places_of}
@@ -26,6 +26,15 @@ pub at_mapped : {A B : Type 0} (f : A → B) (xs : List A) (k : ℕ) (d : A) (e 
 at_mapped f [] k d e below = absurd (omega (arith, below))
 at_mapped f (x ∷ xs) zero d e below = refl
 at_mapped f (x ∷ xs) (suc k) d e below = at_mapped f xs k d e (omega (arith, below))
+
+-- one more item was put behind those of a map
+pub mapped-next : {A B : Type 0} (f : A → B) (xs : List A) (k : ℕ) (x : A) (old new : List B)
+    (y : B) → old ≡ map f (take k xs) → k < length xs → x ≡ get_or xs k x → y ≡ f x
+    → new ≡ old ++ y ∷ [] → new ≡ map f (take (k + 1) xs)
+mapped-next {B = B} f xs k x old new y so_far below here is pushed =
+    pushed ∙ (ap₂ (λ (front : List B) (last : B). front ++ last ∷ []) so_far (is ∙ ap f here)
+    ∙ (sym (map-append f (take k xs) (get_or xs k x ∷ []))
+    ∙ ap (map f) (sym (take_more xs k x below))))
 
 module _ {R : Type 0} (names : R → Vocabulary) where
   -- the row of a group is what waits, for its names

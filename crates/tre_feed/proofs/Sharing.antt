@@ -1,5 +1,5 @@
 -- Views of groups stay right when groups grow.
-use Rattle.std.proofs.Common.{◌≡◌, ◌≢◌, ℕ, ◌<◌, List, [], ◌∷◌, ◌++◌, length, get_or, set, Some, inl, inr, sym, ap, subst, ◌∙◌, arith, length-append}
+use Rattle.std.proofs.Common.{◌≡◌, ◌≢◌, ℕ, ◌+◌, ◌<◌, ◌≤◌, List, [], ◌∷◌, ◌++◌, length, get_or, set, Some, Result, Ok, Err, OnOk, inl, inr, sym, ap, subst, ◌∙◌, arith, length-append}
 use Rattle.std.specs.Prelude.{slice_get}
 use Rattle.std.proofs.lemmas.List.{length-set, get_or-set_same, get_or-set_other}
 use Rattle.std.proofs.lemmas.Bool.{cases_eq}
@@ -104,6 +104,25 @@ Keep-push groups group = record {
   each = λ number old is.
       there (groups ++ group ∷ []) number old (get-front groups (group ∷ []) number old is);
 }
+
+-- where a call succeeded, a group has begun behind those that are there
+pub Keep-begun : {T E : Type 0} (result : Result T E) (old mid items new : List Vocabulary)
+    (group : Vocabulary) → Keep old mid → items ≡ mid → OnOk result (new ≡ items ++ group ∷ [])
+    → OnOk result (Keep old new)
+Keep-begun (Ok value) old mid items new group keep same is =
+    rw (is, same) (Keep-trans old mid (mid ++ group ∷ []) keep (Keep-push mid group))
+Keep-begun (Err fault) old mid items new group keep same is = tt
+
+pub few-begun : {T E : Type 0} (result : Result T E) (items new : List Vocabulary)
+    (group : Vocabulary) (count : ℕ) → length items ≡ count
+    → OnOk result (new ≡ items ++ group ∷ []) → OnOk result (length new ≤ count + 1)
+few-begun (Ok value) items new group count same is =
+    omega (arith, ap length is, length-append items (group ∷ []), same)
+few-begun (Err fault) items new group count same is = tt
+
+pub on_ok_so : {T E : Type 0} (result : Result T E) {P : Type 0} → P → OnOk result P
+on_ok_so (Ok value) so = so
+on_ok_so (Err fault) so = tt
 
 -- the group of one number takes names in
 set-here : (groups : List Vocabulary) (number : ℕ) (new : Vocabulary) → number < length groups

@@ -1,10 +1,11 @@
 -- How the readers of one input stand.
-use Rattle.std.proofs.Common.{◌≡◌, ◌∙◌, ◌+◌, ◌-◌, ◌<◌, ◌≤◌, ℕ, Bool, true, false, List, [], ◌∷◌, ◌++◌, length, take, Option, None, Result, Ok, Err, OnOk, refl, sym, ap, ap₂, subst, arith, append-nil}
+use Rattle.std.proofs.Common.{◌≡◌, ◌≢◌, ◌∙◌, ◌+◌, ◌-◌, ◌<◌, ◌≤◌, ℕ, Bool, true, false, List, [], ◌∷◌, ◌++◌, length, take, Option, None, Some, Result, Ok, Err, OnOk, refl, sym, ap, ap₂, subst, arith, append-nil}
 use Rattle.std.proofs.lemmas.List.{append_cancel_left, length-map, map-append, take_all, take-append-le}
 use Rattle.std.specs.List.{AllByRecursion}
-use Rattle.tre_trace.specs.Reading.{Recording, Stretch, Vocabulary, Adds, Grows, segment_for, segments_for}
+use Rattle.tre_trace.specs.Reading.{Recording, Stretch, Vocabulary, Adds, Grows, IsRefused, segment_for, segments_for}
 use Rattle.tre_trace.specs.declared.segment.Segment.{Segment}
 use Rattle.tre_trace.specs.declared.fault.TraceFault.{TraceFault}
+use Rattle.tre_trace.specs.declared.fault.TraceKind.TheVariants.{Memory as NoMemory}
 use Rattle.tre_feed.specs.Asked.{Asked, asked_by}
 use Rattle.tre_feed.specs.Each.{AllStand, AllWereFed, RowsAre, RowsBegin, TakesOne, all_asked, groups_in, recording_by}
 use Rattle.tre_feed.specs.Stops.{IsToldOf, TakesIn}
@@ -181,3 +182,24 @@ pub grows_closed : (recording : Bool → List ℕ → Recording) → GrowsOn rec
     → (bytes : List ℕ) → Grows (recording false bytes) (recording true bytes)
 grows_closed recording grows bytes = subst (λ all. Grows (recording false bytes)
     (recording true all)) (append-nil bytes) (grows true bytes [])
+
+-- why a reader refused, by whether that was a want of memory
+pub takes_refused : (asked : Vocabulary) (old new : List Segment) (before now : Recording)
+    (fault : TraceFault) (more : Bool) → IsRefused asked old new before now fault
+    → (more ≡ true → fault.kind ≢ NoMemory)
+    → TakesOne asked old new before now (Some fault) more
+takes_refused asked old new before now fault true refused kind = (
+  refused.adds (kind refl),
+  record {
+    told = refused.told (kind refl);
+    kind = record { never_memory = kind refl; never_spent = refused.never_spent };
+  },
+)
+takes_refused asked old new before now fault false refused kind = refused.adds_some
+
+-- then there is a fault
+pub refused_faulty : (asked : Vocabulary) (old new : List Segment) (before now : Recording)
+    (fault : TraceFault) → IsRefused asked old new before now fault
+    → fault.kind ≢ NoMemory → now.fault ≡ None → ⊥
+refused_faulty asked old new before now fault refused kind none =
+    let told = refused.told kind in cc

@@ -1,5 +1,5 @@
 -- How traces are made of what is read, piece by piece: one for each view.
-use Rattle.std.specs.Prelude.{◌≡◌, ℕ, List, [], ◌∷◌, ◌++◌, map, slice_index_or}
+use Rattle.std.specs.Prelude.{◌≡◌, ℕ, List, ◌∷◌, ◌++◌, map, slice_index_or}
 use Rattle.std.specs.List.{AllZip}
 use Rattle.tre_trace.specs.Reading.{Stretch, Vocabulary, no_names, segments_for}
 use Rattle.tre_trace.specs.Trace.{Timeline, IsTrace, quiet, timeline_of}

@@ -45,8 +45,7 @@ pub fn dump_input(
     let (groups, views) = shares.into_parts();
     let needed = needed_by(alloc, patterns, definitions)?;
     let readers = dump_readers(alloc, &groups, &needed, definitions, scale)?;
-    let input = Input::new(alloc, readers, views, limit)?;
-    Ok(input)
+    Input::new(alloc, readers, views, limit)
 }
 
 // The names that a dump for these patterns must declare, to be shared by its readers.
@@ -112,7 +111,9 @@ fn dump_reader(
         ≡ group.now) }
 {
     let names = group.names().try_clone()?;
-    let events = group.events().try_clone()?;
+    let Ok(events) = group.events().try_clone() else {
+        return Err(AllocError);
+    };
     let mut tokens = TokenReader::new(alloc, names, events, scale);
     tokens.define(definitions)?;
     tokens.must_declare(needed)?;

@@ -5,7 +5,7 @@ use tre_trace::TraceFault;
 
 /// What ends the work on an input before its end, here or in a layer above: reading it gives none
 /// of `TooManyZones` and `Write`.
-#[derive(Clone, Copy, Debug, PartialEq, Eq)]
+#[derive(Clone, Copy)]
 pub enum Fault {
     /// The first fault of the input.
     Trace(TraceFault),

@@ -29,13 +29,9 @@ pub fn read_front<S: Source>(
         IfSome (S.told input.old).name (λ told. told ≡ name.now) }
 {
     input.open(name)?;
-    let mut bytes = Vec::new(alloc);
     let mut buffer = buffer_of(alloc, PIECE)?;
-    loop {
-        if !read_more(most, &mut bytes, &mut buffer, input)? {
-            break;
-        }
-    }
+    let mut bytes = Vec::new(alloc);
+    while read_more(most, &mut bytes, &mut buffer, input)? {}
     Ok(bytes)
 }
 

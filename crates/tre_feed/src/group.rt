@@ -1,4 +1,4 @@
-ghost use Rattle.std.specs.Prelude.{◌≡◌, IfOk, IfSome};
+ghost use Rattle.std.specs.Prelude.{◌≡◌, IfOk, IfSome, OnOk};
 ghost use Rattle.tre_feed.specs.Growth.{Extends};
 ghost use Rattle.tre_feed.specs.Places.{places_of, ArePlaces};
 ghost use Rattle.tre_syntax.specs.Pattern.{names_of};
@@ -11,7 +11,7 @@ use tre_state::{NameFault, Names};
 use tre_syntax::Pattern;
 
 /// The names that one reader reads, for one pattern or for several.
-#[derive(Debug, Drop)]
+#[derive(Drop)]
 pub struct Group {
     names: Names,
     events: Names,
@@ -47,10 +47,7 @@ impl Group {
     pub(crate) fn of(pattern: &Pattern) -> Result<Group, AllocError>
         ensures { IfOk result (λ group. group ≡ names_of pattern.now) }
     {
-        Ok(Group {
-            names: pattern.names().try_clone()?,
-            events: pattern.events().try_clone()?,
-        })
+        group_of(pattern.names(), pattern.events())
     }
 
     /// Takes in the names of the pattern, and gives its view of the group, which has this number.
@@ -66,40 +63,50 @@ impl Group {
         ensures number { IfOk result (λ found. IfSome found (λ view. view.group ≡ number)) }
         ensures wider { IsWider self.old self.new }
     {
-        let Some(names) = extended(alloc, &self.names, pattern.names())? else {
-            return Ok(None);
-        };
-        let Some(events) = extended(alloc, &self.events, pattern.events())? else {
-            return Ok(None);
-        };
-        self.names = names.all;
-        self.events = events.all;
-        Ok(Some(View {
-            group: number,
-            names: names.places,
-            events: events.places,
-        }))
+        let mut wider = group_of(&self.names, &self.events)?;
+        match joined(alloc, &mut wider.names, &mut wider.events, number, pattern) {
+            Ok(view) => {
+                *self = wider;
+                Ok(Some(view))
+            }
+            Err(NameFault::TooMany) => Ok(None),
+            Err(NameFault::Memory) => Err(AllocError),
+        }
     }
 }
 
-// Names with others behind them, and where those that were asked for stand among them.
-#[derive(Drop)]
-struct Widened {
-    all: Names,
-    places: Places,
-}
-
-// All names with the asked ones. None where these are too many.
-fn extended(alloc: Global, all: &Names, asked: &Names) -> Result<Option<Widened>, AllocError>
-    ensures places { IfOk result (λ found. IfSome found (λ wide.
-        ArePlaces asked.now wide.all (places_of wide.places))) }
-    ensures kept { IfOk result (λ found. IfSome found (λ wide.
-        Extends all.now wide.all)) }
+// The group of these names.
+fn group_of(names: &Names, events: &Names) -> Result<Group, AllocError>
+    ensures { IfOk result (λ group. group ≡ record { names = names.now; events = events.now }) }
 {
-    let mut wider = all.try_clone()?;
-    match Places::join(alloc, &mut wider, asked) {
-        Ok(places) => Ok(Some(Widened { all: wider, places })),
-        Err(NameFault::TooMany) => Ok(None),
-        Err(NameFault::Memory) => Err(AllocError),
-    }
+    let names = names.try_clone()?;
+    let Ok(events) = events.try_clone() else {
+        return Err(AllocError);
+    };
+    Ok(Group { names, events })
+}
+
+// Puts the names of the pattern that aren't there behind the others, and gives its view of them.
+fn joined(
+    alloc: Global,
+    names: &mut Names,
+    events: &mut Names,
+    number: usize,
+    pattern: &Pattern,
+) -> Result<View, NameFault>
+    ensures names { IfOk result (λ view.
+        ArePlaces (names_of pattern.now).names names.new (places_of view.names)) }
+    ensures events { IfOk result (λ view.
+        ArePlaces (names_of pattern.now).events events.new (places_of view.events)) }
+    ensures number { IfOk result (λ view. view.group ≡ number) }
+    ensures kept_names { OnOk result (Extends names.old names.new) }
+    ensures kept_events { OnOk result (Extends events.old events.new) }
+{
+    let names = Places::join(alloc, names, pattern.names())?;
+    let events = Places::join(alloc, events, pattern.events())?;
+    Ok(View {
+        group: number,
+        names,
+        events,
+    })
 }

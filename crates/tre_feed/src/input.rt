@@ -233,16 +233,42 @@ impl<R: TraceReader + Drop> Input<R> {
     {
         let mut traces = no_traces(alloc, &self.views)?;
         let mut room = Vec::new(alloc);
+        self.collect(name, source, &mut room, &mut traces)?;
+        Ok(traces)
+    }
+
+    // Reads the whole source into the traces, of which none has a segment yet. The room is to make
+    // them in.
+    fn collect<S: Source>(
+        &mut self,
+        name: &str,
+        source: &mut S,
+        room: &mut Vec<Segment>,
+        traces: &mut [Packed],
+    ) -> Result<(), Fault>
+        requires closed { (S.told source.old).opened ≡ false }
+        requires new { IsNew R.terms R.represents R.names self.old }
+        requires empty { ArePacked R.names self.old traces.old [] }
+        ensures read { (asked : List Vocabulary) → Asks R.names self.old asked →
+            OnOk result (IsWhole asked (recording_of R.recording R.terms self.old)
+            (limit_of self.old) (input_told (S.told source.old) (S.told source.new)) traces.new) }
+        ensures stops { IfErr result (StopsReading (recording_of R.recording R.terms self.old)
+            (limit_of self.old) name.now (input_told (S.told source.old) (S.told source.new))) }
+        ensures bounded { IsTrue (S.told source.new).opened →
+            TakesAtMost (limit_of self.old + 1) (S.told source.old).file (S.told source.new).left }
+        ensures by_name { IsTrue (S.told source.new).opened →
+            IfSome (S.told source.old).name (λ told. told ≡ name.now) }
+    {
         self.open(name, source)?;
         loop {
             let more = self.next(source)?;
-            self.pack(&mut room, &mut traces)?;
+            self.pack(room, traces)?;
             self.clear();
             if !more {
                 break;
             }
         }
-        self.end_traces(&mut traces);
-        Ok(traces)
+        self.end_traces(traces);
+        Ok(())
     }
 }

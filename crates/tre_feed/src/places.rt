@@ -10,7 +10,7 @@ use std::alloc::{AllocError, Global};
 use tre_state::{NAMES_MAX, NameFault, Names};
 
 /// Where some names stand among others: for each name its place.
-#[derive(Debug, Drop)]
+#[derive(Drop)]
 pub struct Places {
     places: Vec<u8>,
     // Whether they are 0, 1 and so on: then the bits are taken all at once.
@@ -86,14 +86,23 @@ impl Places {
         if self.in_order {
             return bits_below(bits, self.places.len());
         }
-        let mut seen = 0;
-        let mut left = self.places.len();
-        while left > 0 {
-            left -= 1;
-            seen = 2 * seen + bit_of(bits, self.places[left]);
-        }
-        seen
+        taken(bits, &self.places)
     }
+}
+
+// The bits at these places, in this order.
+fn taken(bits: u64, places: &[u8]) -> u64
+    requires few { length places.now ≤ NAMES_MAX }
+    requires within { All (λ place. place < NAMES_MAX) places.now }
+    ensures { result ≡ bits_at places.now bits }
+{
+    let mut seen = 0;
+    let mut left = places.len();
+    while left > 0 {
+        left -= 1;
+        seen = 2 * seen + bit_of(bits, places[left]);
+    }
+    seen
 }
 
 // Puts the name among all, if it isn't there yet, and its place behind the places.

@@ -4,13 +4,12 @@ ghost use Rattle.tre_feed.specs.Shares.{IsViewOf, AreShared};
 ghost use Rattle.tre_syntax.specs.Pattern.{names_of};
 
 use crate::group::Group;
-use crate::places::Places;
 use crate::view::View;
 use std::alloc::{AllocError, Global};
 use tre_syntax::Pattern;
 
 /// Who shares a reader: the groups, and a view for each pattern.
-#[derive(Debug, Drop)]
+#[derive(Drop)]
 pub struct Shares {
     groups: Vec<Group>,
     views: Vec<View>,
@@ -63,7 +62,9 @@ impl Shares {
             OnOk result (AreShared (asked ++ names_of pattern.now ∷ []) self.new) }
     {
         let view = view_for(alloc, &mut self.groups, pattern)?;
-        self.views.push(view)?;
+        let Ok(()) = self.views.push(view) else {
+            return Err(AllocError);
+        };
         Ok(())
     }
 }
@@ -72,9 +73,7 @@ impl Shares {
 pub fn alone(alloc: Global, pattern: &Pattern) -> Result<View, AllocError>
     ensures { IfOk result (IsViewOf (names_of pattern.now ∷ []) (names_of pattern.now)) }
 {
-    let mut groups = Vec::new(alloc);
-    let view = view_alone(alloc, &mut groups, pattern)?;
-    Ok(view)
+    View::own(alloc, 0, pattern)
 }
 
 // Has a group take in the names of the pattern, and gives the pattern's view of it.
@@ -83,11 +82,10 @@ fn view_for(alloc: Global, groups: &mut Vec<Group>, pattern: &Pattern) -> Result
     ensures keep { OnOk result (Keep groups.old.items groups.new.items) }
     ensures count { OnOk result (length groups.new.items ≤ length groups.old.items + 1) }
 {
-    if let Some(view) = view_among(alloc, groups, pattern)? {
-        return Ok(view);
+    match view_among(alloc, groups, pattern)? {
+        Some(view) => Ok(view),
+        None => view_alone(alloc, groups, pattern),
     }
-    let view = view_alone(alloc, groups, pattern)?;
-    Ok(view)
 }
 
 // Has the first group that has room take them in, if there is one.
@@ -114,11 +112,7 @@ fn view_alone(alloc: Global, groups: &mut Vec<Group>, pattern: &Pattern) -> Resu
     ensures groups { OnOk result (
         groups.new.items ≡ groups.old.items ++ names_of pattern.now ∷ []) }
 {
-    let view = View {
-        group: groups.len(),
-        names: Places::own(alloc, pattern.names())?,
-        events: Places::own(alloc, pattern.events())?,
-    };
+    let number = groups.len();
     groups.push(Group::of(pattern)?)?;
-    Ok(view)
+    View::own(alloc, number, pattern)
 }

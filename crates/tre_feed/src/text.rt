@@ -37,8 +37,7 @@ pub fn text_input(
     let shares = share(alloc, patterns)?;
     let (groups, views) = shares.into_parts();
     let readers = text_readers(alloc, &groups, scale)?;
-    let input = Input::new(alloc, readers, views, limit)?;
-    Ok(input)
+    Input::new(alloc, readers, views, limit)
 }
 
 // A reader of text for each group, at its place.
@@ -66,7 +65,9 @@ fn text_reader(alloc: Global, group: &Group, scale: u8) -> Result<TextReader, Al
         ≡ group.now) }
 {
     let names = group.names().try_clone()?;
-    let events = group.events().try_clone()?;
+    let Ok(events) = group.events().try_clone() else {
+        return Err(AllocError);
+    };
     let reader = TextReader::new(alloc, LineReader::new(names, events, scale));
     Ok(reader)
 }

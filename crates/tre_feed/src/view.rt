@@ -1,12 +1,15 @@
-ghost use Rattle.std.specs.Prelude.{◌≡◌, ◌≤◌, ℕ, All, Bool, IsTrue, List, map};
+ghost use Rattle.std.specs.Prelude.{◌≡◌, ◌≤◌, ◌∷◌, ◌++◌, [], ℕ, All, Bool, IfOk, IsTrue, List, length, map};
 ghost use Rattle.tre_feed.specs.Shown.{masked_segment, shown_segment};
+ghost use Rattle.tre_syntax.specs.Pattern.{names_of};
 ghost use Rattle.tre_trace.specs.Reading.{Stretch, Vocabulary, events_for, segment_for};
 
 use crate::places::Places;
+use std::alloc::{AllocError, Global};
+use tre_syntax::Pattern;
 use tre_trace::Segment;
 
 /// How the names of a pattern stand among those of its group.
-#[derive(Debug, Drop)]
+#[derive(Drop)]
 pub struct View {
     pub(crate) group: usize,
     pub(crate) names: Places,
@@ -14,8 +17,24 @@ pub struct View {
 }
 
 impl View {
-    ghost use Rattle.tre_feed.specs.Shares.{Shows, group_of};
+    ghost use Rattle.tre_feed.specs.Shares.{IsViewOf, Shows, group_of};
     ghost use Rattle.tre_feed.specs.Shown.{shown_events};
+
+    // The view of a group of this number that reads the names of the pattern alone.
+    pub(crate) fn own(alloc: Global, group: usize, pattern: &Pattern) -> Result<View, AllocError>
+        ensures { (groups : List Vocabulary) → group ≡ length groups → IfOk result
+            (IsViewOf (groups ++ names_of pattern.now ∷ []) (names_of pattern.now)) }
+    {
+        let names = Places::own(alloc, pattern.names())?;
+        let Ok(events) = Places::own(alloc, pattern.events()) else {
+            return Err(AllocError);
+        };
+        Ok(View {
+            group,
+            names,
+            events,
+        })
+    }
 
     /// Which group it is, counted from 0.
     pub fn group(&self) -> usize

@@ -3,6 +3,7 @@ use Rattle.std.proofs.lemmas.List.{length-map}
 use Rattle.tre_syntax.specs.Pattern.{names_of}
 use Rattle.tre_vcd.specs.Needs.{needs}
 use Rattle.tre_feed.specs.Dump.{dump_terms}
+use Rattle.tre_feed.proofs.Inputs.{if_ok_then}
 use Rattle.tre_feed.proofs.Needing.{needs-alike}
 use Rattle.tre_vcd.specs.contracts.token_reader.TokenReaderPartReader.TheImpl.{ghosts as token_reader}
 use Rattle.tre_feed.proofs.Parts.{parts_names}
@@ -27,7 +28,7 @@ new-requires-clause-within c =
     c.into_parts-groups.ensures.views c.in_ok-shares.ensures.each).within
 
 pub returns-clause-asks : goal.returns-clause-asks
-returns-clause-asks c = c.in_ok-input.ensures.asks (map names_of c.args.patterns.now)
+returns-clause-asks c = c.new.ensures.asks (map names_of c.args.patterns.now)
     (AreRead-shared (parts_names token_reader.names) (map names_of c.args.patterns.now)
     c.in_ok-shares.shares.groups.items c.in_ok-shares.shares.views.items _
     c.in_ok-readers.readers.items
@@ -35,14 +36,16 @@ returns-clause-asks c = c.in_ok-input.ensures.asks (map names_of c.args.patterns
     c.into_parts-groups.ensures.views c.in_ok-shares.ensures.each).each
 
 pub returns-clause-new : goal.returns-clause-new
-returns-clause-new c = c.in_ok-input.ensures.new
+returns-clause-new c = c.new.ensures.new
     (dump_terms (needs c.in_ok-needed.needed.value ∷ []) c.args.scale c.args.definitions.now)
     c.in_ok-readers.ensures.fresh
 
 pub returns-clause-recording : goal.returns-clause-recording
 returns-clause-recording c =
-    c.in_ok-input.ensures.recording
+    if_ok_then c.new.result _ _
+    (λ input is. is ∙ needs-alike (needs c.in_ok-needed.needed.value)
+    (map names_of c.args.patterns.now) c.args.scale c.args.definitions.now
+    c.in_ok-needed.ensures.needs)
+    (c.new.ensures.recording
     (dump_terms (needs c.in_ok-needed.needed.value ∷ []) c.args.scale c.args.definitions.now)
-    c.in_ok-readers.ensures.fresh
-    ∙ needs-alike (needs c.in_ok-needed.needed.value) (map names_of c.args.patterns.now)
-    c.args.scale c.args.definitions.now c.in_ok-needed.ensures.needs
+    c.in_ok-readers.ensures.fresh)

@@ -24,5 +24,5 @@ pub returns-clause-names : goal.returns-clause-names
 returns-clause-names c =
     c.new-reader.ensures.names ∙ c.must_declare.ensures.names ∙ c.define.ensures.names
     ∙ c.new-tokens.ensures.names
-    ∙ vocabulary_same c.in_ok-names.names c.in_ok-events.events c.args.group.now
-    (c.in_ok-names.ensures ∙ c.names.ensures) (c.in_ok-events.ensures ∙ c.events.ensures)
+    ∙ vocabulary_same c.in_ok-names.names c.in-Ok.events c.args.group.now
+    (c.in_ok-names.ensures ∙ c.names.ensures) (c.in-Ok.ensures ∙ c.events.ensures)

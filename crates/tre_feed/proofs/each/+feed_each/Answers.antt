@@ -1,4 +1,4 @@
-use Rattle.std.proofs.Common.{◌≡◌, ◌++◌, length, take, ap, sym, subst}
+use Rattle.std.proofs.Common.{◌≡◌, ◌∙◌, ◌++◌, true, false, length, take, refl, ap, sym, subst}
 use Rattle.tre_trace.specs.Reading.{Vocabulary, segments_for}
 use Rattle.tre_feed.specs.Asked.{Asked}
 use Rattle.tre_feed.proofs.Standing.{row_begins, row_more, rows_begin}
@@ -47,3 +47,22 @@ returns-clause-front g t c = λ terms bytes waiting stand rows.
           (row_begins _ _ _ _ _ _ _ (c.feed.ensures.takes bytes all.0.1) waiting are.0),
       c.feed_each.ensures.front terms bytes waiting all.1 are.1,
     )
+
+pub returns-then-not-feed-clause-rows : goal.returns-then-not-feed-clause-rows
+returns-then-not-feed-clause-rows g t c = λ terms bytes added waiting stand beyond rows ok.
+    let wrong : false ≡ true = ok in cc
+
+pub returns-then-not-feed-clause-goes_on : goal.returns-then-not-feed-clause-goes_on
+returns-then-not-feed-clause-goes_on g t c = λ terms bytes stand none ok.
+    let wrong : false ≡ true = ok in cc
+
+pub returns-then-not-feed-clause-faults : goal.returns-then-not-feed-clause-faults
+returns-then-not-feed-clause-faults g t c = λ terms bytes stand ok.
+    let wrong : false ≡ true = ok in cc
+
+pub returns-clause-goes_on : goal.returns-clause-goes_on
+returns-clause-goes_on g t c = λ terms bytes stand none ok.
+    let all = rw c.in-Some.ensures.cases.0 at stand in
+    let own = ap (λ (asked : Asked g.R.TraceReader.Terms). asked.terms) c.feed.ensures.same in
+    let on = rw all.0.0 at (c.if-not-feed.ensures.goes_on bytes all.0.1) in
+    ((own ∙ all.0.0, on refl none), c.feed_each.ensures.goes_on terms bytes all.1 none ok)

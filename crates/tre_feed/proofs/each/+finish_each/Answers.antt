@@ -1,4 +1,4 @@
-use Rattle.std.proofs.Common.{◌≡◌, ◌++◌, length, take, ap, sym, subst}
+use Rattle.std.proofs.Common.{◌≡◌, ◌++◌, true, false, length, take, ap, sym, subst}
 use Rattle.tre_trace.specs.Reading.{Vocabulary, segments_for}
 use Rattle.tre_feed.specs.Asked.{Asked}
 use Rattle.tre_feed.proofs.Standing.{row_begins, row_more, rows_begin}
@@ -47,3 +47,15 @@ returns-clause-front g t c = λ terms bytes waiting stand rows.
           (row_begins _ _ _ _ _ _ _ (c.finish.ensures.takes bytes all.0.1) waiting are.0),
       c.finish_each.ensures.front terms bytes waiting all.1 are.1,
     )
+
+pub returns-then-not-finish-clause-rows : goal.returns-then-not-finish-clause-rows
+returns-then-not-finish-clause-rows g t c = λ terms bytes added waiting stand beyond rows ok.
+    let wrong : false ≡ true = ok in cc
+
+pub returns-then-not-finish-clause-lasts : goal.returns-then-not-finish-clause-lasts
+returns-then-not-finish-clause-lasts g t c = λ terms bytes stand none ok.
+    let wrong : false ≡ true = ok in cc
+
+pub returns-then-not-finish-clause-faults : goal.returns-then-not-finish-clause-faults
+returns-then-not-finish-clause-faults g t c = λ terms bytes stand ok.
+    let wrong : false ≡ true = ok in cc

@@ -24,7 +24,7 @@ new-requires-clause-within c =
     c.into_parts-groups.ensures.views c.in_ok-shares.ensures.each).within
 
 pub returns-clause-asks : goal.returns-clause-asks
-returns-clause-asks c = c.in_ok-input.ensures.asks (map names_of c.args.patterns.now)
+returns-clause-asks c = c.new.ensures.asks (map names_of c.args.patterns.now)
     (AreRead-shared (parts_names line_reader.names) (map names_of c.args.patterns.now)
     c.in_ok-shares.shares.groups.items c.in_ok-shares.shares.views.items _
     c.in_ok-readers.readers.items
@@ -32,8 +32,8 @@ returns-clause-asks c = c.in_ok-input.ensures.asks (map names_of c.args.patterns
     c.into_parts-groups.ensures.views c.in_ok-shares.ensures.each).each
 
 pub returns-clause-new : goal.returns-clause-new
-returns-clause-new c = c.in_ok-input.ensures.new c.args.scale c.in_ok-readers.ensures.fresh
+returns-clause-new c = c.new.ensures.new c.args.scale c.in_ok-readers.ensures.fresh
 
 pub returns-clause-recording : goal.returns-clause-recording
 returns-clause-recording c =
-    c.in_ok-input.ensures.recording c.args.scale c.in_ok-readers.ensures.fresh
+    c.new.ensures.recording c.args.scale c.in_ok-readers.ensures.fresh

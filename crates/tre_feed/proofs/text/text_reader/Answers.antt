@@ -4,5 +4,5 @@ use Rattle.tre_feed.proofs.text.text_reader.Goals as goal
 
 pub returns-clause-names : goal.returns-clause-names
 returns-clause-names c = c.new-reader.ensures.names ∙ (c.new.ensures.names
-    ∙ vocabulary_same c.in_ok-names.names c.in_ok-events.events c.args.group.now
-    (c.in_ok-names.ensures ∙ c.names.ensures) (c.in_ok-events.ensures ∙ c.events.ensures))
+    ∙ vocabulary_same c.in_ok-names.names c.in-Ok.events c.args.group.now
+    (c.in_ok-names.ensures ∙ c.names.ensures) (c.in-Ok.ensures ∙ c.events.ensures))

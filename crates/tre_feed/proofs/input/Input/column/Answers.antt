@@ -25,3 +25,6 @@ returns g c =
     (λ are. are ∙ column_is g.R.TraceReader.names input.each.items asked input.views.items
     stretches c.args.place asks.views wait.rows below)
     (rw (c.deref.ensures.value, c.deref-2.ensures.value) at c.put_column.ensures)
+
+pub put_column-requires-clause-within : goal.put_column-requires-clause-within
+put_column-requires-clause-within g c = rw (c.deref.ensures.value, c.deref-2.ensures.value) c.args.self.now.within

@@ -13,3 +13,6 @@ returns g c =
     (rw (c.deref.ensures.value, c.deref-2.ensures.value) at c.set_lasts.ensures)
     ∙ (ap (ended_by (lasts_in each) views) packed.are
     ∙ traces_are g.R.TraceReader.names each asked views said asks.views ended.lasts)
+
+pub set_lasts-requires : goal.set_lasts-requires
+set_lasts-requires g c = rw (c.deref.ensures.value, c.deref-2.ensures.value) c.args.self.now.within

@@ -10,3 +10,6 @@ returns g c =
     (λ lasts are. are ∙ lasts_are g.R.TraceReader.names input.each.items asked input.views.items
     last asks.views ended.lasts)
     (rw (c.deref.ensures.value, c.deref-2.ensures.value) at c.lasts_of.ensures)
+
+pub lasts_of-requires : goal.lasts_of-requires
+lasts_of-requires g c = rw (c.deref.ensures.value, c.deref-2.ensures.value) c.args.self.now.within

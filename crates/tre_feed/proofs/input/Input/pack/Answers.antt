@@ -1,6 +1,5 @@
 use Rattle.std.proofs.Common.{◌∙◌, ◌<◌, length, ap}
 use Rattle.std.proofs.lemmas.List.Elements.{recursion_from_All}
-use Rattle.tre_feed.specs.Each.{groups_in}
 use Rattle.tre_feed.specs.Packing.{packed_behind}
 use Rattle.tre_feed.specs.Seen.{rows_in}
 use Rattle.tre_feed.specs.Shares.{group_of}

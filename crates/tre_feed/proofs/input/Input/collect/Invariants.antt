@@ -2,17 +2,17 @@ use Rattle.std.proofs.Common.{◌≡◌, ◌+◌, ◌-◌, [], true}
 use Rattle.tre_feed.specs.Packing.{ArePacked}
 use Rattle.tre_feed.specs.Standing.{IsAsked, Wait, WereFed, recording_of}
 use Rattle.tre_feed.proofs.Collected.{IsCollected}
-use Rattle.tre_feed.proofs.input.Input.read_traces.Given as goal
+use Rattle.tre_feed.proofs.input.Input.collect.Given as goal
 
 -- the bytes so far were fed as far as the limit, what they say is packed, and nothing waits; no
 -- fault was counted, and the input is asked what it was
-abbrev pub invariant-loop-room : goal.invariant-loop-room
-invariant-loop-room g l =
+abbrev pub invariant-loop-more : goal.invariant-loop-more
+invariant-loop-more g l =
     let source = g.S.Source in
     let reader = g.R.TraceReader in
     record {
       collected : IsCollected (WereFed reader.terms reader.represents l.self)
-          (ArePacked reader.names l.self l.traces.items)
+          (ArePacked reader.names l.self l.traces)
           (recording_of reader.recording reader.terms l.self)
           l.self.limit (source.told l.fn.source).file (source.told l.source).left
           (source.told l.source).found
@@ -24,5 +24,5 @@ invariant-loop-room g l =
       no_fault : (source.told l.source).faults ≡ (source.told l.fn.source).faults;
     }
 
-abbrev pub decreases-loop-room : goal.decreases-loop-room
-decreases-loop-room g l = l.self.limit + 1 - l.self.taken
+abbrev pub decreases-loop-more : goal.decreases-loop-more
+decreases-loop-more g l = l.self.limit + 1 - l.self.taken

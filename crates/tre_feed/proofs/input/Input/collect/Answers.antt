@@ -1,0 +1,193 @@
+use Rattle.std.proofs.Common.{◌∙◌, ◌++◌, Bool, false, true, [], List, Err, take, refl, ap, subst}
+use Rattle.std.proofs.lemmas.Result.{err_from_is_err_and}
+use Rattle.tre_trace.specs.Reading.{Stretch, segments_for}
+use Rattle.tre_trace.specs.Trace.{IsTrace}
+use Rattle.tre_feed.specs.Input.{HasReadCause, input_told}
+use Rattle.tre_feed.specs.Packing.{ArePacked}
+use Rattle.tre_feed.specs.Standing.{Wait, WereFed, recording_of}
+use Rattle.tre_feed.proofs.Collected.{HasRead-bounded, IsCollected-as, IsCollected-more, IsWhole-ended, StopsReading-turn, StopsReading-unread, starts_by, told_more, told_start, traces_by}
+use Rattle.tre_feed.proofs.Seeing.{ArePacked-kept}
+use Rattle.tre_feed.proofs.Standing.{faultless_by}
+use Rattle.tre_feed.proofs.input.Input.collect.Goals as goal
+
+pub returns-in_err-open-clause-stops : goal.returns-in_err-open-clause-stops
+returns-in_err-open-clause-stops g c =
+    let p = err_from_is_err_and c.from_residual.result
+    c.from_residual.ensures.1 in
+    let reader = g.R.TraceReader in
+    let input = input_told (g.S.Source.told c.args.source.now)
+    (g.S.Source.told c.open.new.source) in
+    rw (p.1, p.2) (StopsReading-unread (recording_of reader.recording reader.terms c.args.self.now)
+    c.args.self.now.limit c.args.name.now input c.in_err-open.field-0.0 c.in_err-open.ensures.read
+    (faultless_by reader.terms reader.recording reader.represents
+    g.met.R.TraceReader.faultless c.args.self.now.each.items [] c.requires.new.fed)
+    c.in_err-open.ensures.refused c.in_err-open.ensures.cause
+    (λ good named is. c.in_err-open.ensures.sound good named (ap Err is)))
+
+pub loop-more-init : goal.loop-more-init
+loop-more-init g c =
+    let reader = g.R.TraceReader in
+    record {
+      collected = record {
+        bytes = [];
+        fed = c.in_ok-open.ensures.fed c.requires.new;
+        told = told_start (ArePacked reader.names c.args.self.now c.args.traces.now)
+            (recording_of reader.recording reader.terms c.args.self.now) c.args.self.now.limit
+            (starts_by reader.terms reader.recording g.met.R.TraceReader.starts
+            c.args.self.now.each.items)
+            c.requires.empty;
+      };
+      none = c.requires.new.none;
+      same = record { asks = λ asked asks. asks; said = refl; limit = refl };
+      opened = c.in_ok-open.ensures.opened;
+      sound = c.in_ok-open.ensures.same_sound;
+      no_fault = c.in_ok-open.ensures.cause;
+    }
+
+pub next-requires-clause-reads_on : goal.next-requires-clause-reads_on
+next-requires-clause-reads_on g c =
+    let so_far = c.loop-more.invariant.collected in
+    record { bytes = so_far.bytes; size = so_far.fed.size; fed = so_far.fed.fed }
+
+pub returns-in_err-more-clause-stops : goal.returns-in_err-more-clause-stops
+returns-in_err-more-clause-stops g c =
+    let p = err_from_is_err_and c.from_residual-in_err-more.result
+    c.from_residual-in_err-more.ensures.1 in
+    let reader = g.R.TraceReader in
+    let inv = c.loop-more.invariant in
+    let so_far = inv.collected in
+    let file = (g.S.Source.told c.args.source.now).file in
+    let input = input_told (g.S.Source.told c.args.source.now)
+    (g.S.Source.told c.next.new.source) in
+    rw (p.1, p.2) (StopsReading-turn (recording_of reader.recording reader.terms c.args.self.now)
+    c.args.self.now.limit c.args.name.now input so_far.bytes (Wait reader.names c.loop-more.self)
+    (Wait reader.names c.next.new.self) c.in_err-more.field-0.0
+    (c.next.ensures.same_opened ∙ inv.opened)
+    (subst (λ n. HasReadCause {T = Bool} n input.now.faults (Err c.in_err-more.field-0.0))
+    inv.no_fault c.in_err-more.ensures.cause)
+    (λ good is. c.in_err-more.ensures.sound (rw inv.sound good) (ap Err is))
+    (rw (inv.same.said, inv.same.limit) at (faultless_by reader.terms reader.recording
+    reader.represents g.met.R.TraceReader.faultless c.loop-more.self.each.items
+    (take c.loop-more.self.limit so_far.bytes) so_far.fed.fed))
+    (rw (inv.same.said, inv.same.limit) at
+    (c.in_err-more.ensures.ends file so_far.bytes so_far.fed)))
+
+pub returns-in_err-more-clause-bounded : goal.returns-in_err-more-clause-bounded
+returns-in_err-more-clause-bounded g c =
+    let inv = c.loop-more.invariant in
+    let so_far = inv.collected in
+    let file = (g.S.Source.told c.args.source.now).file in
+    λ opened. HasRead-bounded (rw inv.same.limit at
+    (c.in_err-more.ensures.read file so_far.bytes so_far.fed))
+
+pub pack-requires : goal.pack-requires
+pack-requires g c =
+    let reader = g.R.TraceReader in
+    let inv = c.loop-more.invariant in
+    let so_far = inv.collected in
+    let old = c.loop-more.self in
+    let file = (g.S.Source.told c.args.source.now).file in
+    let read = c.in_ok-more.ensures.read file so_far.bytes so_far.fed in
+    record {
+      told = (recording_of reader.recording reader.terms old false
+          (take old.limit so_far.bytes)).stretches;
+      waiting = read.adds.added;
+      packed = ArePacked-kept reader.names old c.next.new.self c.loop-more.traces _
+          c.in_ok-more.ensures.views so_far.told;
+      wait = read.adds.then [] inv.none;
+      is_trace = λ asked. subst (λ (all : List Stretch). IsTrace (segments_for asked all))
+          read.adds.beyond
+          (traces_by reader.terms reader.recording g.met.R.TraceReader.is_trace old.each.items
+          read.closed (take old.limit (so_far.bytes ++ read.piece)) asked);
+    }
+
+pub returns-in_err-pack-clause-bounded : goal.returns-in_err-pack-clause-bounded
+returns-in_err-pack-clause-bounded g c =
+    let inv = c.loop-more.invariant in
+    let so_far = inv.collected in
+    let file = (g.S.Source.told c.args.source.now).file in
+    λ opened. HasRead-bounded (rw inv.same.limit at
+    (c.in_ok-more.ensures.read file so_far.bytes so_far.fed))
+
+pub loop-more-preserved : goal.loop-more-preserved
+loop-more-preserved g c =
+    let reader = g.R.TraceReader in
+    let source = g.S.Source in
+    let inv = c.loop-more.invariant in
+    let so_far = inv.collected in
+    let file = (source.told c.args.source.now).file in
+    let old = c.loop-more.self in
+    let mid = c.next.new.self in
+    let new = c.clear.new.self in
+    let said = recording_of reader.recording reader.terms old in
+    let told = (said false (take old.limit so_far.bytes)).stretches in
+    let traces = c.loop-more.traces in
+    let packed = ArePacked-kept reader.names old mid traces told c.in_ok-more.ensures.views
+    so_far.told in
+    let pack : (added : List Stretch) → Wait reader.names mid added
+    → ArePacked reader.names new c.pack.new.traces (told ++ added) =
+    λ added wait. ArePacked-kept reader.names mid new c.pack.new.traces (told ++ added)
+    c.clear.ensures.views (c.in_ok-pack.ensures told added packed wait) in
+    let same = c.in_ok-more.ensures.same in
+    let cleared = c.clear.ensures.same in
+    let read = IsCollected-more said old.limit file (source.told c.next.new.source).left
+    (source.told c.next.new.source).found mid.taken new.taken so_far.bytes
+    (ArePacked reader.names new c.pack.new.traces)
+    (rw c.if-not-more.false at (c.in_ok-more.ensures.ends file so_far.bytes so_far.fed)) inv.none
+    pack c.clear.ensures.fed c.clear.ensures.taken in
+    record {
+      collected = IsCollected-as (WereFed reader.terms reader.represents new)
+          (ArePacked reader.names new) said (recording_of reader.recording reader.terms new)
+          old.limit new.limit c.pack.new.traces _ (cleared.said ∙ same.said)
+          (cleared.limit ∙ same.limit) refl read;
+      none = c.clear.ensures.none;
+      same = record {
+        asks = λ asked asks. cleared.asks asked (same.asks asked (inv.same.asks asked asks));
+        said = cleared.said ∙ same.said ∙ inv.same.said;
+        limit = cleared.limit ∙ same.limit ∙ inv.same.limit;
+      };
+      opened = c.next.ensures.same_opened ∙ inv.opened;
+      sound = c.next.ensures.same_sound ∙ inv.sound;
+      no_fault = c.in_ok-more.ensures.cause ∙ inv.no_fault;
+    }
+
+pub returns-clause-bounded : goal.returns-clause-bounded
+returns-clause-bounded g c =
+    let inv = c.loop-more.invariant in
+    let so_far = inv.collected in
+    let file = (g.S.Source.told c.args.source.now).file in
+    λ opened. HasRead-bounded (rw inv.same.limit at
+    (c.in_ok-more.ensures.read file so_far.bytes so_far.fed))
+
+pub returns-clause-read : goal.returns-clause-read
+returns-clause-read g c =
+    let reader = g.R.TraceReader in
+    let source = g.S.Source in
+    let inv = c.loop-more.invariant in
+    let so_far = inv.collected in
+    let file = (source.told c.args.source.now).file in
+    let old = c.loop-more.self in
+    let mid = c.next.new.self in
+    let new = c.clear.new.self in
+    let said = recording_of reader.recording reader.terms old in
+    let told = (said false (take old.limit so_far.bytes)).stretches in
+    let traces = c.loop-more.traces in
+    let packed = ArePacked-kept reader.names old mid traces told c.in_ok-more.ensures.views
+    so_far.told in
+    let pack : (added : List Stretch) → Wait reader.names mid added
+    → ArePacked reader.names new c.pack.new.traces (told ++ added) =
+    λ added wait. ArePacked-kept reader.names mid new c.pack.new.traces (told ++ added)
+    c.clear.ensures.views (c.in_ok-pack.ensures told added packed wait) in
+    let input = input_told (source.told c.args.source.now) (source.told c.next.new.source) in
+    let ended = rw c.if-not-more.true at
+    (c.in_ok-more.ensures.ends file so_far.bytes so_far.fed) in
+    let whole = said true so_far.bytes in
+    let all = told_more (ArePacked reader.names new c.pack.new.traces) ended.all inv.none pack in
+    λ asked asks.
+    rw (← inv.same.said, ← inv.same.limit) (IsWhole-ended asked said old.limit input so_far.bytes _
+    (c.next.ensures.same_opened ∙ inv.opened) (c.in_ok-more.ensures.cause ∙ inv.no_fault) ended
+    (c.end_traces.ensures asked whole (c.clear.ensures.same.asks asked
+    (c.in_ok-more.ensures.same.asks asked (inv.same.asks asked asks))) all
+    (c.clear.ensures.ended whole.last ended.ended))
+    (traces_by reader.terms reader.recording g.met.R.TraceReader.is_trace old.each.items true
+    so_far.bytes))
