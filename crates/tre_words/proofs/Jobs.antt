@@ -7,7 +7,7 @@ use Rattle.clap.specs.Words.{Row, Text, fault_of, first_of, matches_of}
 use Rattle.tre_decimal.specs.Decimal.{is_numeral}
 use Rattle.tre_decimal.specs.declared.TheConstants.{SCALE_MAX}
 use Rattle.tre_words.specs.CommandLine.{command_line}
-use Rattle.tre_words.specs.Job.{DefinesFor, GivesJob, GivesPlain, GivesWatch, IsCount, IsJob, MayWatch, SaysJob, StandsTogether, begins_with, format_named, is_given, made_count, made_job, mode_in, number_written, watch_job}
+use Rattle.tre_words.specs.Job.{DefinesFor, GivesJob, GivesPlain, GivesWatch, IsCount, IsJob, MayStand, MayWatch, SaysJob, begins_with, format_named, is_given, made_count, made_job, mode_in, number_written, watch_job}
 use Rattle.tre_words.specs.declared.job.TheConstants.{COUNT_MAX, LIMIT_MAX}
 use Rattle.tre_words.specs.declared.job.Format.{Format}
 use Rattle.tre_words.specs.declared.job.Format.TheVariants.{Csv, Vcd}
@@ -51,7 +51,7 @@ job_parts : (job : Job) → job ≡ job_of job.mode job.format job.input job.max
 unfolding job_of
 job_parts job = refl
 
-said_once : (rows : List Row) (job other : Job) → SaysJob rows job → SaysJob rows other
+pub said_once : (rows : List Row) (job other : Job) → SaysJob rows job → SaysJob rows other
     → job ≡ other
 said_once rows job other says says' =
     let mode : job.mode ≡ other.mode = sym says.mode ∙ says'.mode in
@@ -158,9 +158,7 @@ flags_never_watch false false file e = cc
 -- what `clap` finds in words gives their job
 pub plain_from : (words : List Text) (rows : List Row) (job : Job) → rows ≡ rows_in words
     → fault_of command_line words ≡ [] → SaysJob rows job
-    → StandsTogether job × (job.format ≡ Csv → is_given (codes "online") rows ≡ false)
-    × DefinesFor job.format rows
-    → GivesPlain words job
+    → MayStand rows job → GivesPlain words job
 plain_from words rows job same faultless says stands = record {
   faultless = faultless;
   says = subst (λ (rows : List Row). SaysJob rows job) same says;
@@ -168,6 +166,20 @@ plain_from words rows job same faultless says stands = record {
   offline = λ csv. ap (is_given (codes "online")) (sym same) ∙ stands.1 csv;
   defines = subst (DefinesFor job.format) same stands.2;
 }
+
+-- and their job is what it finds
+pub plain_says : (words : List Text) (rows : List Row) (job : Job) → rows ≡ rows_in words
+    → GivesPlain words job → SaysJob rows job
+plain_says words rows job same gives =
+    subst (λ (rows : List Row). SaysJob rows job) (sym same) gives.says
+
+pub plain_stands : (words : List Text) (rows : List Row) (job : Job) → rows ≡ rows_in words
+    → GivesPlain words job → MayStand rows job
+plain_stands words rows job same gives = (
+  gives.together,
+  λ csv. ap (is_given (codes "online")) same ∙ gives.offline csv,
+  subst (DefinesFor job.format) (sym same) gives.defines,
+)
 
 pub from_options : (words : List Text) (job : Job) → GivesPlain words job → IsJob job
 from_options words job gives =
@@ -262,6 +274,28 @@ pub IsJob-given : (words : List Text) (job : Job) → GivesJob words job → IsJ
 IsJob-given words job gives =
     from_words (begins_with (codes "--generate") words) (begins_with (codes "--watch") words) words
     job gives.gives
+
+-- ---- the first word
+
+abbrev made_first : List Text → Bool
+made_first words = begins_with (codes "--generate") words
+
+abbrev watch_first : List Text → Bool
+watch_first words = begins_with (codes "--watch") words
+
+pub first_made : (words : List Text) (job : Job) → made_first words ≡ true
+    → option_map made_job (made_count words) ≡ Some job → GivesJob words job
+first_made words job is gives = record {
+  gives = subst (λ (b : Bool). GivesWhere b (watch_first words) words job) (sym is) gives;
+}
+
+pub first_made-none : (words : List Text) (job : Job) → made_first words ≡ true
+    → made_count words ≡ None → GivesJob words job → ⊥
+first_made-none words job is none gives =
+    let made : option_map made_job (made_count words) ≡ Some job =
+    subst (λ (b : Bool). GivesWhere b (watch_first words) words job) is gives.gives in
+    let given : None ≡ Some job = sym (ap (option_map made_job) none) ∙ made in
+    cc
 
 -- ---- options that stand apart
 

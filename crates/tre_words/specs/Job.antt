@@ -105,6 +105,13 @@ pub record DefinesFor (format : Format) (rows : List Row) : Type 0 where
   pub columns : format ≢ Csv → first_of (codes "let") rows ≡ None
   pub signals : format ≢ Vcd → first_of (codes "define") rows ≡ None
 
+-- What these values say may stand so. Columns stand beside no `--online`, also where `--show`
+-- counts.
+abbrev pub MayStand : List Row → Job → Type 0
+MayStand rows job =
+    StandsTogether job × (job.format ≡ Csv → is_given (codes "online") rows ≡ false)
+    × DefinesFor job.format rows
+
 -- Words that are options and a pattern's text give this job: `clap` has no fault of its own for
 -- them, the values of the options that it finds say this job, and it may stand so. Columns stand
 -- beside no `--online`, also where `--show` counts.

@@ -14,7 +14,7 @@ pub const LIMIT_DEFAULT: u64 = 1 << 30;
 pub const COUNT_MAX: u64 = 10_000;
 
 /// What a run does.
-#[derive(Debug, Drop)]
+#[derive(Drop)]
 pub enum Mode {
     /// It tells the matches over the whole input.
     Offline,
@@ -35,7 +35,7 @@ pub enum Mode {
 }
 
 /// How the input tells a trace.
-#[derive(Clone, Copy, Debug, PartialEq, Eq)]
+#[derive(Clone, Copy, PartialEq, Eq)]
 pub enum Format {
     /// Lines of a duration and names.
     Text,
@@ -46,7 +46,7 @@ pub enum Format {
 }
 
 /// A word of the command line, seen as its bytes.
-#[derive(Debug, Drop)]
+#[derive(Drop)]
 pub struct Word {
     text: String,
 }
@@ -76,7 +76,7 @@ impl Word {
 }
 
 /// What the words of the command line ask for.
-#[derive(Debug, Drop)]
+#[derive(Drop)]
 pub struct Job {
     pub mode: Mode,
     pub format: Format,

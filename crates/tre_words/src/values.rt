@@ -136,16 +136,20 @@ pub(crate) fn job_in(alloc: Global, matches: &ArgMatches) -> Result<Job, WordsFa
     let Some(expr) = value_of(matches, "EXPR") else {
         return Err(WordsFault::Usage);
     };
+    let input = Word::new(alloc, input)?;
+    let expr = Word::new(alloc, expr)?;
+    let minus = word_in(alloc, matches, "minus")?;
+    let lets = lets_in(alloc, matches)?;
     Ok(Job {
         mode: mode_in(matches),
         format,
-        input: Word::new(alloc, input)?,
+        input,
         max_bytes,
         scale,
         normal: is_given(matches, "normal"),
         max_zones,
-        minus: word_in(alloc, matches, "minus")?,
-        lets: lets_in(alloc, matches)?,
-        expr: Word::new(alloc, expr)?,
+        minus,
+        lets,
+        expr,
     })
 }

@@ -1,7 +1,7 @@
 // The words of the command line.
 ghost use Rattle.std.specs.Prelude.{◌≡◌, ◌↔◌, map, string_bytes, IfOk, IsErrOf, Some, None, true, false, codes, option_map};
 ghost use Rattle.clap.specs.Words.{found_of, rows_of};
-ghost use Rattle.tre_words.specs.Job.{begins_with, is_given, made_count, made_job, watch_job, DefinesFor, StandsTogether, IsJob, MayWatch, GivesPlain, GivesWatch, GivesJob, GivesNoJob};
+ghost use Rattle.tre_words.specs.Job.{begins_with, is_given, made_count, made_job, watch_job, DefinesFor, StandsTogether, MayStand, IsJob, MayWatch, SaysJob, GivesPlain, GivesWatch, GivesJob, GivesNoJob};
 ghost use Rattle.tre_words.specs.declared.job.Format.TheVariants.{Csv};
 ghost use Rattle.tre_words.specs.declared.job.Job.{Job};
 
@@ -41,14 +41,27 @@ fn defines_for(format: Format, matches: &ArgMatches) -> bool
 
 // Whether what the values of the options say may stand so.
 fn may_stand(matches: &ArgMatches, job: &Job) -> bool
-    ensures { result ≡ true ↔ StandsTogether job.now × (job.now.format ≡ Csv →
-        is_given (codes "online") (rows_of (found_of matches.now)) ≡ false)
-        × DefinesFor job.now.format (rows_of (found_of matches.now)) }
+    ensures { result ≡ true ↔ MayStand (rows_of (found_of matches.now)) job.now }
 {
     if job.format == Format::Csv && is_given(matches, "online") {
         return false;
     }
     defines_for(job.format, matches) && stands_together(job)
+}
+
+// The job that the values of the options say, where it may stand so.
+fn plain_job(alloc: Global, matches: &ArgMatches) -> Result<Job, WordsFault>
+    ensures ok { IfOk result (λ job. SaysJob (rows_of (found_of matches.now)) job
+        × MayStand (rows_of (found_of matches.now)) job) }
+    ensures usage { IsErrOf result WordsFault.Usage → (job : Job) →
+        SaysJob (rows_of (found_of matches.now)) job →
+        ¬ MayStand (rows_of (found_of matches.now)) job }
+{
+    let job = job_in(alloc, matches)?;
+    if !may_stand(matches, &job) {
+        return Err(WordsFault::Usage);
+    }
+    Ok(job)
 }
 
 // Reads words that `clap` reads.
@@ -59,11 +72,7 @@ fn read_options(alloc: Global, words: &[String]) -> Result<Job, WordsFault>
         ¬ GivesPlain (map string_bytes words.now) job }
 {
     let matches = parse_words(alloc, words)?;
-    let job = job_in(alloc, &matches)?;
-    if !may_stand(&matches, &job) {
-        return Err(WordsFault::Usage);
-    }
-    Ok(job)
+    plain_job(alloc, &matches)
 }
 
 // Whether the job of the words behind `--watch` may be that of a watch.
@@ -82,9 +91,10 @@ fn may_watch(plain: &Job) -> bool
 fn watch_job(alloc: Global, plain: Job) -> Result<Job, AllocError>
     ensures { IfOk result (λ job. job ≡ watch_job plain) }
 {
+    let expr = Word::new(alloc, "")?;
     Ok(Job {
         mode: Mode::Watch { file: plain.expr },
-        expr: Word::new(alloc, "")?,
+        expr,
         ..plain
     })
 }
@@ -127,17 +137,19 @@ fn made_count(words: &[String]) -> Option<u64>
 fn made_job(alloc: Global, count: u64) -> Result<Job, AllocError>
     ensures { IfOk result (λ job. job ≡ made_job count) }
 {
+    let input = Word::new(alloc, "-")?;
+    let expr = Word::new(alloc, "")?;
     Ok(Job {
         mode: Mode::Generate { count },
         format: Format::Text,
-        input: Word::new(alloc, "-")?,
+        input,
         max_bytes: LIMIT_DEFAULT,
         scale: 0,
         normal: false,
         max_zones: None,
         minus: None,
         lets: None,
-        expr: Word::new(alloc, "")?,
+        expr,
     })
 }
 
@@ -167,13 +179,10 @@ pub fn read_words(alloc: Global, words: &[String]) -> Result<Job, WordsFault>
     ensures usage { IsErrOf result WordsFault.Usage → GivesNoJob (map string_bytes words.now) }
 {
     if begins_with(words, "--generate") {
-        let job = read_made_run(alloc, words)?;
-        return Ok(job);
+        return read_made_run(alloc, words);
     }
     if begins_with(words, "--watch") {
-        let job = read_watch(alloc, &words[1..])?;
-        return Ok(job);
+        return read_watch(alloc, &words[1..]);
     }
-    let job = read_options(alloc, words)?;
-    Ok(job)
+    read_options(alloc, words)
 }

@@ -1,16 +1,20 @@
 use Rattle.std.proofs.Common.{map, string_bytes}
-use Rattle.tre_words.proofs.Jobs.{from_options, plain_from}
+use Rattle.std.proofs.lemmas.Result.{IfOk-weaker}
+use Rattle.tre_words.proofs.Jobs.{from_options, plain_from, plain_says, plain_stands}
 use Rattle.tre_words.proofs.words.read_options.Goals as goal
 
 pub returns-clause-ok : goal.returns-clause-ok
-returns-clause-ok c =
-    plain_from (map string_bytes c.args.words.now) _ c.in_ok-job.job c.in_ok-matches.ensures.matches
-    c.in_ok-matches.ensures.faultless c.in_ok-job.ensures.ok
-    (c.may_stand.ensures.0 c.if-not-may_stand.false)
+returns-clause-ok c = IfOk-weaker c.plain_job.result _ _ (λ job is.
+    plain_from (map string_bytes c.args.words.now) _ job c.in_ok-matches.ensures.matches
+    c.in_ok-matches.ensures.faultless is.0 is.1) c.plain_job.ensures.ok
 
 pub returns-clause-is_job : goal.returns-clause-is_job
-returns-clause-is_job c =
-    from_options (map string_bytes c.args.words.now) c.in_ok-job.job
-    (plain_from (map string_bytes c.args.words.now) _ c.in_ok-job.job
-    c.in_ok-matches.ensures.matches c.in_ok-matches.ensures.faultless c.in_ok-job.ensures.ok
-    (c.may_stand.ensures.0 c.if-not-may_stand.false))
+returns-clause-is_job c = IfOk-weaker c.plain_job.result _ _ (λ job is.
+    from_options (map string_bytes c.args.words.now) job
+    (plain_from (map string_bytes c.args.words.now) _ job c.in_ok-matches.ensures.matches
+    c.in_ok-matches.ensures.faultless is.0 is.1)) c.plain_job.ensures.ok
+
+pub returns-clause-usage : goal.returns-clause-usage
+returns-clause-usage c = λ usage job gives. c.plain_job.ensures.usage usage job
+    (plain_says (map string_bytes c.args.words.now) _ job c.in_ok-matches.ensures.matches gives)
+    (plain_stands (map string_bytes c.args.words.now) _ job c.in_ok-matches.ensures.matches gives)
