@@ -17,7 +17,6 @@ use Rattle.tre_syntax.proofs.CutMeaning.{Scales-rest}
 use Rattle.tre_syntax.proofs.MeaningLaws.{DurationScales-LastsWithin}
 use Rattle.tre_trace.specs.Trace.{Timeline}
 use Rattle.tre_zone.specs.Interval.{IntervalEnds, LastsWithin}
-use Rattle.tre_zone.specs.Longest.{LastsUpTo}
 use Rattle.tre_zone.specs.Zone.{IsInstantBetween, HoldsSome}
 use Rattle.tre_zone.specs.ZoneList.{SetHolds, AreTight, HoldExactly}
 use Rattle.tre_zone.proofs.LatestEnds.{latest_at}
@@ -109,6 +108,22 @@ unbegun_atom x = record {
   bare = (refl, refl);
   nothing = nothing_atom;
   well = λ time. record { well = (end_at_none time, begun_none time x) };
+}
+
+pub unbegun_sequence : (one other : MarkTree) (left right : PatternTree) → IsUnbegun one left
+    → IsUnbegun other right → IsUnbegun (sequence_mark one other) (sequence left right)
+unbegun_sequence one other left right first second = record {
+  bare = (first.bare, second.bare);
+  nothing = nothing_sequence one other first.nothing second.nothing;
+  well = λ time. record { well = ((first.well time).well, (second.well time).well) };
+}
+
+pub unbegun_alternation : (one other : MarkTree) (left right : PatternTree) → IsUnbegun one left
+    → IsUnbegun other right → IsUnbegun (alternation_mark one other) (alternation left right)
+unbegun_alternation one other left right first second = record {
+  bare = (first.bare, second.bare);
+  nothing = nothing_alternation one other first.nothing second.nothing;
+  well = λ time. record { well = ((first.well time).well, (second.well time).well) };
 }
 
 pub unbegun_repetition : (body : MarkTree) (tree : PatternTree) → IsUnbegun body tree
@@ -248,6 +263,26 @@ module _ (time : ℕ) (zones : List ZoneBounds) (ends : EndAt time zones) where
     takes = λ before.
         (first.takes before, bare_open (since time before []) other right second.bare);
     short = λ longest last. (first.short longest last, bare_short longest other second.bare);
+  }
+
+  pub start_alternation : (one other : MarkTree) (left right : PatternTree)
+      → IsStart time zones one left → IsStart time zones other right
+      → IsStart time zones (alternation_mark one other) (alternation left right)
+  start_alternation one other left right first second = record {
+    pairs = λ before next a b n some.
+        let p = first.pairs before next a b n some in
+        let q = second.pairs before next a b n some in (
+          (λ h. ⊎_elim
+              (λ x. let y = p.0 x in record { left = y.left; right = inl y.right })
+              (λ x. let y = q.0 x in record { left = y.left; right = inr y.right }) h),
+          (λ h. ⊎_elim (λ x. inl (p.1 (record { left = h.left; right = x })))
+              (λ x. inr (q.1 (record { left = h.left; right = x }))) h.right),
+        );
+    well = record { well = (first.well.well, second.well.well) };
+    entered = (first.entered, second.entered);
+    some = λ filled bare. first.some filled bare.0;
+    takes = λ before. (first.takes before, second.takes before);
+    short = λ longest last. (first.short longest last, second.short longest last);
   }
 
   pub start_repetition : (body : MarkTree) (tree : PatternTree) → IsUnbegun body tree

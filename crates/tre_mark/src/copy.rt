@@ -1,8 +1,9 @@
 ghost use Rattle.std.specs.Prelude.{◌≡◌, IfOk};
-ghost use Rattle.tre_mark.specs.MarkTree.{mark_of};
+ghost use Rattle.tre_mark.specs.MarkTree.{mark_of, atom_mark};
 
-use crate::forms::{alternation, atom, intersection, repetition, restriction, sequence};
-use crate::mark::Mark;
+use crate::boxes::{boxed, boxes};
+use crate::forms::{atom, intersection_behind, repetition_behind, restriction_behind};
+use crate::mark::{Mark, Room};
 use std::alloc::{AllocError, Global};
 use tre_zone::Zone;
 
@@ -12,25 +13,26 @@ impl Mark {
         ensures { IfOk result (λ copy. mark_of copy ≡ mark_of self.now) }
     {
         match self {
-            Mark::Atom { here, begun, .. } => {
-                let here = copied(alloc, here)?;
-                let begun = copied(alloc, begun)?;
-                Ok(atom(alloc, here, begun))
-            }
+            Mark::Atom { here, begun, .. } => copied_atom(alloc, here, begun),
             Mark::Seq { left, right, .. } => {
-                let left = left.try_clone(alloc)?;
-                let right = right.try_clone(alloc)?;
-                sequence(alloc, left, right)
+                let left = left.try_clone(alloc);
+                let right = right.try_clone(alloc);
+                let (left, right) = boxes(alloc, left, right)?;
+                Ok(Mark::Seq {
+                    left,
+                    right,
+                    room: Room::new(alloc),
+                })
             }
             Mark::Alt(left, right) => {
-                let left = left.try_clone(alloc)?;
-                let right = right.try_clone(alloc)?;
-                alternation(alloc, left, right)
+                let left = left.try_clone(alloc);
+                let right = right.try_clone(alloc);
+                let (left, right) = boxes(alloc, left, right)?;
+                Ok(Mark::Alt(left, right))
             }
             Mark::Star { here, body, .. } => {
-                let here = copied(alloc, here)?;
-                let body = body.try_clone(alloc)?;
-                repetition(alloc, here, body)
+                let body = boxed(alloc, body.try_clone(alloc))?;
+                repetition_behind(alloc, here, body)
             }
             Mark::Meet {
                 to,
@@ -39,10 +41,10 @@ impl Mark {
                 right,
                 ..
             } => {
-                let outer = copied(alloc, outer)?;
-                let left = left.try_clone(alloc)?;
-                let right = right.try_clone(alloc)?;
-                intersection(alloc, *to, outer, left, right)
+                let left = left.try_clone(alloc);
+                let right = right.try_clone(alloc);
+                let (left, right) = boxes(alloc, left, right)?;
+                intersection_behind(alloc, *to, outer, left, right)
             }
             Mark::Within {
                 to,
@@ -50,12 +52,20 @@ impl Mark {
                 body,
                 ..
             } => {
-                let outer = copied(alloc, outer)?;
-                let body = body.try_clone(alloc)?;
-                restriction(alloc, *to, outer, body)
+                let body = boxed(alloc, body.try_clone(alloc))?;
+                restriction_behind(alloc, *to, outer, body)
             }
         }
     }
+}
+
+// The mark of an atom, of copies of these zones.
+fn copied_atom(alloc: Global, here: &[Zone], begun: &[Zone]) -> Result<Mark, AllocError>
+    ensures { IfOk result (λ copy. mark_of copy ≡ atom_mark here.now begun.now) }
+{
+    let here = copied(alloc, here)?;
+    let begun = copied(alloc, begun)?;
+    Ok(atom(alloc, here, begun))
 }
 
 /// The same zones once more.

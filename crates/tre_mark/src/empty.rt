@@ -4,8 +4,9 @@ ghost use Rattle.tre_syntax.specs.PatternTree.{Atom, atom};
 ghost use Rattle.tre_mark.specs.MarkTree.{mark_of};
 ghost use Rattle.tre_mark.specs.Marked.{IsUnbegun};
 
-use crate::forms::{alternation, atom, intersection, repetition, restriction, sequence};
-use crate::mark::Mark;
+use crate::boxes::{boxed, boxes};
+use crate::forms::{atom, intersection_behind, repetition_behind, restriction_behind};
+use crate::mark::{Mark, Room};
 use std::alloc::{AllocError, Global};
 use tre_syntax::Expr;
 
@@ -23,27 +24,34 @@ impl Mark {
             Expr::Fall(_) => Ok(no_atom(alloc)),
             Expr::Event(_) => Ok(no_atom(alloc)),
             Expr::Seq(left, right) => {
-                let left = Mark::empty(alloc, left)?;
-                let right = Mark::empty(alloc, right)?;
-                sequence(alloc, left, right)
+                let left = Mark::empty(alloc, left);
+                let right = Mark::empty(alloc, right);
+                let (left, right) = boxes(alloc, left, right)?;
+                Ok(Mark::Seq {
+                    left,
+                    right,
+                    room: Room::new(alloc),
+                })
             }
             Expr::Alt(left, right) => {
-                let left = Mark::empty(alloc, left)?;
-                let right = Mark::empty(alloc, right)?;
-                alternation(alloc, left, right)
+                let left = Mark::empty(alloc, left);
+                let right = Mark::empty(alloc, right);
+                let (left, right) = boxes(alloc, left, right)?;
+                Ok(Mark::Alt(left, right))
             }
             Expr::Star(body) => {
-                let body = Mark::empty(alloc, body)?;
-                repetition(alloc, Vec::new(alloc), body)
+                let body = boxed(alloc, Mark::empty(alloc, body))?;
+                repetition_behind(alloc, &[], body)
             }
             Expr::Meet(left, right) => {
-                let left = Mark::empty(alloc, left)?;
-                let right = Mark::empty(alloc, right)?;
-                intersection(alloc, 0, Vec::new(alloc), left, right)
+                let left = Mark::empty(alloc, left);
+                let right = Mark::empty(alloc, right);
+                let (left, right) = boxes(alloc, left, right)?;
+                intersection_behind(alloc, 0, &[], left, right)
             }
             Expr::Within(body, _) => {
-                let body = Mark::empty(alloc, body)?;
-                restriction(alloc, 0, Vec::new(alloc), body)
+                let body = boxed(alloc, Mark::empty(alloc, body))?;
+                restriction_behind(alloc, 0, &[], body)
             }
         }
     }

@@ -5,6 +5,8 @@ ghost use Rattle.tre_zone.specs.Zone.{IsInstantBetween};
 ghost use Rattle.tre_zone.specs.ZoneList.{HoldExactly};
 ghost use Rattle.tre_mark.specs.MarkTree.{atom_mark, sequence_mark, alternation_mark, repetition_mark, intersection_of, restriction_of, mark_of};
 
+use crate::boxes::{boxed, boxes};
+use crate::copy::copied;
 use crate::mark::{Mark, Room};
 use std::alloc::{AllocError, Global};
 use tre_zone::Zone;
@@ -25,8 +27,7 @@ pub fn atom(alloc: Global, here: Vec<Zone>, begun: Vec<Zone>) -> Mark
 pub fn sequence(alloc: Global, left: Mark, right: Mark) -> Result<Mark, AllocError>
     ensures { IfOk result (λ mark. mark_of mark ≡ sequence_mark (mark_of left) (mark_of right)) }
 {
-    let left = Box::new(alloc, left)?;
-    let right = Box::new(alloc, right)?;
+    let (left, right) = boxes(alloc, Ok(left), Ok(right))?;
     Ok(Mark::Seq {
         left,
         right,
@@ -38,8 +39,7 @@ pub fn sequence(alloc: Global, left: Mark, right: Mark) -> Result<Mark, AllocErr
 pub fn alternation(alloc: Global, left: Mark, right: Mark) -> Result<Mark, AllocError>
     ensures { IfOk result (λ mark. mark_of mark ≡ alternation_mark (mark_of left) (mark_of right)) }
 {
-    let left = Box::new(alloc, left)?;
-    let right = Box::new(alloc, right)?;
+    let (left, right) = boxes(alloc, Ok(left), Ok(right))?;
     Ok(Mark::Alt(left, right))
 }
 
@@ -47,7 +47,7 @@ pub fn alternation(alloc: Global, left: Mark, right: Mark) -> Result<Mark, Alloc
 pub fn repetition(alloc: Global, here: Vec<Zone>, body: Mark) -> Result<Mark, AllocError>
     ensures { IfOk result (λ mark. mark_of mark ≡ repetition_mark here.items (mark_of body)) }
 {
-    let body = Box::new(alloc, body)?;
+    let body = boxed(alloc, Ok(body))?;
     Ok(Mark::Star {
         here,
         body,
@@ -67,8 +67,7 @@ pub fn intersection(
     ensures { IfOk result (λ mark.
         mark_of mark ≡ intersection_of to outer.items (mark_of left) (mark_of right)) }
 {
-    let left = Box::new(alloc, left)?;
-    let right = Box::new(alloc, right)?;
+    let (left, right) = boxes(alloc, Ok(left), Ok(right))?;
     Ok(Mark::Meet {
         to,
         outer,
@@ -83,7 +82,64 @@ pub fn intersection(
 pub fn restriction(alloc: Global, to: u64, outer: Vec<Zone>, body: Mark) -> Result<Mark, AllocError>
     ensures { IfOk result (λ mark. mark_of mark ≡ restriction_of to outer.items (mark_of body)) }
 {
-    let body = Box::new(alloc, body)?;
+    let body = boxed(alloc, Ok(body))?;
+    Ok(Mark::Within {
+        to,
+        outer,
+        body,
+        room: Room::new(alloc),
+    })
+}
+
+/// The mark of a repetition, behind copies of these zones.
+pub(crate) fn repetition_behind(
+    alloc: Global,
+    here: &[Zone],
+    body: Box<Mark>,
+) -> Result<Mark, AllocError>
+    ensures { IfOk result (λ mark.
+        mark_of mark ≡ repetition_mark here.now (mark_of body.value)) }
+{
+    let here = copied(alloc, here)?;
+    Ok(Mark::Star {
+        here,
+        body,
+        room: Room::new(alloc),
+    })
+}
+
+/// The mark of an intersection, behind copies of these zones.
+pub(crate) fn intersection_behind(
+    alloc: Global,
+    to: u64,
+    outer: &[Zone],
+    left: Box<Mark>,
+    right: Box<Mark>,
+) -> Result<Mark, AllocError>
+    ensures { IfOk result (λ mark.
+        mark_of mark ≡ intersection_of to outer.now (mark_of left.value) (mark_of right.value)) }
+{
+    let outer = copied(alloc, outer)?;
+    Ok(Mark::Meet {
+        to,
+        outer,
+        left,
+        right,
+        room: Room::new(alloc),
+    })
+}
+
+/// The mark of a restriction, behind copies of these zones.
+pub(crate) fn restriction_behind(
+    alloc: Global,
+    to: u64,
+    outer: &[Zone],
+    body: Box<Mark>,
+) -> Result<Mark, AllocError>
+    ensures { IfOk result (λ mark.
+        mark_of mark ≡ restriction_of to outer.now (mark_of body.value)) }
+{
+    let outer = copied(alloc, outer)?;
     Ok(Mark::Within {
         to,
         outer,

@@ -11,6 +11,7 @@
 //! ```
 #![tactic(auto)]
 
+mod boxes;
 mod copy;
 mod empty;
 mod forms;

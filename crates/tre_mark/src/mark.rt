@@ -6,7 +6,7 @@ use std::alloc::Global;
 use tre_zone::Zone;
 
 /// Vectors that a step works in. What is in them says nothing of the mark.
-#[derive(Debug, Drop)]
+#[derive(Drop)]
 pub struct Room {
     pub mid: Vec<Zone>,
     pub aux: Vec<Zone>,
@@ -26,7 +26,7 @@ impl Room {
 
 /// How far the matches of an expression that began up to a time have come, in the shape of the
 /// expression.
-#[derive(Debug, Drop)]
+#[derive(Drop)]
 pub enum Mark {
     /// Of an atom: the pairs behind which it may begin now, and those whose literal holds until
     /// now. Each ends at the present time.

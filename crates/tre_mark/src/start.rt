@@ -6,9 +6,10 @@ ghost use Rattle.tre_syntax.specs.PatternTree.{Atom, atom};
 ghost use Rattle.tre_mark.specs.MarkTree.{mark_of};
 ghost use Rattle.tre_mark.specs.Marked.{IsStart};
 
+use crate::boxes::{boxed, boxes};
 use crate::copy::copied;
-use crate::forms::{alternation, atom, intersection, moments, repetition, restriction, sequence};
-use crate::mark::Mark;
+use crate::forms::{atom, intersection_behind, moments, repetition_behind, restriction_behind};
+use crate::mark::{Mark, Room};
 use std::alloc::{AllocError, Global};
 use tre_syntax::Expr;
 use tre_zoneset::ZoneSet;
@@ -34,36 +35,36 @@ impl Mark {
             Expr::Fall(_) => atom_at(alloc, zones),
             Expr::Event(_) => atom_at(alloc, zones),
             Expr::Seq(left, right) => {
-                let left = Mark::start(alloc, left, zones, time)?;
+                let left = boxed(alloc, Mark::start(alloc, left, zones, time))?;
                 let right = Mark::empty(alloc, right)?;
-                sequence(alloc, left, right)
+                let rest = boxed(alloc, Ok(right))?;
+                Ok(Mark::Seq {
+                    left,
+                    right: rest,
+                    room: Room::new(alloc),
+                })
             }
             Expr::Alt(left, right) => {
-                let left = Mark::start(alloc, left, zones, time)?;
-                let right = Mark::start(alloc, right, zones, time)?;
-                alternation(alloc, left, right)
+                let left = Mark::start(alloc, left, zones, time);
+                let right = Mark::start(alloc, right, zones, time);
+                let (left, right) = boxes(alloc, left, right)?;
+                Ok(Mark::Alt(left, right))
             }
             Expr::Star(body) => {
-                let body = Mark::empty(alloc, body)?;
-                let here = copied(alloc, zones.zones())?;
-                repetition(alloc, here, body)
+                let body = boxed(alloc, Mark::empty(alloc, body))?;
+                repetition_behind(alloc, zones.zones(), body)
             }
             Expr::Meet(left, right) => {
-                // For the proof: the call says that each zone holds a pair.
-                let _zones = zones.zones();
                 let moment = moments(alloc, time, time)?;
-                let left = Mark::start(alloc, left, &moment, time)?;
-                let right = Mark::start(alloc, right, &moment, time)?;
-                let outer = copied(alloc, zones.zones())?;
-                intersection(alloc, time, outer, left, right)
+                let left = Mark::start(alloc, left, &moment, time);
+                let right = Mark::start(alloc, right, &moment, time);
+                let (left, right) = boxes(alloc, left, right)?;
+                intersection_behind(alloc, time, zones.zones(), left, right)
             }
             Expr::Within(body, _) => {
-                // For the proof: the call says that each zone holds a pair.
-                let _zones = zones.zones();
                 let moment = moments(alloc, time, time)?;
-                let body = Mark::start(alloc, body, &moment, time)?;
-                let outer = copied(alloc, zones.zones())?;
-                restriction(alloc, time, outer, body)
+                let body = boxed(alloc, Mark::start(alloc, body, &moment, time))?;
+                restriction_behind(alloc, time, zones.zones(), body)
             }
         }
     }
