@@ -40,6 +40,10 @@ Builds-trans one two three f g = record {
   takes = λ read h. f.takes read (g.takes read h);
 }
 
+-- The same tree stands for the same pairs.
+pub Builds-same : (one two : ResidualTree) → one ≡ two → Builds one two
+Builds-same one two same = subst (λ (tree : ResidualTree). Builds one tree) same (Builds-refl one)
+
 -- What means no pair is as good as nothing.
 pub Builds-nothing : (form : ResidualTree)
     → ((rest : Rest) (a b n : ℕ) → 0 < n → Means form rest a b n → ⊥) → Builds nothing form
@@ -52,6 +56,9 @@ Builds-nothing form never = record {
 pub nothing_after_none : (residual : ResidualTree) → Builds nothing (preceded [] residual)
 nothing_after_none residual = Builds-nothing (preceded [] residual)
     (λ rest a b n some h. Held-empty (h.factor * a) h.midpoint (h.factor * n) h.left)
+
+pub nothing_before : (zones : List ZoneBounds) → Builds nothing (preceded zones nothing)
+nothing_before zones = Builds-nothing (preceded zones nothing) (λ rest a b n some h. h.right)
 
 pub nothing_followed : (tree : PatternTree) → Builds nothing (followed nothing tree)
 nothing_followed tree = Builds-nothing (followed nothing tree) (λ rest a b n some h. h.left)
@@ -75,6 +82,12 @@ pub dropped_form : (residual : ResidualTree) (form : ResidualTree → ResidualTr
     → Builds nothing (form nothing) → residual ≡ nothing → Builds nothing (form residual)
 dropped_form residual form none empty =
     subst (λ (tree : ResidualTree). Builds nothing (form tree)) (sym empty) none
+
+-- Then nothing itself stands for it.
+pub kept_form : (residual : ResidualTree) (form : ResidualTree → ResidualTree)
+    → Builds nothing (form nothing) → residual ≡ nothing → Builds residual (form residual)
+kept_form residual form none empty =
+    subst (λ (tree : ResidualTree). Builds tree (form tree)) (sym empty) none
 
 pub nothing_here : Builds nothing (here [])
 nothing_here = Builds-nothing (here []) (λ rest a b n some h. Held-empty a b n h)

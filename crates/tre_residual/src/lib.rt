@@ -12,5 +12,6 @@
 
 pub use residual::{Residual, composed};
 
+mod boxes;
 pub mod laws;
 mod residual;

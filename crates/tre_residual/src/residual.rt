@@ -5,6 +5,7 @@ ghost use Rattle.tre_syntax.specs.PatternTree.{NumbersBelow};
 ghost use Rattle.tre_mark.specs.MarkTree.{mark_of};
 ghost use Rattle.tre_residual.specs.Residual.{nothing, here, joined, preceded, followed, either, both, lasting, marked, residual_tree, IsWellAt, Builds, IsComposition};
 
+use crate::boxes::{beside, boxed, boxed_beside, boxes};
 use std::alloc::{AllocError, Global};
 use tre_mark::Mark;
 use tre_star::compose_sets;
@@ -14,7 +15,7 @@ use tre_zoneset::ZoneSet;
 
 /// Pairs of times, each of which begins up to a time, the present one, and ends at it or later:
 /// what comes next in the trace decides.
-#[derive(Debug, Drop)]
+#[derive(Drop)]
 pub enum Residual {
     /// No pair.
     Nil,
@@ -52,6 +53,8 @@ impl Residual {
         ensures { Builds (residual_tree result) (joined zones (tree_of expr)) }
     {
         if zones.is_empty() {
+            // Here and below: so a value is let go in one way, whatever its form.
+            drop(expr);
             return Residual::Nil;
         }
         Residual::At(zones, expr)
@@ -64,6 +67,7 @@ impl Residual {
             Builds (residual_tree whole) (preceded zones (residual_tree residual))) }
     {
         if zones.is_empty() {
+            drop(residual);
             return Ok(Residual::Nil);
         }
         preceded_by(alloc, &zones, residual)
@@ -86,12 +90,15 @@ impl Residual {
             Builds (residual_tree whole) (either (residual_tree one) (residual_tree other))) }
     {
         if one.is_nil() {
+            drop(one);
             return Ok(other);
         }
         if other.is_nil() {
+            drop(other);
             return Ok(one);
         }
-        one_of(alloc, one, other)
+        let (one, other) = boxes(alloc, one, other)?;
+        Ok(Residual::Or(one, other))
     }
 
     /// A pair of both.
@@ -100,9 +107,12 @@ impl Residual {
             Builds (residual_tree whole) (both (residual_tree one) (residual_tree other))) }
     {
         if one.is_nil() || other.is_nil() {
+            drop(one);
+            drop(other);
             return Ok(Residual::Nil);
         }
-        both_of(alloc, one, other)
+        let (one, other) = boxes(alloc, one, other)?;
+        Ok(Residual::Both(one, other))
     }
 
     /// A pair of the residual with its duration in the interval.
@@ -115,9 +125,9 @@ impl Residual {
             Builds (residual_tree whole) (lasting (residual_tree residual) interval)) }
     {
         if residual.is_nil() {
-            return Ok(Residual::Nil);
+            return Ok(residual);
         }
-        let residual = Box::new(alloc, residual)?;
+        let residual = boxed(alloc, residual)?;
         Ok(Residual::Dur(residual, interval))
     }
 
@@ -127,9 +137,11 @@ impl Residual {
             Builds (residual_tree whole) (marked (mark_of mark) (tree_of expr))) }
     {
         if mark.is_nothing() {
+            drop(mark);
+            drop(expr);
             return Ok(Residual::Nil);
         }
-        let mark = Box::new(alloc, mark)?;
+        let (mark, expr) = boxed_beside(alloc, mark, expr)?;
         Ok(Residual::Mark(mark, expr))
     }
 
@@ -155,12 +167,15 @@ fn preceded_by(alloc: Global, zones: &ZoneSet, residual: Residual) -> Result<Res
         Residual::At(begun, expr) => at_after(alloc, zones, &begun, expr),
         Residual::Pre(first, rest) => pre_after(alloc, zones, &first, rest),
         Residual::Post(first, expr) => {
-            let first = preceded_by(alloc, zones, Box::into_inner(first))?;
+            let first = preceded_by(alloc, zones, Box::into_inner(first));
+            let (first, expr) = beside(first, expr)?;
             followed_by(alloc, first, expr)
         }
         Residual::Or(one, other) => {
-            let one = preceded_by(alloc, zones, Box::into_inner(one))?;
-            let other = preceded_by(alloc, zones, Box::into_inner(other))?;
+            let one = preceded_by(alloc, zones, Box::into_inner(one));
+            let (one, other) = beside(one, other)?;
+            let other = preceded_by(alloc, zones, Box::into_inner(other));
+            let (other, one) = beside(other, one)?;
             Residual::or(alloc, one, other)
         }
         whole => whole_after(alloc, zones, whole),
@@ -172,29 +187,9 @@ fn whole_after(alloc: Global, zones: &ZoneSet, residual: Residual) -> Result<Res
     ensures { IfOk result (λ whole.
         Builds (residual_tree whole) (preceded zones.now (residual_tree residual))) }
 {
-    let residual = Box::new(alloc, residual)?;
+    let residual = boxed(alloc, residual)?;
     let zones = zones.try_clone()?;
     Ok(Residual::Pre(zones, residual))
-}
-
-// A pair of one of the two, neither of which is `Nil`.
-fn one_of(alloc: Global, one: Residual, other: Residual) -> Result<Residual, AllocError>
-    ensures { IfOk result (λ whole.
-        Builds (residual_tree whole) (either (residual_tree one) (residual_tree other))) }
-{
-    let one = Box::new(alloc, one)?;
-    let other = Box::new(alloc, other)?;
-    Ok(Residual::Or(one, other))
-}
-
-// A pair of both.
-fn both_of(alloc: Global, one: Residual, other: Residual) -> Result<Residual, AllocError>
-    ensures { IfOk result (λ whole.
-        Builds (residual_tree whole) (both (residual_tree one) (residual_tree other))) }
-{
-    let one = Box::new(alloc, one)?;
-    let other = Box::new(alloc, other)?;
-    Ok(Residual::Both(one, other))
 }
 
 // The pairs of a set followed by pairs that are here.
@@ -216,7 +211,7 @@ fn at_after(
     ensures { IfOk result (λ whole.
         Builds (residual_tree whole) (preceded zones.now (joined begun.now (tree_of expr)))) }
 {
-    let whole = composed(alloc, zones, begun)?;
+    let (whole, expr) = beside(composed(alloc, zones, begun), expr)?;
     Ok(Residual::at(whole, expr))
 }
 
@@ -243,9 +238,10 @@ fn followed_by(alloc: Global, residual: Residual, expr: Expr) -> Result<Residual
         Builds (residual_tree whole) (followed (residual_tree residual) (tree_of expr))) }
 {
     if residual.is_nil() {
-        return Ok(Residual::Nil);
+        drop(expr);
+        return Ok(residual);
     }
-    let residual = Box::new(alloc, residual)?;
+    let (residual, expr) = boxed_beside(alloc, residual, expr)?;
     Ok(Residual::Post(residual, expr))
 }
 
