@@ -7,14 +7,14 @@ use tre_syntax::Pattern;
 ///
 /// Where a whole input is matched at once, the matches of the first pattern are wanted that are
 /// matches of none of the others.
-#[derive(Debug, Drop)]
+#[derive(Drop)]
 pub struct Asked {
     pub patterns: Vec<Pattern>,
     pub labels: Vec<String>,
 }
 
 /// What names mean that a text defines, in the format of the input; none in the others.
-#[derive(Debug, Drop)]
+#[derive(Drop)]
 pub struct Definitions {
     /// Comparisons of columns.
     pub columns: Vec<Definition>,

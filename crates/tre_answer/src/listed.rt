@@ -6,7 +6,7 @@ use tre_show::Zones;
 use tre_zone::Zone;
 
 /// Zones in the order of printing: as they are, or as parts of runs, in few bytes each.
-#[derive(Debug, Drop)]
+#[derive(Drop)]
 pub enum Listed {
     Zones(Vec<Zone>),
     Runs(RunSet),

@@ -34,7 +34,7 @@ use tre_zone::Zone;
 use tre_zoneset::ZoneSet;
 
 /// What is printed of the matches that are wanted of an input, and where it ends.
-#[derive(Debug, Drop)]
+#[derive(Drop)]
 pub struct Matches {
     pub zones: Listed,
     pub end: u64,

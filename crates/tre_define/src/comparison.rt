@@ -1,5 +1,5 @@
 /// How a number is compared with another.
-#[derive(Clone, Copy, Debug, PartialEq, Eq)]
+#[derive(Clone, Copy)]
 pub enum Comparison {
     /// `<`
     Less,

@@ -11,7 +11,7 @@ use std::alloc::AllocError;
 use std::marker::Model;
 
 /// A name for what is read of a signal of a dump.
-#[derive(Debug, Drop)]
+#[derive(Drop)]
 pub struct SignalDefinition {
     name: String,
     signal: String,

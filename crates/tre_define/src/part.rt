@@ -5,7 +5,7 @@ ghost use Rattle.tre_define.specs.Values.{differ};
 use crate::letters::letter_at;
 
 /// Bits of a value: so many from the lowest of them on. Bit 0 is the last letter.
-#[derive(Clone, Copy, Debug, PartialEq, Eq)]
+#[derive(Clone, Copy)]
 pub struct Part {
     pub low: u64,
     pub width: u64,

@@ -1,7 +1,7 @@
 use crate::comparison::Comparison;
 
 /// What a definition reads of what a signal's text names.
-#[derive(Clone, Copy, Debug, PartialEq, Eq)]
+#[derive(Clone, Copy)]
 pub enum Reads {
     /// It is one bit, which is 1.
     Bit,

@@ -9,7 +9,7 @@ use crate::letters::{is_bit, letters_of};
 use crate::part::Part;
 
 /// What is asked of a value: how the number of a part of it compares with another.
-#[derive(Clone, Copy, Debug, PartialEq, Eq)]
+#[derive(Clone, Copy)]
 pub struct Test {
     pub part: Part,
     pub comparison: Comparison,

@@ -6,7 +6,7 @@ use tre_trace::Segment;
 /// A piece of a trace: one segment, when it begins, and the valuation that held until then.
 ///
 /// It lasts at least a tick, and ends at `TIME_MAX` or earlier.
-#[derive(Clone, Copy, Debug, PartialEq, Eq)]
+#[derive(Clone, Copy)]
 pub struct Piece {
     pub begin: u64,
     pub segment: Segment,

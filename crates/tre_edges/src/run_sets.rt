@@ -17,7 +17,7 @@ use tre_trace::Start;
 use tre_zone::Zone;
 
 // A longest stretch on which a state holds, in ticks.
-#[derive(Clone, Copy, Debug)]
+#[derive(Clone, Copy)]
 pub(crate) struct Run {
     pub(crate) begin: u64,
     pub(crate) end: u64,
@@ -25,7 +25,7 @@ pub(crate) struct Run {
 
 /// The parts of runs that begin and end at the same edges: a set of zones, one for each run, that
 /// takes four bytes a zone beside the trace. The zones are in the order of time.
-#[derive(Debug, Drop)]
+#[derive(Drop)]
 pub struct RunSet {
     pub(crate) trace: Packed,
     // Where the state holds.

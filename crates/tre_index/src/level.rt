@@ -9,7 +9,7 @@ use std::marker::Model;
 pub(crate) const FAN: usize = 8;
 
 /// Bounds, one above each block of the level below.
-#[derive(Debug, Drop)]
+#[derive(Drop)]
 pub(crate) struct Level {
     rows: Vec<Row>,
 }

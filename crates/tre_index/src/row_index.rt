@@ -12,7 +12,7 @@ use std::marker::Model;
 const LEVELS_MAX: usize = 21;
 
 /// A list of items, with bounds above their rows.
-#[derive(Debug, Drop)]
+#[derive(Drop)]
 pub struct RowIndex<T: HasRow> {
     items: Vec<T>,
     above: Vec<Level>,

@@ -7,7 +7,7 @@ ghost use Rattle.tre_index.specs.Turn.{AreInTurn, AreInTurnTo, IsNoEarlier, IsEa
 use crate::row::{HasRow, Row, is_below};
 
 /// Where items stand next to each other in a list.
-#[derive(Clone, Copy, Debug)]
+#[derive(Clone, Copy)]
 pub struct Stretch {
     /// The place of the first of them.
     pub from: usize,

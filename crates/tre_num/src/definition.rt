@@ -2,7 +2,7 @@ use std::marker::Model;
 use tre_define::Comparison;
 
 /// A name for a comparison of the numbers of a column with a number.
-#[derive(Debug, Drop)]
+#[derive(Drop)]
 pub struct Definition {
     name: String,
     column: String,

@@ -12,7 +12,7 @@ use tre_syntax::Expr;
 use tre_zone::Interval;
 
 /// A literal of this state with these edges, and the interval that its duration has to be in.
-#[derive(Clone, Copy, Debug)]
+#[derive(Clone, Copy)]
 pub(crate) struct EdgedLiteral<'a> {
     pub(crate) state: &'a State,
     pub(crate) edges: RunEdges,

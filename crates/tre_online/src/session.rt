@@ -18,7 +18,7 @@ use tre_zoneset::ZoneSet;
 ///
 /// It keeps the pattern, when the trace ends so far, what held last, the zones that it told last,
 /// and what may still become a match; and none of the segments.
-#[derive(Debug, Drop)]
+#[derive(Drop)]
 pub struct Session {
     alloc: Global,
     // In boxes, since a watch moves its sessions.
@@ -29,7 +29,7 @@ pub struct Session {
 }
 
 /// What a session keeps of its trace.
-#[derive(Debug, Drop)]
+#[derive(Drop)]
 pub struct Progress {
     at: u64,
     last: Option<u64>,

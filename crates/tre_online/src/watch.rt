@@ -13,7 +13,7 @@ use tre_zoneset::ZoneSet;
 
 /// Sessions of several patterns, each over a trace of its own: the same input, as it is read with
 /// the names of that pattern. All the traces end at one time.
-#[derive(Debug, Drop)]
+#[derive(Drop)]
 pub struct Watch {
     alloc: Global,
     // In the order of the patterns. Each in turn is taken from the front, goes on, and is put back
@@ -133,7 +133,7 @@ impl Watch {
 
 /// What the sessions of a watch tell: a set of zones for each pattern, in the order of the
 /// patterns.
-#[derive(Debug, Drop)]
+#[derive(Drop)]
 pub struct Told {
     sets: Vec<ZoneSet>,
 }

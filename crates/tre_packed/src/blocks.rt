@@ -13,7 +13,7 @@ use std::alloc::{AllocError, Global};
 use tre_trace::{Planes, Segment};
 
 /// The segments of a trace. Nothing is known of what was left where memory ran out.
-#[derive(Debug, Drop)]
+#[derive(Drop)]
 pub(crate) struct Blocks {
     /// When the last one ends, in ticks.
     pub(crate) end: u64,

@@ -11,7 +11,7 @@ use tre_trace::{Segment, end_of};
 const NEAR_MAX: u64 = 4_294_967_295;
 
 /// Four bytes a segment, or eight where some block lasts longer.
-#[derive(Debug, Drop)]
+#[derive(Drop)]
 pub(crate) enum Offsets {
     Near(Vec<u32>),
     Far(Vec<u64>),

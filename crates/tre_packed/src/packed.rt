@@ -9,7 +9,7 @@ use tre_trace::Segment;
 /// The segments of a trace, in the order of time from 0, and the events at its end, in four bytes a
 /// segment and a bit for each proposition that was ever true; in eight bytes, where 64 segments
 /// that stand in one block last 2^32 ticks or longer.
-#[derive(Debug, Drop)]
+#[derive(Drop)]
 pub struct Packed {
     pub(crate) blocks: Blocks,
     pub(crate) last: u64,

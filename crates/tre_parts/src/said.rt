@@ -1,7 +1,7 @@
 use tre_trace::{Segment, TraceKind};
 
 /// What a part says.
-#[derive(Clone, Copy, Debug, PartialEq, Eq)]
+#[derive(Clone, Copy)]
 pub enum Said {
     Nothing,
     Says(Segment),

@@ -3,7 +3,7 @@ ghost use Rattle.tre_parts.specs.declared.TheConstants.{PART_MAX};
 ghost use Rattle.tre_parts.specs.declared.skimmed.Skimmed.{Skimmed};
 
 /// How far whole parts were read.
-#[derive(Clone, Copy, Debug, PartialEq, Eq)]
+#[derive(Clone, Copy)]
 pub struct Skimmed {
     /// How many bytes they are, with the separator behind each.
     pub bytes: usize,

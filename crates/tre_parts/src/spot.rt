@@ -6,7 +6,7 @@ use crate::Skimmed;
 use tre_trace::FED_MAX;
 
 /// Where a part begins.
-#[derive(Clone, Copy, Debug, PartialEq, Eq)]
+#[derive(Clone, Copy)]
 pub struct Spot {
     /// Its number, from 1.
     pub number: u64,

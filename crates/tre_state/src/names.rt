@@ -36,7 +36,7 @@ impl From<AllocError> for NameFault {
 
 /// The names of propositions in the order in which they were first seen. The place of a name is its
 /// number, counted from 0.
-#[derive(Debug, Drop)]
+#[derive(Drop)]
 pub struct Names {
     names: IndexSet<String>,
     // It was told of each name.

@@ -15,7 +15,7 @@ const ALL: usize = 320;
 /// It keeps no text. A number that it leaves out is that of another text for sure, and one that it
 /// names is still to be compared. Most often it names the right one or none, however many texts
 /// there are.
-#[derive(Debug, Drop)]
+#[derive(Drop)]
 pub struct Sieve {
     masks: [u64; ALL],
 }

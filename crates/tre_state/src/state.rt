@@ -6,7 +6,7 @@ use crate::names::NAMES_MAX;
 use std::alloc::{AllocError, Global};
 
 /// A Boolean combination of propositions, which go by their numbers from 0.
-#[derive(Debug, Drop, PartialEq, Eq)]
+#[derive(Drop, PartialEq, Eq)]
 pub enum State {
     /// True on every valuation.
     Yes,

@@ -6,7 +6,7 @@ use tre_state::State;
 use tre_zone::Interval;
 
 /// A timed regular expression.
-#[derive(Debug, Drop, PartialEq, Eq)]
+#[derive(Drop, PartialEq, Eq)]
 pub enum Expr {
     /// The stretch of no length.
     Eps,

@@ -19,7 +19,7 @@ pub const NODES_MAX: u64 = 1000;
 ///
 /// A pattern has at most `NODES_MAX` nodes, so whatever goes down its expression goes at most so
 /// deep.
-#[derive(Debug, Drop)]
+#[derive(Drop)]
 pub struct Pattern {
     expr: Expr,
     names: Names,

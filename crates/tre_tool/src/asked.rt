@@ -29,7 +29,7 @@ use tre_syntax::Pattern;
 use tre_words::{Format, Job, Mode};
 
 /// What a job asks for.
-#[derive(Debug, Drop)]
+#[derive(Drop)]
 pub struct Question {
     pub asked: Asked,
     /// What names mean, of columns or of the signals of a dump.

@@ -9,7 +9,7 @@ use tre_watch::WatchFault;
 use tre_words::WordsFault;
 
 /// How a run ended.
-#[derive(Clone, Copy, Debug, PartialEq, Eq)]
+#[derive(Clone, Copy, PartialEq, Eq)]
 pub enum Status {
     /// The zones of all matches were written.
     Done,

@@ -9,7 +9,7 @@ pub enum PushFault {
 }
 
 /// What is wrong with the text of a trace, in the order in which it is looked for.
-#[derive(Clone, Copy, Debug, PartialEq, Eq)]
+#[derive(Clone, Copy, PartialEq, Eq)]
 pub enum TraceKind {
     /// A line or a token has more than 65,536 bytes.
     LineTooLong = 1,
@@ -35,7 +35,7 @@ pub enum TraceKind {
 }
 
 /// The first fault of the text of a trace.
-#[derive(Clone, Copy, Debug, PartialEq, Eq)]
+#[derive(Clone, Copy, PartialEq, Eq)]
 pub struct TraceFault {
     /// The number of the line, from 1, or the offset of the token, from 0; 0 for `Spent` and
     /// `Memory`.

@@ -9,7 +9,7 @@ use std::marker::Model;
 pub(crate) const WORD_BITS: usize = 64;
 
 /// The words of one proposition: a bit for each segment, the lowest of each word first.
-#[derive(Debug, Drop)]
+#[derive(Drop)]
 pub(crate) struct Plane {
     words: Vec<u64>,
 }

@@ -16,7 +16,7 @@ use std::alloc::{AllocError, Global};
 pub(crate) const NUMBERS: usize = 64;
 
 /// Beside each block of 64 segments: when it begins, and a word for each proposition.
-#[derive(Debug, Drop)]
+#[derive(Drop)]
 pub struct Planes {
     /// When each block begins, in ticks.
     pub(crate) starts: Vec<u64>,

@@ -12,7 +12,7 @@ use tre_pairs::TIME_MAX;
 ///
 /// Beside them it keeps one plane of bits for each proposition that was ever true, and one of
 /// zeros: a word each for 64 segments.
-#[derive(Debug, Drop)]
+#[derive(Drop)]
 pub struct Trace {
     segments: Vec<Segment>,
     end: u64,
@@ -21,7 +21,7 @@ pub struct Trace {
 }
 
 /// A place of a trace, and when the segment there begins.
-#[derive(Clone, Copy, Debug, PartialEq, Eq)]
+#[derive(Clone, Copy)]
 pub struct Start {
     pub place: usize,
     /// In ticks; the end of the trace for the place behind the last segment.

@@ -3,7 +3,7 @@ use tre_parse::ParseFault;
 
 /// Why a file gives no plan. Lines are counted from 1. The fault is that of the first line that has
 /// one, and for one line the kinds are tried in this order.
-#[derive(Clone, Copy, Debug, PartialEq, Eq)]
+#[derive(Clone, Copy, PartialEq, Eq)]
 pub enum WatchFault {
     /// The file has more than 1,048,576 bytes.
     TooLarge,

@@ -5,7 +5,7 @@ use tre_state::Names;
 use tre_syntax::Pattern;
 
 /// Named patterns, in the order of their lines: at most 64, and no two of one name.
-#[derive(Debug, Drop)]
+#[derive(Drop)]
 pub struct Plan {
     pub(crate) names: Names,
     pub(crate) patterns: Vec<Pattern>,

@@ -8,7 +8,7 @@ use std::marker::Model;
 ///
 /// It is one number, its key: `2c + 1` for a weak bound and `2c` for a strict one. The smaller key
 /// is the tighter bound, so bounds are compared by their keys. Contracts see a bound as its key.
-#[derive(Clone, Copy, Debug, PartialEq, Eq)]
+#[derive(Clone, Copy, PartialEq, Eq)]
 pub struct Bound {
     key: i64,
 }

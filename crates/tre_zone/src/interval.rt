@@ -10,7 +10,7 @@ use tre_pairs::TIME_MAX;
 ///
 /// There is always a duration in it, though maybe none of a whole number of ticks: `(3,4)` holds
 /// 7/2.
-#[derive(Clone, Copy, Debug, PartialEq, Eq)]
+#[derive(Clone, Copy, PartialEq, Eq)]
 pub struct Interval {
     low: u64,
     low_weak: bool,

@@ -14,7 +14,7 @@ use tre_pairs::TIME_MAX;
 
 /// A set of pairs of times `t <= t'` under six bounds, never empty, each bound the tightest that
 /// the set allows.
-#[derive(Clone, Copy, Debug, PartialEq, Eq)]
+#[derive(Clone, Copy, PartialEq, Eq)]
 pub struct Zone {
     bounds: ZoneBounds,
 }

@@ -6,7 +6,7 @@ use crate::bound::Bound;
 use tre_pairs::TIME_MAX;
 
 /// Six bounds on a pair of times `t <= t'`: the shape of a zone, whether or not it is one.
-#[derive(Clone, Copy, Debug, PartialEq, Eq)]
+#[derive(Clone, Copy, PartialEq, Eq)]
 pub struct ZoneBounds {
     /// On `-t`.
     pub begin_low: Bound,

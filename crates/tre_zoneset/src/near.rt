@@ -14,7 +14,7 @@ use tre_zone::{Zone, ZoneBounds};
 
 /// How far the begins of zones reach, up to one of them: the least key of the bounds from below,
 /// and the greatest of those from above.
-#[derive(Clone, Copy, Debug)]
+#[derive(Clone, Copy)]
 pub(crate) struct Reach {
     pub low: i64,
     pub high: i64,

@@ -30,7 +30,7 @@ const FEW_TO_COMPARE: usize = 24;
 const LOOKS_PER_ZONE: usize = 8;
 
 /// A finite union of zones, none of which is included in another.
-#[derive(Debug, Drop)]
+#[derive(Drop)]
 pub struct ZoneSet {
     zones: Vec<Zone>,
 }
