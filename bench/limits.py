@@ -4,7 +4,7 @@
     python3 bench/limits.py PATH_OF_MONTRE
 
 Each pattern is run at the end, online, as the one to take away, by --show and as a check of a
-file, on a stack of 8 MB. At last runs of each form and mode have less and less memory. For Linux.
+file, on a stack of 8 MB. At last runs of each form and mode have more and more memory. For Linux.
 """
 
 import os
