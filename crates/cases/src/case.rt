@@ -61,7 +61,7 @@ impl<'a> Case<'a> {
         Ok(())
     }
 
-    /// These texts.
+    /// The texts of all lines of this word, without their escapes.
     pub(crate) fn texts(&self, alloc: Global, word: &str) -> Result<Vec<u8>, AllocError> {
         let mut bytes = Vec::new(alloc);
         self.put_texts(&mut bytes, word)?;

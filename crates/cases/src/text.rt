@@ -4,7 +4,7 @@ use crate::case::Case;
 use std::alloc::{AllocError, Global};
 
 /// These words, and those of the case: apart by blanks. A word in single quotes may have blanks, or
-/// none at all. The text of the lines `word` stands behind the last one.
+/// be empty. The text of the lines `word` stands behind the last one.
 pub(crate) fn words_of(
     alloc: Global,
     first: &str,
