@@ -16,8 +16,8 @@
 //! - `word`: a text behind the last of these words.
 //! - `<`: the bytes of the input.
 //! - `again`: those of the case before, in front of its own.
-//! - `checks`: the bytes of the file `f` of checks; where neither this nor `asks` stands, to open it
-//!   fails.
+//! - `checks`: the bytes of the file `f` of checks; where neither this nor `asks` stands, to open
+//!   it fails.
 //! - `>` and `!`: what the output and standard error are given.
 //! - `ends`, in the place of `>`: what the output ends with, and `zones`, how many zones it has.
 //! - `=`: the code with which the run ends, where it isn't 0.
