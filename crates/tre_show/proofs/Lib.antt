@@ -10,3 +10,4 @@ pub mod LineOrder
 pub mod Rising
 pub mod Lines
 pub mod Shown
+pub mod Parenthesised

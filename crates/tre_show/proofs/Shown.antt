@@ -1,13 +1,12 @@
 -- A canonical zone as it is printed has the smallest ranges that its pairs allow.
-use Rattle.std.proofs.Common.{◌≡◌, ◌==◌, zero, suc, nat_abs, ℕ, ◌+◌, ◌-◌, ◌*◌, ◌<◌, ◌≤◌, ◌↔◌, Bool, true, false, Option, Some, None, MatchBool, MatchOption, refl, arith, ℤ, pos, neg_ℤ, ◌-ℤ◌, ◌≤ℤ◌}
-use Rattle.std.proofs.lemmas.Int.{ints}
-use Rattle.tre_zone.specs.Bound.{value_of, weakness_of, sum_of, Meets}
+use Rattle.std.proofs.Common.{◌≡◌, ℕ, ◌+◌, ◌-◌, ◌*◌, ◌<◌, ◌≤◌, ◌↔◌, Bool, true, false, Option, Some, None, MatchBool, MatchOption, refl, arith, ℤ, pos, neg_ℤ, ◌-ℤ◌, ◌≤ℤ◌}
+use Rattle.tre_zone.specs.Bound.{Meets}
 use Rattle.tre_zone.specs.Interval.{IntervalEnds, LastsWithin, IsAboveLow, IsBelowHigh}
 use Rattle.tre_zone.specs.Ranges.{range_of}
 use Rattle.tre_show.specs.Shown.{ShownHolds, IsTightShown, shown}
 use Rattle.tre_zone.specs.Zone.{ZoneHolds, IsCanonical}
 use Rattle.tre_zone.specs.declared.zone_bounds.ZoneBounds.{ZoneBounds}
-use Rattle.tre_zone.proofs.Bounds.{split, split-sum, Meets-at_most, Meets-less}
+use Rattle.tre_zone.proofs.Bounds.{Meets-at_most, Meets-less}
 use Rattle.tre_zone.proofs.Ends.{weak_low, strict_low}
 use Rattle.tre_zone.proofs.Paths.{Meets-looser}
 use Rattle.tre_zone.proofs.Ranges.{above, below, raised, lowered, canonical-ranges}

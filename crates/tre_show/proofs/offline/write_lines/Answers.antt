@@ -1,4 +1,4 @@
-use Rattle.std.proofs.Common.{◌≡◌, ◌<◌, ◌≤◌, ◌-◌, ◌+◌, ◌*◌, ◌++◌, ◌∙◌, length, ap, append_assoc, sym, drop, arith}
+use Rattle.std.proofs.Common.{◌≡◌, ◌-◌, ◌+◌, ◌++◌, ◌∙◌, ap, append_assoc, sym, drop, arith}
 use Rattle.std.specs.List.{slice_range}
 use Rattle.tre_show.specs.Line.{line_of, lines_of}
 use Rattle.tre_show.proofs.Lines.{lines_none, lines_before}
