@@ -54,6 +54,21 @@ module _ (own : List (List ℕ)) (number : ℕ) (item new : List ℕ) (within : 
           | inr other ↦ rw (elsewhere k other) (all k (omega (arith, below, other)))
         ]
 
+    pub written_more : (was : List (List ℕ)) (place valuation : ℕ)
+        → ((k : ℕ) → k < number
+        → IsWritten place (bit_at valuation k) (words_at was k) (words_at own k))
+        → words_at own number ≡ words_at was number
+        → IsWritten place (bit_at valuation number) (get_or own number item) new
+        → (k : ℕ) → k < number + 1
+        → IsWritten place (bit_at valuation k) (words_at was k) (words_at (set own number new) k)
+    written_more was place valuation all same step k below =
+        elim (cases_eq k number) [
+          | inl here ↦
+              rw (here, at_number, ← same)
+              (rw (get_or_default own number item [] within) at step)
+          | inr other ↦ rw (elsewhere k other) (all k (omega (arith, below, other)))
+        ]
+
 small_of : (n d : ℕ) → 0 < d → n / d ≡ 0 → n < d
 small_of n d some none = omega (
   arith,

@@ -1,11 +1,11 @@
 -- The words of one proposition.
-use Rattle.std.proofs.Common.{◌≡◌, ℕ, ◌+◌, ◌/◌, ◌%◌, ◌<◌, inl, inr, List, [], ◌∷◌, ◌++◌, length, get_or, refl, sym, ap, ◌∙◌, arith}
-use Rattle.std.proofs.lemmas.Bool.{cases_eq}
-use Rattle.std.proofs.lemmas.List.{length-append, length-set}
+use Rattle.std.proofs.Common.{◌≡◌, ◌≢◌, ℕ, ◌+◌, ◌*◌, ◌/◌, ◌%◌, ◌<◌, ◌≤◌, inl, inr, List, [], ◌∷◌, ◌++◌, length, take, get_or, refl, sym, ap, ◌∙◌, arith}
+use Rattle.std.proofs.lemmas.Bool.{cases_eq, cases_lt}
+use Rattle.std.proofs.lemmas.List.{get_or-take, get_or_past, length-append, length-set, length-take, length-take-le}
 use Rattle.std.proofs.lemmas.Nat.Bits.{bit_at-lt, bit_at-zero}
 use Rattle.std.specs.Int.{bit_at}
 use Rattle.tre_trace.specs.declared.segment.Segment.{Segment}
-use Rattle.tre_trace.specs.Planes.{bit_in, valuation_at}
+use Rattle.tre_trace.specs.Planes.{IsPlane, bit_in, valuation_at, words_for}
 use Rattle.tre_trace.specs.Words.{AreWordsOf, HasRoom, IsStretched, IsWritten}
 use Rattle.tre_trace.proofs.Bits.{bit_in-set, bit_in-set_other, with_bit, valuation_at-before, valuation_at-last, valuation_at-past}
 
@@ -71,3 +71,47 @@ AreWordsOf-written number segments segment old new are room written = record {
       let is : bit_in new (length segments) ≡ bit_at segment.val number =
       omega (arith, written.there, was) in
       is ∙ sym (ap (λ valuation. bit_at valuation number) (valuation_at-last segments segment))
+
+-- the first words of these, enough for all segments, are the plane
+pub IsPlane-take : (number : ℕ) (segments : List Segment) (words : List ℕ) (count : ℕ)
+    → count ≡ words_for (length segments) → length segments ≤ length words * 64
+    → ((place : ℕ) → bit_in words place ≡ bit_at (valuation_at segments place) number)
+    → IsPlane number segments (take count words)
+IsPlane-take number segments words count same enough bits = record {
+  size = length-take-le count words (omega (arith, same, enough)) ∙ same;
+  bits = λ place.
+      elim (cases_lt (place / 64) count) [
+        | inl early ↦
+            ap (λ word. bit_at word (place % 64))
+            (get_or-take count words (place / 64) 0 early)
+            ∙ bits place
+        | inr late ↦
+            rw (
+              get_or_past (take count words) (place / 64) 0 (is_short place late),
+              valuation_at-past segments place (omega (arith, same, late)),
+            )
+            (bit_at-zero (place % 64) ∙ sym (bit_at-zero number))
+      ];
+} where
+  is_short : (place : ℕ) → count ≤ place / 64 → length (take count words) ≤ place / 64
+  is_short place late = omega (arith, late, length-take count words)
+
+pub IsPlane-own : (number : ℕ) (segments : List Segment) (words : List ℕ) (count : ℕ)
+    → count ≡ words_for (length segments) → length words ≢ 0
+    → AreWordsOf number segments words → IsPlane number segments (take count words)
+IsPlane-own number segments words count same some are =
+    elim are.enough [
+      | inl none ↦ absurd (some (ap length none))
+      | inr enough ↦ IsPlane-take number segments words count same enough are.bits
+    ]
+
+-- zeros are the plane of a proposition that has no words
+pub IsPlane-blank : (number : ℕ) (segments : List Segment) (own blank : List ℕ) (count : ℕ)
+    → count ≡ words_for (length segments) → length own ≡ 0 → AreWordsOf number segments own
+    → length segments ≤ length blank * 64 → ((place : ℕ) → bit_in blank place ≡ 0)
+    → IsPlane number segments (take count blank)
+IsPlane-blank number segments [] blank count same none are enough zeros =
+    IsPlane-take number segments blank count same enough
+    (λ place. zeros place ∙ sym (bit_at-zero (place % 64)) ∙ are.bits place)
+IsPlane-blank number segments (word ∷ more) blank count same none are enough zeros =
+    absurd (omega (arith, none))

@@ -19,3 +19,11 @@ loop-number-preserved c =
           c.loop-number.invariant.room
           (rw c.bit_of.ensures at c.in_ok-make_room.ensures.ok);
     }
+
+pub returns-in_err-make_room-clause-stretched : goal.returns-in_err-make_room-clause-stretched
+returns-in_err-make_room-clause-stretched c =
+    let own = c.loop-number.own in
+    let within : c.loop-number.number < length own =
+    omega (arith, c.loop-number-test.true, c.loop-number.auto.own) in
+    stretched_more own c.loop-number.number c.index-own-number.result c.make_room.new.self within
+    c.args.own.now _ c.loop-number.invariant.stretched c.make_room.ensures.stretched

@@ -1,5 +1,6 @@
 use Rattle.std.proofs.Common.{◌≡◌, ◌∙◌, length, arith}
 use Rattle.std.proofs.lemmas.List.{with_items_is}
+use Rattle.std.proofs.lemmas.Result.{on_ok_weaker}
 use Rattle.tre_trace.proofs.Words.{AreWordsOf-stretched}
 use Rattle.tre_trace.proofs.Beside.{room_all}
 use Rattle.tre_trace.proofs.planes.Planes.make_room.Goals as goal
@@ -33,11 +34,13 @@ returns-clause-room c =
     omega (arith, c.make_room.auto.own, c.deref_mut.ensures.len) in
     let same_items : length new ≡ length own.items =
     rw c.deref_mut.ensures.value at c.make_room.auto.own in
-    record {
+    let all = rw (← same_items) at c.in_ok-widen.ensures.all in
+    on_ok_weaker c.make_room.result
+    (λ room. record {
       starts = c.in_ok-begin_block.ensures.room;
       blank = omega (arith, c.in_ok-stretch.ensures.ok);
       own =
           rw (with_items_is own new same)
-          (room_all new c.args.count c.args.valuation
-          (rw (← same_items) at c.in_ok-widen.ensures.all) c.in_ok-make_room.ensures.ok);
-    }
+          (room_all new c.args.count c.args.valuation all room);
+    })
+    c.make_room.ensures.ok
