@@ -1,5 +1,5 @@
 use Rattle.std.proofs.Common.{◌≡◌, ◌+◌, ◌-◌, [], length, ap, subst, ◌∙◌, inr, arith}
-use Rattle.std.proofs.lemmas.List.{length-drop}
+use Rattle.std.proofs.lemmas.List.{length-drop, length-take}
 use Rattle.std.proofs.lemmas.Result.{err_from_is_err_and}
 use Rattle.std.specs.Char.{is_newline}
 use Rattle.std.specs.List.{slice_split}
@@ -86,3 +86,21 @@ returns-in_err-add_line-2-clause-never_memory c =
     let p = err_from_is_err_and c.from_residual-in_err-add_line-2.result
     c.from_residual-in_err-add_line-2.ensures.1 in
     rw (p.1, p.2) c.in_err-add_line-2.ensures.never_memory
+
+pub overflow_add-number : goal.overflow_add-number
+overflow_add-number c = omega (arith, c.loop-end.invariant.small, c.requires.small)
+
+pub loop-end-smaller : goal.loop-end-smaller
+loop-end-smaller c =
+    let shorter : length c.behind_line-rest.result.now
+    ≡ length c.loop-end.rest.now - (c.in-Some.end + 1) =
+    ap length c.behind_line-rest.ensures
+    ∙ length-drop (c.in-Some.end + 1) c.loop-end.rest.now in
+    omega (arith, shorter, c.in-Some.ensures.0.high)
+
+pub slice_bounds-add_line-end : goal.slice_bounds-add_line-end
+slice_bounds-add_line-end c =
+    omega (arith, length-take c.in-Some.end c.loop-end.rest.now, c.in-Some.ensures.0.high)
+
+pub behind_line-rest-requires : goal.behind_line-rest-requires
+behind_line-rest-requires c = c.in-Some.ensures.0.high
