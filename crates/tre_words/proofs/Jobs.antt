@@ -1,5 +1,5 @@
 -- Words give one job at most, and what is true of it.
-use Rattle.std.proofs.Common.{◌≡◌, ◌≢◌, ◌∙◌, ℕ, ◌≤◌, Bool, true, false, MatchBool, ◌&&◌, List, [], ◌∷◌, Option, Some, None, IfSome, if◌then◌else◌, codes, drop, ap, refl, sym, subst, arith}
+use Rattle.std.proofs.Common.{◌≡◌, ◌≢◌, ◌∙◌, ◌↔◌, ℕ, ◌≤◌, Bool, true, false, MatchBool, ◌&&◌, List, [], ◌∷◌, Option, Some, None, IfSome, if◌then◌else◌, codes, drop, ap, refl, sym, subst, arith}
 use Rattle.std.specs.Prelude.{option_and_then, option_map, is_some, nat_le}
 use Rattle.std.specs.Str.Parse.{digits_value}
 use Rattle.std.proofs.lemmas.Bool.Decides.{nat_tests}
@@ -296,6 +296,34 @@ first_made-none words job is none gives =
     subst (λ (b : Bool). GivesWhere b (watch_first words) words job) is gives.gives in
     let given : None ≡ Some job = sym (ap (option_map made_job) none) ∙ made in
     cc
+
+-- the words behind a first word that asks for a watch
+pub first_watched : (words : List Text) (job : Job) → made_first words ≡ false
+    → watch_first words ≡ true → GivesWatch (drop 1 words) job ↔ GivesJob words job
+first_watched words job other is = (
+  (λ gives. record {
+    gives =
+        subst (λ (b : Bool). GivesWhere b (watch_first words) words job) (sym other)
+        (subst (λ (b : Bool). GivesWhere false b words job) (sym is) gives);
+  }),
+  (λ given.
+      subst (λ (b : Bool). GivesWhere false b words job) is
+      (subst (λ (b : Bool). GivesWhere b (watch_first words) words job) other given.gives)),
+)
+
+-- words of which the first asks for neither
+pub first_plain : (words : List Text) (job : Job) → made_first words ≡ false
+    → watch_first words ≡ false → GivesPlain words job ↔ GivesJob words job
+first_plain words job other plain = (
+  (λ gives. record {
+    gives =
+        subst (λ (b : Bool). GivesWhere b (watch_first words) words job) (sym other)
+        (subst (λ (b : Bool). GivesWhere false b words job) (sym plain) gives);
+  }),
+  (λ given.
+      subst (λ (b : Bool). GivesWhere false b words job) plain
+      (subst (λ (b : Bool). GivesWhere b (watch_first words) words job) other given.gives)),
+)
 
 -- ---- options that stand apart
 
