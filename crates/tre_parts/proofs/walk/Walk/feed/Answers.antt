@@ -1,4 +1,5 @@
 use Rattle.std.proofs.Common.{◌≡◌, ◌+◌, suc, ◌++◌, [], ◌∷◌, get_or, take, drop, append-nil, arith, sym}
+use Rattle.std.proofs.lemmas.List.{length-drop, length-take}
 use Rattle.std.proofs.lemmas.Result.{err_from_is_err_and}
 use Rattle.tre_parts.proofs.Cuts.{take-rest}
 use Rattle.tre_parts.proofs.Feeding.{in_two, around, fed-refused, fed-room, fed-step}
@@ -60,3 +61,18 @@ returns-clause-takes g c = λ terms bytes here few.
       takes.0,
       Adds-trans _ _ _ _ _ _ _ (fed.adds terms bytes here few) takes.1,
     )
+
+pub slice_bounds-skim-count : goal.slice_bounds-skim-count
+slice_bounds-skim-count g c = omega (arith, c.in-Some.ensures.first.within)
+
+pub slice_bounds-end_part-end : goal.slice_bounds-end_part-end
+slice_bounds-end_part-end g c =
+    let within = c.in-Some.ensures.first.within in
+    omega (arith, length-take c.in-Some.place c.loop-place.rest.now, within)
+
+pub loop-place-smaller : goal.loop-place-smaller
+loop-place-smaller g c =
+    let rest = c.loop-place.rest.now in
+    let within = c.in-Some.ensures.first.within in
+    let shorter = c.skim-rest-in-Some.ensures.shorter in
+    omega (arith, shorter, length-drop (c.in-Some.place + 1) rest, within)
