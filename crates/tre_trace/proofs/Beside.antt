@@ -6,8 +6,13 @@ use Rattle.std.proofs.lemmas.List.{get_or-set_same, get_or-set_other, get_or_pas
 use Rattle.std.proofs.lemmas.Nat.{pow_pos}
 use Rattle.std.proofs.lemmas.Nat.Bits.{bit_at_above, bit_at-lt}
 use Rattle.std.specs.Int.{bit_at}
+use Rattle.tre_trace.specs.declared.planes.Planes.{Planes}
+use Rattle.tre_trace.specs.declared.segment.Segment.{Segment}
+use Rattle.tre_trace.specs.Beside.{AreBeside}
 use Rattle.tre_trace.specs.Planes.{bit_in}
+use Rattle.tre_trace.specs.Starts.{AreStarts}
 use Rattle.tre_trace.specs.Words.{words_at, HasRoom, IsStretched, IsWritten}
+use Rattle.tre_trace.proofs.Words.{AreWordsOf-stretched}
 
 IsStretched-trans : (count : ℕ) (a b c : List ℕ) → IsStretched count a b → IsStretched count b c
     → IsStretched count a c
@@ -54,20 +59,53 @@ module _ (own : List (List ℕ)) (number : ℕ) (item new : List ℕ) (within : 
           | inr other ↦ rw (elsewhere k other) (all k (omega (arith, below, other)))
         ]
 
-    pub written_more : (was : List (List ℕ)) (place valuation : ℕ)
+    pub written_more : (was : List (List ℕ)) (place valuation bit : ℕ)
+        → bit ≡ bit_at valuation number
         → ((k : ℕ) → k < number
         → IsWritten place (bit_at valuation k) (words_at was k) (words_at own k))
         → words_at own number ≡ words_at was number
-        → IsWritten place (bit_at valuation number) (get_or own number item) new
+        → IsWritten place bit (get_or own number item) new
         → (k : ℕ) → k < number + 1
         → IsWritten place (bit_at valuation k) (words_at was k) (words_at (set own number new) k)
-    written_more was place valuation all same step k below =
+    written_more was place valuation bit is all same step k below =
         elim (cases_eq k number) [
           | inl here ↦
-              rw (here, at_number, ← same)
-              (rw (get_or_default own number item [] within) at step)
+              rw (here, at_number)
+              (rw (get_or_default own number item [] within, same, is) at step)
           | inr other ↦ rw (elsewhere k other) (all k (omega (arith, below, other)))
         ]
+
+    pub room_here : (was : List (List ℕ)) (place valuation bit : ℕ)
+        → bit ≡ bit_at valuation number → words_at own number ≡ words_at was number
+        → HasRoom place (bit_at valuation number) (words_at was number)
+        → HasRoom place bit (get_or own number item)
+    room_here was place valuation bit is same room =
+        rw (get_or_default own number item [] within, same, is) room
+
+-- nothing was made longer
+pub IsStretched-refl : (count : ℕ) (words : List ℕ) → IsStretched count words words
+IsStretched-refl count words = record { longer = inl refl; bits = λ place. refl }
+
+-- What is kept beside segments stays that where its words are made longer.
+pub beside_longer : (segments : List Segment) (old new : Planes) → AreBeside segments old
+    → AreStarts segments new.starts.items
+    → IsStretched (length segments / 64 + 1) old.blank new.blank
+    → length new.own.items ≤ 64
+    → ((number : ℕ) → IsStretched (length segments / 64 + 1) (words_at old.own.items number)
+    (words_at new.own.items number))
+    → AreBeside segments new
+beside_longer segments old new beside starts blank few own = record {
+  starts = starts;
+  blank_enough =
+      elim blank.longer [
+        | inl same ↦ rw same beside.blank_enough
+        | inr longer ↦ omega (arith, longer)
+      ];
+  blank_bits = λ place. blank.bits place ∙ beside.blank_bits place;
+  few = few;
+  own = λ number below.
+      AreWordsOf-stretched number segments _ _ (beside.own number below) (own number);
+}
 
 small_of : (n d : ℕ) → 0 < d → n / d ≡ 0 → n < d
 small_of n d some none = omega (

@@ -1,7 +1,8 @@
 -- The words of one proposition.
-use Rattle.std.proofs.Common.{◌≡◌, ◌≢◌, ℕ, ◌+◌, ◌*◌, ◌/◌, ◌%◌, ◌<◌, ◌≤◌, inl, inr, List, [], ◌∷◌, ◌++◌, length, take, get_or, refl, sym, ap, ◌∙◌, arith}
-use Rattle.std.proofs.lemmas.Bool.{cases_eq, cases_lt}
-use Rattle.std.proofs.lemmas.List.{get_or-take, get_or_past, length-append, length-set, length-take, length-take-le}
+use Rattle.std.proofs.Common.{◌≡◌, ℕ, ◌+◌, ◌*◌, ◌/◌, ◌%◌, ◌<◌, ◌≤◌, ◌==◌, true, false, inl, inr, List, [], ◌∷◌, ◌++◌, length, take, get_or, refl, sym, ap, ◌∙◌, arith}
+use Rattle.std.proofs.Math.Dec.{eqb-suc-zero}
+use Rattle.std.proofs.lemmas.Bool.{cases_eq, cases_lt, false≢true}
+use Rattle.std.proofs.lemmas.List.{length-append, length-set, length-take-le, get_or-take, get_or_past}
 use Rattle.std.proofs.lemmas.Nat.Bits.{bit_at-lt, bit_at-zero}
 use Rattle.std.specs.Int.{bit_at}
 use Rattle.tre_trace.specs.declared.segment.Segment.{Segment}
@@ -72,46 +73,44 @@ AreWordsOf-written number segments segment old new are room written = record {
       omega (arith, written.there, was) in
       is ∙ sym (ap (λ valuation. bit_at valuation number) (valuation_at-last segments segment))
 
--- the first words of these, enough for all segments, are the plane
-pub IsPlane-take : (number : ℕ) (segments : List Segment) (words : List ℕ) (count : ℕ)
+-- words that are there are enough
+pub enough_of : (number : ℕ) (segments : List Segment) (words : List ℕ)
+    → AreWordsOf number segments words → (length words == 0) ≡ false
+    → length segments ≤ length words * 64
+enough_of number segments [] are some = absurd (false≢true (sym some))
+enough_of number segments (word ∷ words) are some =
+    elim are.enough [
+      | inl none ↦ absurd (omega (arith, ap length none))
+      | inr enough ↦ enough
+    ]
+
+-- as many of them as are needed are the plane
+pub plane_of : (number count : ℕ) (segments : List Segment) (words : List ℕ)
     → count ≡ words_for (length segments) → length segments ≤ length words * 64
     → ((place : ℕ) → bit_in words place ≡ bit_at (valuation_at segments place) number)
     → IsPlane number segments (take count words)
-IsPlane-take number segments words count same enough bits = record {
-  size = length-take-le count words (omega (arith, same, enough)) ∙ same;
+plane_of number count segments words is enough bits = record {
+  size = length-take-le count words (omega (arith, is, enough)) ∙ is;
   bits = λ place.
       elim (cases_lt (place / 64) count) [
         | inl early ↦
-            ap (λ word. bit_at word (place % 64))
-            (get_or-take count words (place / 64) 0 early)
+            ap (λ word. bit_at word (place % 64)) (get_or-take count words (place / 64) 0 early)
             ∙ bits place
         | inr late ↦
-            rw (
-              get_or_past (take count words) (place / 64) 0 (is_short place late),
-              valuation_at-past segments place (omega (arith, same, late)),
-            )
-            (bit_at-zero (place % 64) ∙ sym (bit_at-zero number))
+            ap (λ word. bit_at word (place % 64)) (get_or_past (take count words) (place / 64) 0
+            (omega (arith, late, length-take-le count words (omega (arith, is, enough)))))
+            ∙ (bit_at-zero (place % 64) ∙ sym (ap (λ valuation. bit_at valuation number)
+            (valuation_at-past segments place (omega (arith, late, is))) ∙ bit_at-zero number))
       ];
-} where
-  is_short : (place : ℕ) → count ≤ place / 64 → length (take count words) ≤ place / 64
-  is_short place late = omega (arith, late, length-take count words)
+}
 
-pub IsPlane-own : (number : ℕ) (segments : List Segment) (words : List ℕ) (count : ℕ)
-    → count ≡ words_for (length segments) → length words ≢ 0
-    → AreWordsOf number segments words → IsPlane number segments (take count words)
-IsPlane-own number segments words count same some are =
-    elim are.enough [
-      | inl none ↦ absurd (some (ap length none))
-      | inr enough ↦ IsPlane-take number segments words count same enough are.bits
-    ]
-
--- zeros are the plane of a proposition that has no words
-pub IsPlane-blank : (number : ℕ) (segments : List Segment) (own blank : List ℕ) (count : ℕ)
-    → count ≡ words_for (length segments) → length own ≡ 0 → AreWordsOf number segments own
-    → length segments ≤ length blank * 64 → ((place : ℕ) → bit_in blank place ≡ 0)
-    → IsPlane number segments (take count blank)
-IsPlane-blank number segments [] blank count same none are enough zeros =
-    IsPlane-take number segments blank count same enough
-    (λ place. zeros place ∙ sym (bit_at-zero (place % 64)) ∙ are.bits place)
-IsPlane-blank number segments (word ∷ more) blank count same none are enough zeros =
-    absurd (omega (arith, none))
+-- and zeros are that of a proposition that has no words
+pub blank_plane : (number count : ℕ) (segments : List Segment) (words blank : List ℕ)
+    → count ≡ words_for (length segments) → AreWordsOf number segments words
+    → (length words == 0) ≡ true → length segments ≤ length blank * 64
+    → ((place : ℕ) → bit_in blank place ≡ 0) → IsPlane number segments (take count blank)
+blank_plane number count segments [] blank is are none enough zero =
+    plane_of number count segments blank is enough
+    (λ place. zero place ∙ sym (bit_at-zero (place % 64)) ∙ are.bits place)
+blank_plane number count segments (word ∷ words) blank is are none enough zero =
+    absurd (false≢true (sym (eqb-suc-zero (length words)) ∙ none))

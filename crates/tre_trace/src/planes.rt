@@ -51,7 +51,8 @@ impl Planes {
         begin_block(&mut self.starts, count, end)?;
         self.blank.stretch(count / WORD_BITS + 1)?;
         widen(&mut self.own, valuation)?;
-        make_room(&mut self.own, count, valuation)
+        make_room(&mut self.own, count, valuation)?;
+        Ok(())
     }
 
     /// Adds what is beside a block of segments, behind so many in whole blocks, which end at `end`.

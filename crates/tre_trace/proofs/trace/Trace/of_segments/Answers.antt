@@ -1,10 +1,24 @@
-use Rattle.std.proofs.Common.{◌≡◌, ◌⊎◌, ◌+◌, ◌-◌, ◌*◌, ◌≤◌, ◌∙◌, inl, inr, length, take, drop, ap, sym, arith}
+use Rattle.std.proofs.Common.{◌≡◌, ◌⊎◌, ◌+◌, ◌-◌, ◌*◌, ◌≤◌, ◌∙◌, inl, inr, length, take, drop, refl, ap, sym, arith}
 use Rattle.std.proofs.lemmas.Bool.{cases_lt}
-use Rattle.std.proofs.lemmas.List.{length-take-le}
+use Rattle.std.proofs.lemmas.List.{length-take-le, take_all}
 use Rattle.tre_trace.specs.Trace.{end_of}
 use Rattle.tre_trace.proofs.Blocks.{take_in_two, take_within}
 use Rattle.tre_trace.proofs.Segments.{end_of-from, end_of-take-le}
 use Rattle.tre_trace.proofs.trace.Trace.of_segments.Goals as goal
+
+pub loop-block-init : goal.loop-block-init
+loop-block-init c = record { beside = c.new-planes.ensures; end = refl }
+
+pub add_block-requires-clause-beside : goal.add_block-requires-clause-beside
+add_block-requires-clause-beside c =
+    let segments = c.args.segments.items in
+    let from = c.loop-block.block * 64 in
+    record {
+      segments = take from segments;
+      same = sym (length-take-le from segments (omega (arith, c.len-in-loop-block.ensures)));
+      ends = c.loop-block.invariant.end;
+      beside = c.loop-block.invariant.beside;
+    }
 
 pub end_of-end-requires : goal.end_of-end-requires
 end_of-end-requires c =
@@ -44,3 +58,13 @@ loop-block-preserved c =
           c.loop-block.invariant.beside));
       end = c.end_of-end.ensures ∙ last ∙ ap (end_of 0) whole;
     }
+
+pub invariant_of-result : goal.invariant_of-result
+invariant_of-result c =
+    let segments = c.args.segments.items in
+    let all = take_all (c.loop-block.block * 64) segments
+    (omega (arith, c.len.ensures, c.div_ceil-block-end.ensures, c.loop-block-test.false)) in (
+      c.requires.trace,
+      c.loop-block.invariant.end ∙ ap (end_of 0) all,
+      rw all at c.loop-block.invariant.beside,
+    )
