@@ -6,13 +6,32 @@ use Rattle.tre_num.specs.Left.{IsNextRecord}
 use Rattle.tre_num.specs.declared.column.Column.{Column}
 use Rattle.tre_num.specs.Rows.{ColumnTerms, compared, row_says, rows_from, rows_recording, says_on, table_says, under_header}
 use Rattle.tre_parts.specs.Format.{faulty, nothing}
-use Rattle.tre_trace.specs.Reading.{Adds, IsRefused, Reading, Recording, Stretch, Vocabulary, events_for, segments_for}
+use Rattle.tre_trace.specs.Reading.{Adds, IsPlaced, IsRefused, Reading, Recording, Stretch, Vocabulary, events_for, segments_for}
 use Rattle.tre_trace.specs.declared.fault.TraceFault.{TraceFault}
 use Rattle.tre_trace.specs.declared.fault.TraceKind.{TraceKind}
 use Rattle.tre_trace.specs.declared.fault.TraceKind.TheVariants.{Memory, Spent, UnknownName}
 use Rattle.tre_trace.specs.declared.segment.Segment.{Segment}
 use Rattle.tre_trace.proofs.Readings.{Adds-none, IsRefused-memory, IsRefused-told, is_memory}
 use Rattle.tre_num.proofs.Telling.{no-bits}
+
+-- ---- faults
+
+pub unknown_placed : IsPlaced (record { place = 1; kind = UnknownName })
+unknown_placed = record { memory = λ (e : UnknownName ≡ Memory). cc }
+
+pub unknown_unspent : UnknownName ≢ Spent
+unknown_unspent = λ (e : UnknownName ≡ Spent). cc
+
+pub memory_placed : (fault : TraceFault) → fault ≡ record { place = 0; kind = Memory }
+    → IsPlaced fault
+memory_placed fault is = record { memory = λ _. ap (λ (f : TraceFault). f.place) is }
+
+pub memory_unspent : (fault : TraceFault) → fault ≡ record { place = 0; kind = Memory }
+    → fault.kind ≢ Spent
+memory_unspent fault is = λ spent.
+    let e : Memory ≡ Spent = sym (ap (λ (f : TraceFault). f.kind) is) ∙ spent in cc
+
+-- ---- what stands under a header
 
 module _ (terms : ColumnTerms) (all : List (List (List ℕ))) where
   -- What the rows say under this header.
@@ -31,6 +50,20 @@ module _ (terms : ColumnTerms) (all : List (List (List ℕ))) where
     is = ap (table_says terms) next
         ∙ ap (λ fields. under_header terms fields (compared terms fields) []) (sym (none refl));
   }
+
+  -- without a record there is nothing
+  pub no_rows : (header : List (List ℕ)) (columns : List Column) → all ≡ [] → header ≡ []
+      → compared terms header ≡ Some columns → table_says terms all ≡ nothing
+  no_rows header columns none empty is =
+      ap (table_says terms) none
+      ∙ ap (λ found. under_header terms [] found []) (ap (compared terms) (sym empty) ∙ is)
+
+  -- behind the header stand the rows
+  pub under : (header : List (List ℕ)) (rows : List (List (List ℕ))) (columns : List Column)
+      → all ≡ header ∷ rows → compared terms header ≡ Some columns
+      → table_says terms all ≡ rows_from terms header columns 2 rows 0
+  under header rows columns first is =
+      ap (table_says terms) first ∙ ap (λ found. under_header terms header found rows) is
 
   module _ (before : List Segment) (fault : TraceFault) where
     abbrev now : Recording

@@ -33,6 +33,18 @@ pub fn read_rows(
     ensures placed { IfErr result IsPlaced }
 {
     let table = Table::new(definitions, names, events, scale);
+    trace_by(alloc, bytes, &table)
+}
+
+// The trace of the rows, by a table.
+fn trace_by(alloc: Global, bytes: &[u8], table: &Table) -> Result<Trace, TraceFault>
+    ensures trace { IfOk result (λ trace.
+        reading_for table.now.names (rows_recording table.now true bytes.now)
+        ≡ record { segments = trace.segments; last = trace.last; fault = None }) }
+    ensures fault { IfErr result (λ fault. fault.kind ≢ Memory →
+        (rows_recording table.now true bytes.now).fault ≡ Some fault) }
+    ensures placed { IfErr result IsPlaced }
+{
     let mut segments = Vec::new(alloc);
     table.read(alloc, bytes, &mut segments)?;
     trace_of(alloc, segments)

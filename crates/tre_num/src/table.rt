@@ -4,7 +4,7 @@ ghost use Rattle.csv.specs.Reading.{default_config, records, strip_bom};
 ghost use Rattle.csv.specs.Records.{fields_of};
 ghost use Rattle.tre_decimal.specs.declared.TheConstants.{SCALE_MAX};
 ghost use Rattle.tre_num.specs.Left.{IsLeft, IsNextRecord};
-ghost use Rattle.tre_num.specs.Rows.{ColumnTerms, compared, rows_from, rows_recording, terms_of};
+ghost use Rattle.tre_num.specs.Rows.{ColumnTerms, compared, rows_from, rows_recording, table_says, terms_of};
 ghost use Rattle.tre_num.specs.Told.{IsUnder};
 ghost use Rattle.tre_parts.specs.Format.{nothing};
 ghost use Rattle.tre_state.specs.declared.names.TheConstants.{NAMES_MAX};
@@ -76,13 +76,35 @@ impl Table {
     {
         let mut rows = records_of(alloc, source);
         let mut row = ByteRecord::new(alloc);
-        let found = next_row(&mut rows, &mut row)?;
-        let columns = self.columns_under(alloc, &row)?;
+        self.read_left(alloc, &mut rows, &mut row, segments)
+    }
+
+    // Reads the records that are left, one after the other: a header, and rows behind it.
+    fn read_left<R: Read + Drop>(
+        &self,
+        alloc: Global,
+        rows: &mut Reader<R>,
+        row: &mut ByteRecord,
+        segments: &mut Vec<Segment>,
+    ) -> Result<(), TraceFault>
+        ensures whole { (left : List (List (List ℕ))) → IsLeft R.remaining rows.old left →
+            OnOk result ((table_says self.now left).fault ≡ None) }
+        ensures adds { (left : List (List (List ℕ))) → IsLeft R.remaining rows.old left →
+            OnOk result (Adds self.now.names segments.old.items segments.new.items nothing
+            (table_says self.now left)) }
+        ensures refused { (left : List (List (List ℕ))) → IsLeft R.remaining rows.old left →
+            IfErr result (IsRefused self.now.names segments.old.items segments.new.items
+            nothing (table_says self.now left)) }
+        ensures placed { IfErr result IsPlaced }
+        ensures never_spent { IfErr result (λ fault. fault.kind ≢ Spent) }
+    {
+        let found = next_row(rows, row)?;
+        let columns = self.columns_under(alloc, row)?;
         if !found {
             return Ok(());
         }
         let width = row.len();
-        read_behind(&mut rows, &mut row, &columns, width, self.scale, segments)
+        read_behind(rows, row, &columns, width, self.scale, segments)
     }
 
     // The columns of all names under this header.

@@ -6,6 +6,7 @@ use Rattle.csv.specs.Records.{fields_of}
 use Rattle.tre_num.specs.Left.{TakesRecord}
 use Rattle.tre_num.specs.Rows.{row_says}
 use Rattle.tre_num.proofs.Telling.{row-is, says-fault, says-stretch}
+use Rattle.tre_num.proofs.Tables.{memory_placed, memory_unspent}
 use Rattle.tre_num.proofs.Reading.{read-none, read-one, read-fault, read-stopped, read-all, read-faultless}
 use Rattle.tre_trace.specs.Reading.{segment_for, segments_for}
 use Rattle.tre_trace.specs.declared.fault.TraceFault.{TraceFault}
@@ -27,6 +28,24 @@ returns-in_err-found-clause-refused g c terms header left under is =
     c.args.segments.now.items c.loop.segments.items c.loop.end c.loop.rows _
     (c.loop.invariant.reads terms header left under is)
     (ap (λ (fault : TraceFault). fault.kind) c.in_err-found.ensures.fault))
+
+pub returns-in_err-found-clause-whole : goal.returns-in_err-found-clause-whole
+returns-in_err-found-clause-whole g c terms header left under is =
+    let p = err_from_is_err_and c.from_residual.result c.from_residual.ensures.1 in rw p.1 tt
+
+pub returns-in_err-found-clause-adds : goal.returns-in_err-found-clause-adds
+returns-in_err-found-clause-adds g c terms header left under is =
+    let p = err_from_is_err_and c.from_residual.result c.from_residual.ensures.1 in rw p.1 tt
+
+pub returns-in_err-found-clause-placed : goal.returns-in_err-found-clause-placed
+returns-in_err-found-clause-placed g c =
+    let p = err_from_is_err_and c.from_residual.result c.from_residual.ensures.1 in
+    rw (p.1, p.2) (memory_placed _ c.in_err-found.ensures.fault)
+
+pub returns-in_err-found-clause-never_spent : goal.returns-in_err-found-clause-never_spent
+returns-in_err-found-clause-never_spent g c =
+    let p = err_from_is_err_and c.from_residual.result c.from_residual.ensures.1 in
+    rw (p.1, p.2) (memory_unspent _ c.in_err-found.ensures.fault)
 
 pub returns-then-not-found-clause-whole : goal.returns-then-not-found-clause-whole
 returns-then-not-found-clause-whole g c terms header left under is =
@@ -69,6 +88,19 @@ returns-in-Err-clause-refused g c terms header left under is =
     fields c.in-Err.kind (c.len.result - c.len-before.result) so_far takes says
     c.in-Err.ensures.kinds.1 count
 
+pub returns-in-Err-clause-placed : goal.returns-in-Err-clause-placed
+returns-in-Err-clause-placed g c =
+    record { memory = λ memory. absurd (c.in-Err.ensures.kinds.0 memory) }
+
+pub returns-in-Err-clause-never_spent : goal.returns-in-Err-clause-never_spent
+returns-in-Err-clause-never_spent g c = c.in-Err.ensures.kinds.1
+
+pub returns-then-is_err-clause-placed : goal.returns-then-is_err-clause-placed
+returns-then-is_err-clause-placed g c = memory_placed _ refl
+
+pub returns-then-is_err-clause-never_spent : goal.returns-then-is_err-clause-never_spent
+returns-then-is_err-clause-never_spent g c = memory_unspent _ refl
+
 pub returns-then-is_err-clause-refused : goal.returns-then-is_err-clause-refused
 returns-then-is_err-clause-refused g c terms header left under is =
     let bad : is_ok c.push.result ≡ false = search rules in
@@ -102,6 +134,12 @@ loop-preserved g c =
           (says-stretch terms.names (row_says terms header columns end fields) segment
           (sym (row-is under end fields) ∙ gives));
     })
+
+pub returns-clause-placed : goal.returns-clause-placed
+returns-clause-placed g c = memory_placed _ refl
+
+pub returns-clause-never_spent : goal.returns-clause-never_spent
+returns-clause-never_spent g c = memory_unspent _ refl
 
 pub returns-clause-refused : goal.returns-clause-refused
 returns-clause-refused g c terms header left under is =
