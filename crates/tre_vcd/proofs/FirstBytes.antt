@@ -1,11 +1,11 @@
 -- What a token says, by what its first byte makes it.
-use Rattle.std.proofs.Common.{◌≡◌, ℕ, ◌==◌, ◌||◌, Bool, true, false, List, ◌∷◌, codes, Result, Err, refl, ap, ◌∙◌, if◌then◌else◌}
+use Rattle.std.proofs.Common.{◌≡◌, ℕ, ◌==◌, ◌||◌, Bool, true, false, List, [], ◌∷◌, length, codes, Result, Err, refl, ap, ◌∙◌, arith, if◌then◌else◌}
 use Rattle.std.specs.List.{list_any}
 use Rattle.tre_parts.specs.Format.{Step}
 use Rattle.tre_trace.specs.declared.fault.TraceKind.{TraceKind}
 use Rattle.tre_trace.specs.declared.fault.TraceKind.TheVariants.{BadToken}
 use Rattle.tre_vcd.specs.Letters.{letter_of}
-use Rattle.tre_vcd.specs.VcdReading.{Terms, Statement, number, Place, is_scalar, goes_to, ticks_say, keyword_says, vector_says, scalar_says, value_says}
+use Rattle.tre_vcd.specs.VcdReading.{Terms, Statement, nothing, number, Place, is_scalar, goes_to, ticks_say, keyword_says, vector_says, scalar_says, value_says}
 use Rattle.tre_vcd.specs.declared.token.Letter.{Letter}
 use Rattle.tre_vcd.specs.declared.token.Letter.TheVariants.{Time, Keyword, Vector, Number, Scalar, Other}
 
@@ -38,3 +38,9 @@ letter-says terms past token byte bytes letter whole is =
     (list_any (λ letter. byte == letter) (codes "rRsS")) (is_scalar byte)
     (says_as terms past byte bytes)
     ∙ ap (says_as terms past byte bytes) is
+
+-- a token of no bytes says nothing
+pub nothing-said : (terms : Terms) (past : List Statement) (token : List ℕ) → length token ≡ 0
+    → value_says terms past token ≡ goes_to past nothing
+nothing-said terms past [] none = refl
+nothing-said terms past (byte ∷ bytes) none = absurd (omega (arith, none))

@@ -1,27 +1,32 @@
 -- Tokens among the values, that are read one after the other.
 use Rattle.std.specs.Global.{Vec}
 use Rattle.std.specs.Str.Parse.{digits_value}
-use Rattle.std.proofs.Common.{◌≡◌, ◌≢◌, ℕ, ◌+◌, ◌-◌, ◌*◌, ◌^◌, ◌≤◌, min, ◌==◌, true, false, List, [], ◌∷◌, append-nil, length, map, refl, sym, ap, ◌∙◌, subst, arith}
+use Rattle.std.proofs.Common.{◌≡◌, ◌≢◌, ℕ, ◌+◌, ◌-◌, ◌*◌, ◌^◌, ◌≤◌, min, ◌==◌, true, false, List, [], ◌∷◌, append-nil, length, map, Result, refl, sym, ap, ◌∙◌, subst, arith, if◌then◌else◌}
+use Rattle.std.proofs.Math.Dec.{eqb-suc-zero}
 use Rattle.std.proofs.lemmas.Bool.Decides.{nat_tests}
 use Rattle.tre_decimal.specs.Decimal.{is_numeral}
 use Rattle.tre_pairs.specs.declared.TheConstants.{TIME_MAX}
 use Rattle.tre_parts.specs.Bytes.{between, IsNextAt}
+use Rattle.tre_parts.specs.Format.{Step}
 use Rattle.tre_parts.specs.Skims.{Skims}
 use Rattle.tre_parts.specs.Walk.{AddsPart, PartGoesOn}
 use Rattle.tre_parts.specs.declared.TheConstants.{PART_MAX}
 use Rattle.tre_parts.specs.declared.skimmed.Skimmed.{Skimmed}
 use Rattle.tre_parts.proofs.Skimming.{skims-next, skims-kept}
 use Rattle.tre_trace.specs.Reading.{Vocabulary}
+use Rattle.tre_trace.specs.declared.fault.TraceKind.{TraceKind}
 use Rattle.tre_trace.specs.declared.segment.Segment.{Segment}
 use Rattle.tre_vcd.specs.Kept.{KnowsOfPast}
 use Rattle.tre_vcd.specs.Offers.{KnowOffers}
 use Rattle.tre_vcd.specs.Sections.{Holds, KnowsPast}
 use Rattle.tre_vcd.specs.Signals.{KnowsChanges, KnowsSignals}
-use Rattle.tre_vcd.specs.VcdReading.{Terms, Form, scalar, wide, Statement, change, time, Open, nothing, vector, Place, is_defined, is_white, of_changes, time_at, stretch_until, goes_to, scalar_says, ticks_say, value_says, token_says, vcd_format}
+use Rattle.tre_vcd.specs.VcdReading.{Terms, Form, scalar, wide, Statement, change, time, Open, nothing, vector, Place, is_defined, is_white, of_changes, time_at, stretch_until, goes_to, scalar_says, ticks_say, value_says, vector_says, token_says, vcd_format}
+use Rattle.tre_vcd.specs.Taken.{IsTaken}
 use Rattle.tre_vcd.specs.declared.changes.Changes.{Changes}
 use Rattle.tre_vcd.specs.declared.inside.Inside.TheVariants.{Nothing}
 use Rattle.tre_vcd.specs.declared.past.Past.{Past}
 use Rattle.tre_vcd.specs.declared.signals.Signals.{Signals}
+use Rattle.tre_vcd.specs.declared.skim.Taken.TheVariants.{Not, Vector}
 use Rattle.tre_vcd.specs.declared.token_reader.TokenReader.{TokenReader}
 use Rattle.tre_vcd.proofs.Changing.{past-changed}
 use Rattle.tre_vcd.proofs.Needing.{needed-same}
@@ -160,6 +165,18 @@ scalar-taken past letter identifier segments some held = record {
     is_held = held;
   };
 }
+
+-- a vector, which is left where it is not empty
+pub vector-taken : (asked : Vocabulary) (holds : Place → Type 0) (past : List Statement)
+    (said : Result (Step Place) TraceKind) (rest letters : List ℕ) (segments : List Segment)
+    → said ≡ vector_says past rest → letters ≡ rest
+    → holds (record { past = past; inside = nothing })
+    → IsTaken asked said holds past letters segments segments
+    (if length rest == 0 then Not else Vector)
+vector-taken asked holds past said [] letters segments is same held = (held, refl)
+vector-taken asked holds past said (byte ∷ rest) letters segments is same held =
+    rw (eqb-suc-zero (length rest))
+    (is ∙ ap (λ l. goes_to past (vector l)) (sym same), held, refl)
 
 module _ (terms : Terms) (past : List Statement) (digits : List ℕ) (ticks : ℕ)
     (numeral : is_numeral digits ≡ true)

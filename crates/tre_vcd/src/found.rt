@@ -63,7 +63,7 @@ impl Found {
         names.max(events)
     }
 
-    // A proposition is declared by these tokens of its declaration.
+    // A proposition of this path is declared, if it is one of the names.
     fn declare(&mut self, path: &[u8])
         ensures knows { (past : List Statement) (identifier : List ℕ) (tokens : List (List ℕ)) →
             KnowsNeeded past self.old →
@@ -77,7 +77,7 @@ impl Found {
         flag(&self.needed.names, path, &mut self.names);
     }
 
-    // An event is declared by these tokens of its declaration.
+    // An event of this path is declared, if it is one of the names.
     fn declare_event(&mut self, path: &[u8])
         ensures knows { (past : List Statement) (identifier : List ℕ) (tokens : List (List ℕ)) →
             KnowsNeeded past self.old →
@@ -91,7 +91,7 @@ impl Found {
         flag(&self.needed.events, path, &mut self.events);
     }
 
-    // This is offered to definitions by these tokens of its declaration.
+    // This is offered to definitions by a declaration.
     fn declare_offered(&mut self, offered: &Offered)
         ensures offers { (all : List SignalDefined) (past : List Statement)
             (tokens : List (List ℕ)) →

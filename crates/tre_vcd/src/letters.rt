@@ -1,4 +1,4 @@
-// The letters of values.
+// The letters of values, and bytes that are put together or copied.
 ghost use Rattle.std.specs.Prelude.{◌≡◌, ◌++◌, None, Some, IfOk, OnOk};
 ghost use Rattle.tre_vcd.specs.VcdReading.{differs};
 ghost use Rattle.tre_vcd.specs.Signals.{letters_kept};

@@ -65,7 +65,7 @@ impl Past {
         self.scopes.leave();
     }
 
-    // A proposition of this path is declared by these tokens of its declaration.
+    // A proposition of this path is declared with this identifier.
     pub fn declare(
         &mut self,
         names: &Names,
@@ -82,7 +82,7 @@ impl Past {
             .declare(self.alloc, names, path, identifier)
     }
 
-    // An event of this path is declared by these tokens of its declaration.
+    // An event of this path is declared with this identifier.
     pub fn declare_event(
         &mut self,
         events: &Names,

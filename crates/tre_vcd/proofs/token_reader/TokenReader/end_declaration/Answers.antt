@@ -1,4 +1,5 @@
-use Rattle.std.proofs.Common.{◌≡◌, ◌∷◌, length, map, take, sym, ap, ◌∙◌, arith}
+use Rattle.std.proofs.Common.{refl, ◌≡◌, ◌∷◌, length, map, take, sym, ap, ◌∙◌, arith}
+use Rattle.tre_trace.specs.declared.fault.TraceKind.TheVariants.{Memory, Spent}
 use Rattle.std.proofs.lemmas.List.{length-map}
 use Rattle.tre_vcd.specs.VcdReading.{var, nothing}
 use Rattle.tre_vcd.proofs.Tokens.{declaration-long}
@@ -17,3 +18,9 @@ returns-in-Ok-clause-tells c = λ past word tokens holds.
       is_held = c.close.ensures.holds (var tokens ∷ past)
           (c.in-Ok.ensures.knows past word tokens holds);
     }
+
+pub returns-in-Err-clause-tells : goal.returns-in-Err-clause-tells
+returns-in-Err-clause-tells c = λ past word tokens holds. record {
+  says = λ other. absurd (other refl);
+  never_spent = λ (e : Memory ≡ Spent). cc;
+}

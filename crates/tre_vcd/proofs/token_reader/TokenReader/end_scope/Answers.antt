@@ -1,4 +1,5 @@
 use Rattle.std.proofs.Common.{◌≡◌, ◌∷◌, length, map, take, refl, sym, ap, ◌∙◌, arith}
+use Rattle.tre_trace.specs.declared.fault.TraceKind.TheVariants.{Memory, Spent}
 use Rattle.std.proofs.lemmas.List.{length-map}
 use Rattle.tre_vcd.specs.VcdReading.{scope, nothing}
 use Rattle.tre_vcd.proofs.Tokens.{scope-long, kept-at}
@@ -32,3 +33,9 @@ returns-in-Ok-clause-tells c = λ past word tokens holds.
           (λ test own. refl) (stays (scope name) past tt)
           (c.in-Ok.ensures reader.names reader.events past holds.knows.past) holds.knows);
     }
+
+pub returns-in-Err-clause-tells : goal.returns-in-Err-clause-tells
+returns-in-Err-clause-tells c = λ past word tokens holds. record {
+  says = λ other. absurd (other refl);
+  never_spent = λ (e : Memory ≡ Spent). cc;
+}

@@ -1,4 +1,5 @@
-use Rattle.std.proofs.Common.{◌≢◌, sym, ◌∙◌, arith}
+use Rattle.std.proofs.Common.{◌≡◌, ◌≢◌, refl, sym, ◌∙◌, arith}
+use Rattle.tre_trace.specs.declared.fault.TraceKind.TheVariants.{BadToken, Spent}
 use Rattle.tre_vcd.specs.VcdReading.{time_at, stretch_until}
 use Rattle.tre_vcd.specs.Sections.{terms_kept}
 use Rattle.tre_vcd.proofs.Skimming.{holds-again, holds-later, time-again, time-later}
@@ -29,3 +30,9 @@ returns-clause-tells c = λ past holds defined.
           (c.reach-2.ensures.knows reader.names reader.events past holds.knows.past)
           (c.reach-3.ensures _ reader.events past ticks apart holds.knows.signals.changes) holds);
     }
+
+pub returns-in_default-clause-tells : goal.returns-in_default-clause-tells
+returns-in_default-clause-tells c = λ past holds defined. record {
+  says = λ other. rw c.in_default.ensures.none refl;
+  never_spent = λ (e : BadToken ≡ Spent). cc;
+}

@@ -1,10 +1,11 @@
-use Rattle.std.proofs.Common.{refl, sym, ap, subst, ◌∙◌}
+use Rattle.tre_trace.specs.declared.fault.TraceKind.TheVariants.{BadToken, Spent}
+use Rattle.std.proofs.Common.{◌≡◌, refl, sym, ap, subst, ◌∙◌}
 use Rattle.tre_parts.specs.Walk.{TellsPart}
-use Rattle.tre_vcd.specs.VcdReading.{number, keyword_says}
+use Rattle.tre_vcd.specs.VcdReading.{nothing, number, keyword_says}
 use Rattle.tre_vcd.specs.Sections.{Holds, asked_of_reader, terms_kept}
-use Rattle.tre_vcd.proofs.FirstBytes.{letter-says}
+use Rattle.tre_vcd.proofs.FirstBytes.{letter-says, nothing-said}
 use Rattle.tre_vcd.specs.declared.inside.Inside.TheVariants.{Number as OpenNumber}
-use Rattle.tre_vcd.specs.declared.token.Letter.TheVariants.{Time, Keyword, Vector, Number, Scalar}
+use Rattle.tre_vcd.specs.declared.token.Letter.TheVariants.{Time, Keyword, Vector, Number, Scalar, Other}
 use Rattle.tre_vcd.proofs.Staying.{knows-kept}
 use Rattle.tre_vcd.proofs.token_reader.TokenReader.read_value.Goals as goal
 
@@ -62,3 +63,19 @@ returns-in-Keyword-clause-tells c = λ past holds defined.
     c.in-Some.rest.now Keyword c.in-Some.ensures.cases.0 (sym c.letter_of.ensures ∙ c.in-Keyword.is)
     ∙ ap (keyword_says past) (sym c.in-Some.ensures.cases.0)))
     (c.read_keyword.ensures.tells past holds defined)
+
+pub returns-in_default-clause-tells : goal.returns-in_default-clause-tells
+returns-in_default-clause-tells c = λ past holds defined. record {
+  state = record { past = past; inside = nothing };
+  says = nothing-said (terms_kept c.args.self.now) past c.args.token.now
+      c.in_default.ensures.cases;
+  is_held = holds;
+}
+
+pub returns-in-Other-clause-tells : goal.returns-in-Other-clause-tells
+returns-in-Other-clause-tells c = λ past holds defined. record {
+  says = λ other. letter-says (terms_kept c.args.self.now) past c.args.token.now
+      c.in-Some.first.now c.in-Some.rest.now Other c.in-Some.ensures.cases.0
+      (sym c.letter_of.ensures ∙ c.in-Other.is);
+  never_spent = λ (e : BadToken ≡ Spent). cc;
+}

@@ -1,4 +1,4 @@
-use Rattle.std.proofs.Common.{◌≢◌, ◌∷◌, [], ◌++◌, append-nil, sym, ap, ◌∙◌, arith}
+use Rattle.std.proofs.Common.{◌≢◌, ◌∷◌, [], ◌++◌, append-nil, refl, sym, ap, ◌∙◌, arith}
 use Rattle.tre_vcd.specs.VcdReading.{time_at, stretch_until}
 use Rattle.tre_vcd.specs.Sections.{terms_kept}
 use Rattle.tre_vcd.proofs.Skimming.{holds-again, holds-later, time-again, time-later}
@@ -36,3 +36,9 @@ returns-in-Ok-clause-taken c = λ past letters holds defined.
           (c.reach-in-Ok-2.ensures _ reader.events past ticks apart holds.knows.signals.changes)
           holds);
     }
+
+pub returns-in_default-clause-taken : goal.returns-in_default-clause-taken
+returns-in_default-clause-taken c = λ past letters holds defined. (holds, refl)
+
+pub returns-then-ticks-self-clause-taken : goal.returns-then-ticks-self-clause-taken
+returns-then-ticks-self-clause-taken c = λ past letters holds defined. (holds, refl)
