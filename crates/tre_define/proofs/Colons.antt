@@ -1,13 +1,15 @@
 -- No number has a bracket, and so no range has one between its own.
 use Rattle.std.proofs.Common.{◌≡◌, ℕ, zero, suc, ◌+◌, ◌-◌, ◌^◌, ◌<◌, ◌≤◌, ◌⊎◌, Bool, true, false, ℤ, pos, neg_ℤ, List, [], ◌∷◌, length, take, drop, get_or, Option, None, Some, option_map, inl, inr, refl, sym, ap, ◌∙◌, arith}
-use Rattle.std.specs.Prelude.{nat_le, nat_lt, ◌&&◌, ◌==◌, if◌then◌else◌}
+use Rattle.std.specs.Prelude.{nat_le, nat_lt, position, ◌&&◌, ◌==◌, if◌then◌else◌}
 use Rattle.std.specs.Char.{is_ascii_digit}
 use Rattle.std.specs.List.{after_first, before_first, list_all, position_or_len}
 use Rattle.std.specs.Str.Parse.{digits_value}
 use Rattle.std.proofs.lemmas.Bool.{cases_lt, false≢true}
-use Rattle.std.proofs.lemmas.List.{get_or-drop, get_or-take, length-drop, length-take}
+use Rattle.std.proofs.lemmas.List.{drop_all, get_or-drop, get_or-take, length-drop, length-take}
 use Rattle.std.proofs.lemmas.List.Folds.{list_all_at}
-use Rattle.std.proofs.lemmas.List.Sums.{passes_at_first}
+use Rattle.std.proofs.lemmas.List.Quantifiers.{position-Some}
+use Rattle.std.proofs.lemmas.List.Sums.{passes_at_first, position_or_len_is}
+use Rattle.tre_state.proofs.Places.{none_len}
 use Rattle.tre_define.specs.Named.{is_colon, number_in, range_between, range_within, small_in}
 
 range_of-none : (left : Option ℤ) → range_within left None ≡ None
@@ -41,6 +43,38 @@ number-bracket (byte ∷ bytes) (suc k) below bracket = by (byte == 45) where
       ap (option_map (λ number. neg_ℤ (pos number)))
       (small-bracket bytes k (omega (arith, below)) bracket)
   by false = ap (option_map pos) (small-bracket (byte ∷ bytes) (suc k) below bracket)
+
+-- Bytes without a colon are none,
+pub no-colon : (text : List ℕ) → position is_colon text ≡ None → range_between text ≡ None
+no-colon text none =
+    let all = none_len is_colon text none in
+    let empty : after_first is_colon text ≡ [] =
+    drop_all (position_or_len is_colon text + 1) text (omega (arith, all)) in
+    ap (λ rest. range_within (number_in (before_first is_colon text)) (number_in rest)) empty
+    ∙ range_of-none (number_in (before_first is_colon text))
+
+-- and others are cut at the first one.
+pub at-colon : (text : List ℕ) (colon : ℕ) → position is_colon text ≡ Some colon
+    → range_between text
+    ≡ range_within (number_in (take colon text)) (number_in (drop (colon + 1) text))
+at-colon text colon found =
+    let some = position-Some is_colon text colon 0 found in
+    let place : position_or_len is_colon text ≡ colon =
+    position_or_len_is is_colon text colon 0 (omega (arith, some.0)) some.2 (λ below. some.1) in
+    ap (λ n. range_within (number_in (take n text)) (number_in (drop (n + 1) text))) place
+
+-- A text of two numbers is a range where both are.
+pub no-left : (text : List ℕ) (colon : ℕ) → position is_colon text ≡ Some colon
+    → number_in (take colon text) ≡ None → range_between text ≡ None
+no-left text colon found none =
+    at-colon text colon found
+    ∙ ap (λ left. range_within left (number_in (drop (colon + 1) text))) none
+
+pub no-right : (text : List ℕ) (colon : ℕ) → position is_colon text ≡ Some colon
+    → number_in (drop (colon + 1) text) ≡ None → range_between text ≡ None
+no-right text colon found none =
+    at-colon text colon found ∙ ap (range_within (number_in (take colon text))) none
+    ∙ range_of-none (number_in (take colon text))
 
 -- Bytes with a bracket are no range.
 pub bracket-inside : (text : List ℕ) (place : ℕ) → place < length text → get_or text place 0 ≡ 91
