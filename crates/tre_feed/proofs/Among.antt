@@ -1,6 +1,6 @@
 -- Where names stand among others: places stay when names come behind, and tell the bits.
 use Rattle.std.proofs.Common.{◌≡◌, ◌≢◌, ℕ, zero, suc, ◌+◌, ◌*◌, ◌/◌, ◌%◌, ◌^◌, ◌<◌, ◌≤◌, Bool, true, false, List, [], ◌∷◌, ◌++◌, length, get_or, take, drop, Option, None, Some, refl, sym, ap, ◌∙◌, subst, arith, length-append, append_assoc}
-use Rattle.std.proofs.lemmas.List.{append-nil, length-take, length-drop, take_more}
+use Rattle.std.proofs.lemmas.List.{append-nil, length-take, length-drop, take_all, take_more}
 use Rattle.std.proofs.lemmas.Option.{get_or_from_slice_get, slice_get_within}
 use Rattle.std.proofs.Math.Pow.{pow_mono}
 use Rattle.std.specs.Prelude.{All, AllPairs, position, nat_lt, slice_get, IsSomeAnd}
@@ -17,7 +17,8 @@ use Rattle.std.proofs.lemmas.Nat.{pow_pos}
 use Rattle.std.proofs.lemmas.Slice.Eq.{bytes_eq-Decides}
 use Rattle.tre_trace.specs.Reading.{bits_of}
 use Rattle.tre_trace.proofs.Naming.{bit, bit-at, first-bit}
-use Rattle.tre_state.specs.Names.{place_of}
+use Rattle.tre_state.specs.Name.{IsName}
+use Rattle.tre_state.specs.Names.{IsNameList, place_of}
 use Rattle.tre_state.specs.declared.names.TheConstants.{NAMES_MAX}
 use Rattle.tre_feed.specs.Growth.{Extends}
 use Rattle.tre_feed.specs.Places.{ArePlaces}
@@ -176,6 +177,19 @@ pub places-next : (all asked : List (List ℕ)) (places more : List ℕ) (i plac
 places-next all asked places more i place within are is new =
     rw (take_more asked i [] within, new)
     (places-push all (take i asked) places (get_or asked i []) place are is)
+
+-- the places of the first names are those of all, where these are no more
+pub places-all : (asked all : List (List ℕ)) (places : List ℕ) (i : ℕ) → length asked ≤ i
+    → ArePlaces (take i asked) all places → ArePlaces asked all places
+places-all asked all places i past are =
+    subst (λ (names : List (List ℕ)). ArePlaces names all places) (take_all i asked past) are
+
+-- what stands in a list of names is a name
+pub name-at : (names : List (List ℕ)) (i : ℕ) (name : List ℕ) → IsNameList names
+    → slice_get names i ≡ Some name → IsName name
+name-at names i name list is =
+    subst IsName (get_or_from_slice_get names i name [] is)
+    (list.each i [] (slice_get_within names i name is))
 
 -- they are few
 pub places-few : (all asked : List (List ℕ)) (places : List ℕ) (i : ℕ) → length asked ≤ NAMES_MAX

@@ -1,6 +1,6 @@
 -- Where a list is cut.
-use Rattle.std.proofs.Common.{◌≡◌, ℕ, zero, suc, min, ◌-◌, ◌≤◌, List, [], ◌∷◌, ◌++◌, length, take, refl, ap, arith}
-use Rattle.std.proofs.lemmas.List.{take_all}
+use Rattle.std.proofs.Common.{◌≡◌, ℕ, zero, suc, min, ◌-◌, ◌≤◌, List, [], ◌∷◌, ◌++◌, drop, length, take, refl, ap, arith, length-append, length-take}
+use Rattle.std.proofs.lemmas.List.{length-drop, take_all}
 
 -- a list no longer than that is its own front
 pub take-over : {X : Type 0} (i : ℕ) (xs : List X) → length xs ≤ i → take i xs ≡ xs
@@ -26,3 +26,14 @@ take_both (suc m) (suc n) [] = let more : min (suc m) (suc n) ≡ suc (min m n) 
 take_both (suc m) (suc n) (x ∷ xs) =
     let more : min (suc m) (suc n) ≡ suc (min m n) = omega arith in
     rw more (ap (λ rest. x ∷ rest) (take_both m n xs))
+
+-- a front that was put back is as long as it was
+pub put_back : (front buffer : List ℕ) (room : ℕ) → length front ≡ length (take room buffer)
+    → length (front ++ drop room buffer) ≡ length buffer
+put_back front buffer room same = omega (
+  arith,
+  same,
+  length-append front (drop room buffer),
+  length-take {A = ℕ} room buffer,
+  length-drop room buffer,
+)

@@ -4,6 +4,7 @@ use Rattle.std.specs.Io.KnownBytes.{Consumes, Keeps, IsAtEnd}
 use Rattle.std.proofs.KnownBytes.{Consumes-trans}
 use Rattle.tre_io.specs.Told.{SourceTold}
 use Rattle.tre_trace.specs.Reading.{Recording, Stretch}
+use Rattle.tre_feed.specs.Front.{IsReadOn}
 use Rattle.tre_feed.specs.Input.{HasReadCause, IsPiece, KeepsSource}
 use Rattle.tre_feed.specs.Stops.{IsOfReaders, IsPieceFed, StopsPiece, TakesIn}
 use Rattle.tre_feed.specs.Turn.{TurnIsFed, HasRead, TurnGoesOn, TurnIsEnded, KeepsWaiting as KeepsAll, StopsTurn, TakesOn, TakesRead}
@@ -11,7 +12,19 @@ use Rattle.tre_feed.specs.declared.TheConstants.{PIECE}
 use Rattle.tre_feed.specs.declared.fault.Fault.{Fault}
 use Rattle.tre_feed.specs.declared.fault.Fault.TheVariants.{Trace, TooLong, TooManyZones, Read, Write, Memory}
 use Rattle.tre_feed.proofs.Cuts.{take-over}
+use Rattle.tre_feed.proofs.Sharing.{on_ok_so}
 use Rattle.tre_feed.proofs.Outcomes.{GrowsOn, TellsAll-fault, TellsAll-end, fed_more}
+
+-- nothing was read behind these bytes
+pub IsReadOn-nothing : (most : ℕ) (old : List ℕ) (before now : Option (List ℕ))
+    (result : Result Bool Fault) → length old ≤ most → Consumes before now []
+    → IsReadOn most old old before now result
+IsReadOn-nothing most old before now result few front = record {
+  piece = [];
+  front = front;
+  few = rw (append-nil old) few;
+  added = on_ok_so result (sym (append-nil old));
+}
 
 pub Consumes-keeps : (a b c : Option (List ℕ)) (bytes : List ℕ) → Consumes a b bytes → Keeps b c
     → Consumes a c bytes

@@ -1,6 +1,6 @@
 -- What views show of the rows, for the names of each who asks.
-use Rattle.std.proofs.Common.{◌≡◌, ◌∙◌, ℕ, zero, suc, ◌+◌, ◌<◌, Bool, List, [], ◌∷◌, ◌++◌, All, length, map, take, get_or, refl, sym, ap, ap₂, subst, arith}
-use Rattle.std.proofs.lemmas.List.{length-map, map-append, take_more}
+use Rattle.std.proofs.Common.{◌≡◌, ◌∙◌, ℕ, zero, suc, ◌+◌, ◌<◌, ◌≤◌, Bool, List, [], ◌∷◌, ◌++◌, All, length, map, take, get_or, refl, sym, ap, ap₂, subst, arith}
+use Rattle.std.proofs.lemmas.List.{length-map, map-append, take_all, take_more}
 use Rattle.std.proofs.lemmas.List.Elements.{All-head, All-tail}
 use Rattle.std.proofs.lemmas.Option.{get_or_from_slice_get, slice_get_within}
 use Rattle.tre_feed.specs.Places.{places_of}
@@ -35,6 +35,11 @@ mapped-next {B = B} f xs k x old new y so_far below here is pushed =
     pushed ∙ (ap₂ (λ (front : List B) (last : B). front ++ last ∷ []) so_far (is ∙ ap f here)
     ∙ (sym (map-append f (take k xs) (get_or xs k x ∷ []))
     ∙ ap (map f) (sym (take_more xs k x below))))
+
+-- the items of a map that goes as far as the list
+pub mapped-all : {A B : Type 0} (f : A → B) (xs : List A) (k : ℕ) (all : List B) → length xs ≤ k
+    → all ≡ map f (take k xs) → all ≡ map f xs
+mapped-all f xs k all past so_far = so_far ∙ ap (map f) (take_all k xs past)
 
 module _ {R : Type 0} (names : R → Vocabulary) where
   -- the row of a group is what waits, for its names

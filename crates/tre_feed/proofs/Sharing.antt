@@ -57,7 +57,7 @@ views-push groups (first ∷ asked) (other ∷ views) names view are is =
 
 -- ---- groups that keep their names
 
-IsWider-none : (names : Vocabulary) → IsWider names names
+pub IsWider-none : (names : Vocabulary) → IsWider names names
 IsWider-none names = record {
   names = Extends-none names.names;
   events = Extends-none names.events;

@@ -80,6 +80,15 @@ module _ {R Terms : Type 0} (terms : R → Terms) (recording : Terms → Bool �
     by_terms represents [] bytes all some stand = absurd (omega (arith, some))
     by_terms represents (fed ∷ each) bytes all some stand = ap recording stand.0.0
 
+-- a first one and others that are asked what they were
+pub asked_again : {R Terms : Type 0} (names : R → Vocabulary) (terms : R → Terms)
+    (each new old : List (Fed R)) (first one : Fed R) → each ≡ first ∷ old
+    → asked_by names terms one.reader ≡ asked_by names terms first.reader
+    → all_asked names terms new ≡ all_asked names terms old
+    → all_asked names terms (one ∷ new) ≡ all_asked names terms each
+asked_again {Terms = Terms} names terms each new old first one is same others =
+    rw is (ap₂ (λ (asked : Asked Terms) rest. asked ∷ rest) same others)
+
 -- readers that were fed at most this much
 pub room_each : {R : Type 0} (fed_of : R → ℕ) (each : List (Fed R)) (taken limit most : ℕ)
     → AllByRecursion (λ fed. fed_of fed.reader ≤ taken) each → taken ≤ limit → limit ≤ most
@@ -203,3 +212,7 @@ pub refused_faulty : (asked : Vocabulary) (old new : List Segment) (before now :
     → fault.kind ≢ NoMemory → now.fault ≡ None → ⊥
 refused_faulty asked old new before now fault refused kind none =
     let told = refused.told kind in cc
+
+-- no test says both
+pub no_both : (test : Bool) → test ≡ false → test ≡ true → ⊥
+no_both test fails passes = cc

@@ -1,20 +1,23 @@
 // The input that is a dump.
-ghost use Rattle.std.specs.Prelude.{◌≡◌, ◌<◌, ◌≤◌, ◌∷◌, [], length, map, IfOk};
+ghost use Rattle.std.specs.Prelude.{◌≡◌, ◌<◌, ◌≤◌, ◌∷◌, [], length, map, IfOk, OnOk};
 ghost use Rattle.std.specs.List.{AllByRecursion};
 ghost use Rattle.tre_decimal.specs.declared.TheConstants.{SCALE_MAX};
 ghost use Rattle.tre_feed.specs.Standing.{Asks, IsNew, limit_of, recording_of};
 ghost use Rattle.tre_feed.specs.Dump.{NeedsAll, dump_terms};
 ghost use Rattle.tre_syntax.specs.Pattern.{names_of};
+ghost use Rattle.tre_trace.specs.Reading.{no_names};
 ghost use Rattle.tre_trace.specs.declared.reader.TheConstants.{FED_MAX};
 ghost use Rattle.tre_vcd.specs.Needs.{definitions_of, needs};
-ghost use Rattle.tre_vcd.specs.VcdReading.{vcd_recording};
+ghost use Rattle.tre_vcd.specs.VcdReading.{defining, first_place, requiring, vcd_recording};
 
 use crate::group::Group;
 use crate::input::Input;
+use crate::lists::put_last;
 use crate::shares::share;
 use std::alloc::{AllocError, Global};
 use std::rc::Rc;
 use tre_define::SignalDefinition;
+use tre_parts::PartReader;
 use tre_syntax::Pattern;
 use tre_trace::TraceReader;
 use tre_vcd::{Needed, TokenReader, VcdReader};
@@ -44,7 +47,9 @@ pub fn dump_input(
     let shares = share(alloc, patterns)?;
     let (groups, views) = shares.into_parts();
     let needed = needed_by(alloc, patterns, definitions)?;
-    let readers = dump_readers(alloc, &groups, &needed, definitions, scale)?;
+    let Ok(readers) = dump_readers(alloc, &groups, &needed, definitions, scale) else {
+        return Err(AllocError);
+    };
     Input::new(alloc, readers, views, limit)
 }
 
@@ -60,12 +65,36 @@ fn needed_by(
         definitions_of needed.value ≡ definitions.now) }
 {
     let mut needed = Needed::new(alloc);
+    let Ok(()) = need_all(&mut needed, patterns, definitions) else {
+        drop(needed);
+        return Err(AllocError);
+    };
+    shared(alloc, needed)
+}
+
+// Needs the names of each of the patterns, by the definitions, where none was needed.
+fn need_all(
+    needed: &mut Needed,
+    patterns: &[Pattern],
+    definitions: &[SignalDefinition],
+) -> Result<(), AllocError>
+    requires { needs needed.old ≡ no_names }
+    ensures needs { OnOk result (NeedsAll (needs needed.new) (map names_of patterns.now)) }
+    ensures definitions { OnOk result (definitions_of needed.new ≡ definitions.now) }
+{
     needed.define(definitions)?;
     for pattern in patterns {
         needed.add(pattern.names(), pattern.events())?;
     }
-    match Rc::new(alloc, needed) {
-        Ok(shared) => Ok(shared),
+    Ok(())
+}
+
+// The value, to be shared.
+fn shared<T: Drop>(alloc: Global, value: T) -> Result<Rc<T>, AllocError>
+    ensures { IfOk result (λ one. one.value ≡ value) }
+{
+    match Rc::new(alloc, value) {
+        Ok(one) => Ok(one),
         Err(_) => Err(AllocError),
     }
 }
@@ -89,7 +118,10 @@ fn dump_readers(
 {
     let mut readers = Vec::new(alloc);
     for group in groups {
-        readers.push(dump_reader(alloc, group, needed, definitions, scale)?)?;
+        put_last(
+            &mut readers,
+            dump_reader(alloc, group, needed, definitions, scale)?,
+        )?;
     }
     Ok(readers)
 }
@@ -110,13 +142,33 @@ fn dump_reader(
     ensures names { IfOk result (λ reader. ⟦<VcdReader as TraceReader>⟧.names reader
         ≡ group.now) }
 {
-    let names = group.names().try_clone()?;
-    let Ok(events) = group.events().try_clone() else {
+    let (names, events) = group.lists()?;
+    let mut tokens = TokenReader::new(alloc, names, events, scale);
+    let Ok(()) = ask(&mut tokens, needed, definitions) else {
+        drop(tokens);
         return Err(AllocError);
     };
-    let mut tokens = TokenReader::new(alloc, names, events, scale);
-    tokens.define(definitions)?;
-    tokens.must_declare(needed)?;
-    let reader = VcdReader::new(alloc, tokens);
-    Ok(reader)
+    Ok(VcdReader::new(alloc, tokens))
+}
+
+// Has the names read by the definitions, and the dump declare what is needed.
+fn ask(
+    tokens: &mut TokenReader,
+    needed: &Rc<Needed>,
+    definitions: &[SignalDefinition],
+) -> Result<(), AllocError>
+    ensures begins { ⟦<TokenReader as PartReader>⟧.holds tokens.old first_place →
+        (⟦<TokenReader as PartReader>⟧.terms tokens.old).declared ≡ [] →
+        definitions_of needed.now.value ≡ definitions.now →
+        OnOk result (⟦<TokenReader as PartReader>⟧.holds tokens.new first_place) }
+    ensures terms { OnOk result (⟦<TokenReader as PartReader>⟧.terms tokens.new ≡ requiring
+        (defining (⟦<TokenReader as PartReader>⟧.terms tokens.old) definitions.now)
+        (needs needed.now.value)) }
+    ensures names { ⟦<TokenReader as PartReader>⟧.names tokens.new
+        ≡ ⟦<TokenReader as PartReader>⟧.names tokens.old }
+{
+    let Ok(()) = tokens.define(definitions) else {
+        return Err(AllocError);
+    };
+    tokens.must_declare(needed)
 }

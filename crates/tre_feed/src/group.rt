@@ -1,12 +1,13 @@
-ghost use Rattle.std.specs.Prelude.{◌≡◌, IfOk, IfSome, OnOk};
-ghost use Rattle.tre_feed.specs.Growth.{Extends};
-ghost use Rattle.tre_feed.specs.Places.{places_of, ArePlaces};
+ghost use Rattle.std.specs.Prelude.{◌≡◌, None, IfOk, IfSome, OnOk};
+ghost use Rattle.tre_feed.specs.Growth.{IsWider};
+ghost use Rattle.tre_feed.specs.Shares.{Shows};
 ghost use Rattle.tre_syntax.specs.Pattern.{names_of};
 
 use crate::places::Places;
 use crate::view::View;
 use std::alloc::{AllocError, Global};
 use std::marker::Model;
+use std::mem;
 use tre_state::{NameFault, Names};
 use tre_syntax::Pattern;
 
@@ -26,9 +27,6 @@ impl Model for Group {
 }
 
 impl Group {
-    ghost use Rattle.tre_feed.specs.Shares.{Shows};
-    ghost use Rattle.tre_feed.specs.Growth.{IsWider};
-
     /// The names of the propositions.
     pub fn names(&self) -> &Names
         ensures { result.now ≡ self.now.names }
@@ -41,6 +39,15 @@ impl Group {
         ensures { result.now ≡ self.now.events }
     {
         &self.events
+    }
+
+    /// Both lists once more, for a reader to keep.
+    pub(crate) fn lists(&self) -> Result<(Names, Names), AllocError>
+        ensures { IfOk result (λ lists. record { names = lists.0; events = lists.1 }
+            ≡ self.now) }
+    {
+        let copy = group_of(&self.names, &self.events)?;
+        Ok((copy.names, copy.events))
     }
 
     /// The names of this pattern alone.
@@ -66,12 +73,24 @@ impl Group {
         let mut wider = group_of(&self.names, &self.events)?;
         match joined(alloc, &mut wider.names, &mut wider.events, number, pattern) {
             Ok(view) => {
-                *self = wider;
+                drop(mem::replace(self, wider));
                 Ok(Some(view))
             }
-            Err(NameFault::TooMany) => Ok(None),
-            Err(NameFault::Memory) => Err(AllocError),
+            Err(fault) => {
+                drop(wider);
+                no_view(fault)
+            }
         }
+    }
+}
+
+// Names that are too many have no view of the group.
+fn no_view(fault: NameFault) -> Result<Option<View>, AllocError>
+    ensures { IfOk result (λ found. found ≡ None) }
+{
+    match fault {
+        NameFault::TooMany => Ok(None),
+        NameFault::Memory => Err(AllocError),
     }
 }
 
@@ -81,6 +100,7 @@ fn group_of(names: &Names, events: &Names) -> Result<Group, AllocError>
 {
     let names = names.try_clone()?;
     let Ok(events) = events.try_clone() else {
+        drop(names);
         return Err(AllocError);
     };
     Ok(Group { names, events })
@@ -94,13 +114,11 @@ fn joined(
     number: usize,
     pattern: &Pattern,
 ) -> Result<View, NameFault>
-    ensures names { IfOk result (λ view.
-        ArePlaces (names_of pattern.now).names names.new (places_of view.names)) }
-    ensures events { IfOk result (λ view.
-        ArePlaces (names_of pattern.now).events events.new (places_of view.events)) }
+    ensures shows { IfOk result (Shows (names_of pattern.now)
+        (record { names = names.new; events = events.new })) }
     ensures number { IfOk result (λ view. view.group ≡ number) }
-    ensures kept_names { OnOk result (Extends names.old names.new) }
-    ensures kept_events { OnOk result (Extends events.old events.new) }
+    ensures wider { OnOk result (IsWider (record { names = names.old; events = events.old })
+        (record { names = names.new; events = events.new })) }
 {
     let names = Places::join(alloc, names, pattern.names())?;
     let events = Places::join(alloc, events, pattern.events())?;

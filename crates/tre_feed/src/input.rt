@@ -9,6 +9,7 @@ ghost use Rattle.tre_feed.specs.declared.TheConstants.{PIECE};
 use crate::PIECE;
 use crate::each::{Fed, clear_each, waiting_in};
 use crate::fault::Fault;
+use crate::lists::put_last;
 use crate::piece::buffer_of;
 use crate::seen::{lasts_of, no_traces, pack_rows, put_column, set_lasts};
 use crate::turn::feed_next;
@@ -44,7 +45,7 @@ fn fed_each<R: TraceReader + Drop>(
 {
     let mut each = Vec::new(alloc);
     for reader in readers {
-        each.push(Fed::new(alloc, reader))?;
+        put_last(&mut each, Fed::new(alloc, reader))?;
     }
     Ok(each)
 }
@@ -80,8 +81,12 @@ impl<R: TraceReader + Drop> Input<R> {
             IfOk result (λ input. recording_of R.recording R.terms input ≡ R.recording terms) }
         ensures limit { IfOk result (λ input. limit_of input ≡ limit) }
     {
-        let buffer = buffer_of(alloc, PIECE)?;
-        let each = fed_each(alloc, each)?;
+        let Ok(buffer) = buffer_of(alloc, PIECE) else {
+            return Err(AllocError);
+        };
+        let Ok(each) = fed_each(alloc, each) else {
+            return Err(AllocError);
+        };
         Ok(Input {
             limit,
             taken: 0,

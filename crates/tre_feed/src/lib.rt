@@ -32,6 +32,7 @@ mod fault;
 mod front;
 mod group;
 mod input;
+mod lists;
 mod piece;
 mod places;
 mod seen;

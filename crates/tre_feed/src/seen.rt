@@ -8,6 +8,7 @@ ghost use Rattle.tre_feed.specs.Packing.{CanPack, ended_by, packed_behind};
 ghost use Rattle.tre_feed.specs.Seen.{last_seen, lasts_in, no_segment, row_seen, rows_in, segment_seen};
 
 use crate::each::Fed;
+use crate::lists::put_last;
 use crate::view::View;
 use std::alloc::{AllocError, Global};
 use tre_packed::Packed;
@@ -138,7 +139,7 @@ pub fn no_traces(alloc: Global, views: &[View]) -> Result<Vec<Packed>, AllocErro
 {
     let mut traces = Vec::new(alloc);
     for _ in views {
-        traces.push(Packed::new(alloc))?;
+        put_last(&mut traces, Packed::new(alloc))?;
     }
     Ok(traces)
 }

@@ -4,6 +4,7 @@ ghost use Rattle.tre_feed.specs.Shares.{IsViewOf, AreShared};
 ghost use Rattle.tre_syntax.specs.Pattern.{names_of};
 
 use crate::group::Group;
+use crate::lists::put_last;
 use crate::view::View;
 use std::alloc::{AllocError, Global};
 use tre_syntax::Pattern;
@@ -62,9 +63,7 @@ impl Shares {
             OnOk result (AreShared (asked ++ names_of pattern.now ∷ []) self.new) }
     {
         let view = view_for(alloc, &mut self.groups, pattern)?;
-        let Ok(()) = self.views.push(view) else {
-            return Err(AllocError);
-        };
+        put_last(&mut self.views, view)?;
         Ok(())
     }
 }
@@ -113,6 +112,6 @@ fn view_alone(alloc: Global, groups: &mut Vec<Group>, pattern: &Pattern) -> Resu
         groups.new.items ≡ groups.old.items ++ names_of pattern.now ∷ []) }
 {
     let number = groups.len();
-    groups.push(Group::of(pattern)?)?;
+    put_last(groups, Group::of(pattern)?)?;
     View::own(alloc, number, pattern)
 }

@@ -9,6 +9,7 @@ ghost use Rattle.tre_trace.specs.declared.reader.TheConstants.{FED_MAX};
 
 use crate::group::Group;
 use crate::input::Input;
+use crate::lists::put_last;
 use crate::shares::share;
 use std::alloc::{AllocError, Global};
 use tre_syntax::Pattern;
@@ -36,7 +37,9 @@ pub fn text_input(
 {
     let shares = share(alloc, patterns)?;
     let (groups, views) = shares.into_parts();
-    let readers = text_readers(alloc, &groups, scale)?;
+    let Ok(readers) = text_readers(alloc, &groups, scale) else {
+        return Err(AllocError);
+    };
     Input::new(alloc, readers, views, limit)
 }
 
@@ -51,7 +54,7 @@ fn text_readers(alloc: Global, groups: &[Group], scale: u8) -> Result<Vec<TextRe
 {
     let mut readers = Vec::new(alloc);
     for group in groups {
-        readers.push(text_reader(alloc, group, scale)?)?;
+        put_last(&mut readers, text_reader(alloc, group, scale)?)?;
     }
     Ok(readers)
 }
@@ -64,10 +67,6 @@ fn text_reader(alloc: Global, group: &Group, scale: u8) -> Result<TextReader, Al
     ensures names { IfOk result (λ reader. ⟦<TextReader as TraceReader>⟧.names reader
         ≡ group.now) }
 {
-    let names = group.names().try_clone()?;
-    let Ok(events) = group.events().try_clone() else {
-        return Err(AllocError);
-    };
-    let reader = TextReader::new(alloc, LineReader::new(names, events, scale));
-    Ok(reader)
+    let (names, events) = group.lists()?;
+    Ok(TextReader::new(alloc, LineReader::new(names, events, scale)))
 }

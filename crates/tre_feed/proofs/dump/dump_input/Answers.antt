@@ -14,8 +14,8 @@ pub new-requires-clause-some : goal.new-requires-clause-some
 new-requires-clause-some c =
     (AreRead-shared (parts_names token_reader.names) (map names_of c.args.patterns.now)
     c.in_ok-shares.shares.groups.items c.in_ok-shares.shares.views.items _
-    c.in_ok-readers.readers.items
-    (c.in_ok-readers.ensures.names ∙ c.deref.ensures.value ∙ c.into_parts-groups.ensures.groups)
+    c.in-Ok.readers.items
+    (c.in-Ok.ensures.names ∙ c.deref.ensures.value ∙ c.into_parts-groups.ensures.groups)
     c.into_parts-groups.ensures.views c.in_ok-shares.ensures.each).some
     (subst (λ n. 0 < n) (sym (length-map c.args.patterns.now names_of)) c.requires.some)
 
@@ -23,22 +23,22 @@ pub new-requires-clause-within : goal.new-requires-clause-within
 new-requires-clause-within c =
     (AreRead-shared (parts_names token_reader.names) (map names_of c.args.patterns.now)
     c.in_ok-shares.shares.groups.items c.in_ok-shares.shares.views.items _
-    c.in_ok-readers.readers.items
-    (c.in_ok-readers.ensures.names ∙ c.deref.ensures.value ∙ c.into_parts-groups.ensures.groups)
+    c.in-Ok.readers.items
+    (c.in-Ok.ensures.names ∙ c.deref.ensures.value ∙ c.into_parts-groups.ensures.groups)
     c.into_parts-groups.ensures.views c.in_ok-shares.ensures.each).within
 
 pub returns-clause-asks : goal.returns-clause-asks
 returns-clause-asks c = c.new.ensures.asks (map names_of c.args.patterns.now)
     (AreRead-shared (parts_names token_reader.names) (map names_of c.args.patterns.now)
     c.in_ok-shares.shares.groups.items c.in_ok-shares.shares.views.items _
-    c.in_ok-readers.readers.items
-    (c.in_ok-readers.ensures.names ∙ c.deref.ensures.value ∙ c.into_parts-groups.ensures.groups)
+    c.in-Ok.readers.items
+    (c.in-Ok.ensures.names ∙ c.deref.ensures.value ∙ c.into_parts-groups.ensures.groups)
     c.into_parts-groups.ensures.views c.in_ok-shares.ensures.each).each
 
 pub returns-clause-new : goal.returns-clause-new
 returns-clause-new c = c.new.ensures.new
     (dump_terms (needs c.in_ok-needed.needed.value ∷ []) c.args.scale c.args.definitions.now)
-    c.in_ok-readers.ensures.fresh
+    c.in-Ok.ensures.fresh
 
 pub returns-clause-recording : goal.returns-clause-recording
 returns-clause-recording c =
@@ -48,4 +48,4 @@ returns-clause-recording c =
     c.in_ok-needed.ensures.needs)
     (c.new.ensures.recording
     (dump_terms (needs c.in_ok-needed.needed.value ∷ []) c.args.scale c.args.definitions.now)
-    c.in_ok-readers.ensures.fresh)
+    c.in-Ok.ensures.fresh)

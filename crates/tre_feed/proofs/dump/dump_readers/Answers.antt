@@ -6,10 +6,10 @@ loop-group-init c = readers-none _ _ c.new-readers.result.items c.new-readers.en
 
 pub loop-group-preserved : goal.loop-group-preserved
 loop-group-preserved c =
-    readers-next _ _ c.args.groups.now c.loop-group.readers.items c.push.new.self.items
+    readers-next _ _ c.args.groups.now c.loop-group.readers.items c.put_last.new.list.items
     c.loop-group.group-index c.group-item.result c.in_ok-dump_reader.field-0 c.loop-group-test.true
     c.loop-group.invariant c.group-item.is c.in_ok-dump_reader.ensures.names
-    (c.in_ok-dump_reader.ensures.terms, c.in_ok-dump_reader.ensures.fresh) c.in_ok-push.ensures.items
+    (c.in_ok-dump_reader.ensures.terms, c.in_ok-dump_reader.ensures.fresh) c.in_ok-put_last.ensures
 
 pub returns-clause-names : goal.returns-clause-names
 returns-clause-names c =

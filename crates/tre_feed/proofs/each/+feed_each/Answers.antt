@@ -1,7 +1,8 @@
 use Rattle.std.proofs.Common.{◌≡◌, ◌∙◌, ◌++◌, true, false, length, take, refl, ap, sym, subst}
 use Rattle.tre_trace.specs.Reading.{Vocabulary, segments_for}
 use Rattle.tre_feed.specs.Asked.{Asked}
-use Rattle.tre_feed.proofs.Standing.{row_begins, row_more, rows_begin}
+use Rattle.tre_feed.proofs.Standing.{asked_again, row_begins, row_more, rows_begin}
+use Rattle.tre_feed.proofs.Begun.{none_left}
 use Rattle.tre_feed.proofs.each.+feed_each.Goals as goal
 
 pub returns-then-not-feed-clause-front : goal.returns-then-not-feed-clause-front
@@ -66,3 +67,23 @@ returns-clause-goes_on g t c = λ terms bytes stand none ok.
     let own = ap (λ (asked : Asked g.R.TraceReader.Terms). asked.terms) c.feed.ensures.same in
     let on = rw all.0.0 at (c.if-not-feed.ensures.goes_on bytes all.0.1) in
     ((own ∙ all.0.0, on refl none), c.feed_each.ensures.goes_on terms bytes all.1 none ok)
+
+pub returns-in_default-clause-rows : goal.returns-in_default-clause-rows
+returns-in_default-clause-rows g t c =
+    λ terms bytes added waiting stand beyond rows ok.
+    rw (none_left c.args.each.now c.in_default.ensures.cases) tt
+
+pub returns-then-not-feed-clause-same : goal.returns-then-not-feed-clause-same
+returns-then-not-feed-clause-same g t c =
+    asked_again g.R.TraceReader.names g.R.TraceReader.terms
+    c.args.each.now c.in-Some.later.now c.in-Some.later.now c.in-Some.first.now c.feed.new.self
+    c.in-Some.ensures.cases.0 c.feed.ensures.same refl
+
+pub returns-clause-same : goal.returns-clause-same
+returns-clause-same g t c =
+    asked_again g.R.TraceReader.names g.R.TraceReader.terms
+    c.args.each.now c.feed_each.new.each c.in-Some.later.now c.in-Some.first.now c.feed.new.self
+    c.in-Some.ensures.cases.0 c.feed.ensures.same c.feed_each.ensures.same
+
+pub feed-requires : goal.feed-requires
+feed-requires g t c = record { room = (rw c.in-Some.ensures.cases.0 at c.requires.room).0 }

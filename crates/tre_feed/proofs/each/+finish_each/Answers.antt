@@ -1,7 +1,8 @@
-use Rattle.std.proofs.Common.{◌≡◌, ◌++◌, true, false, length, take, ap, sym, subst}
-use Rattle.tre_trace.specs.Reading.{Vocabulary, segments_for}
+use Rattle.std.proofs.Common.{◌≡◌, ◌++◌, true, false, length, take, refl, ap, sym, subst}
+use Rattle.tre_trace.specs.Reading.{Vocabulary, events_for, segments_for}
 use Rattle.tre_feed.specs.Asked.{Asked}
-use Rattle.tre_feed.proofs.Standing.{row_begins, row_more, rows_begin}
+use Rattle.tre_feed.proofs.Standing.{asked_again, row_begins, row_more, rows_begin}
+use Rattle.tre_feed.proofs.Begun.{none_left}
 use Rattle.tre_feed.proofs.each.+finish_each.Goals as goal
 
 pub returns-then-not-finish-clause-front : goal.returns-then-not-finish-clause-front
@@ -59,3 +60,38 @@ returns-then-not-finish-clause-lasts g t c = λ terms bytes stand none ok.
 pub returns-then-not-finish-clause-faults : goal.returns-then-not-finish-clause-faults
 returns-then-not-finish-clause-faults g t c = λ terms bytes stand ok.
     let wrong : false ≡ true = ok in cc
+
+pub returns-in_default-clause-rows : goal.returns-in_default-clause-rows
+returns-in_default-clause-rows g t c =
+    λ terms bytes added waiting stand beyond rows ok.
+    rw (none_left c.args.each.now c.in_default.ensures.cases) tt
+
+pub returns-in_default-clause-lasts : goal.returns-in_default-clause-lasts
+returns-in_default-clause-lasts g t c =
+    λ terms bytes stand whole ok.
+    rw (none_left c.args.each.now c.in_default.ensures.cases) tt
+
+pub returns-then-not-finish-clause-same : goal.returns-then-not-finish-clause-same
+returns-then-not-finish-clause-same g t c =
+    asked_again g.R.TraceReader.names g.R.TraceReader.terms
+    c.args.each.now c.in-Some.later.now c.in-Some.later.now c.in-Some.first.now c.finish.new.self
+    c.in-Some.ensures.cases.0 c.finish.ensures.same refl
+
+pub returns-clause-same : goal.returns-clause-same
+returns-clause-same g t c =
+    asked_again g.R.TraceReader.names g.R.TraceReader.terms
+    c.args.each.now c.finish_each.new.each c.in-Some.later.now c.in-Some.first.now c.finish.new.self
+    c.in-Some.ensures.cases.0 c.finish.ensures.same c.finish_each.ensures.same
+
+pub returns-clause-lasts : goal.returns-clause-lasts
+returns-clause-lasts g t c =
+    λ terms bytes stand whole ok.
+    let cases = c.in-Some.ensures.cases.0 in
+    let all = rw cases at stand in
+    let same = ap (λ (asked : Asked g.R.TraceReader.Terms). asked.names) c.finish.ensures.same in
+    let told = rw all.0.0 at (c.if-not-finish.ensures.last bytes all.0.1) in (
+      subst (λ (names : Vocabulary). c.finish.new.self.last
+          ≡ events_for names (g.R.TraceReader.recording terms true bytes).last) (sym same)
+          (told refl whole),
+      c.finish_each.ensures.lasts terms bytes all.1 whole ok,
+    )

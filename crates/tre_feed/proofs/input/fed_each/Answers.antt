@@ -9,9 +9,9 @@ loop-reader-preserved g c =
     record {
       can = search rules;
       ends = search rules;
-      left = rw c.in_ok-push.ensures.items (readers_more c.loop-reader.each.items c.new.result
+      left = rw c.in_ok-put_last.ensures (readers_more c.loop-reader.each.items c.new.result
           c.in-Some.reader _ _ c.new.ensures.reader left);
-      none = rw c.in_ok-push.ensures.items (none_more c.loop-reader.each.items c.new.result
+      none = rw c.in_ok-put_last.ensures (none_more c.loop-reader.each.items c.new.result
           c.loop-reader.invariant.none c.new.ensures.none);
     }
 

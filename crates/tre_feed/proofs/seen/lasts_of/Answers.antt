@@ -2,7 +2,7 @@ use Rattle.std.proofs.Common.{◌∙◌, ℕ, get_or, ap, arith}
 use Rattle.tre_feed.specs.Seen.{last_seen, lasts_in}
 use Rattle.tre_feed.specs.Shares.{group_of}
 use Rattle.tre_feed.specs.Shown.{shown_events}
-use Rattle.tre_feed.proofs.Seeing.{mapped-next}
+use Rattle.tre_feed.proofs.Seeing.{mapped-all, mapped-next}
 use Rattle.tre_feed.proofs.seen.lasts_of.Goals as goal
 
 pub last_at-requires : goal.last_at-requires
@@ -18,3 +18,7 @@ loop-view-preserved g c =
     (c.events.ensures.shown ∙ ap (shown_events c.view-item.result) (c.last_at.ensures
     ∙ ap (λ (group : ℕ). get_or (lasts_in c.args.each.now) group 0) c.group.ensures))
     c.in_ok-push.ensures.items
+
+pub returns : goal.returns
+returns g c = mapped-all (last_seen (lasts_in c.args.each.now)) c.args.views.now
+    c.loop-view.view-index c.loop-view.lasts.items c.loop-view-test.false c.loop-view.invariant

@@ -3,7 +3,7 @@ use Rattle.tre_feed.specs.Seen.{no_segment, row_seen, rows_in, segment_seen}
 use Rattle.tre_feed.specs.Shares.{group_of}
 use Rattle.tre_feed.specs.Shown.{shown_segment}
 use Rattle.tre_feed.specs.declared.view.View.{View}
-use Rattle.tre_feed.proofs.Seeing.{mapped-next}
+use Rattle.tre_feed.proofs.Seeing.{mapped-all, mapped-next}
 use Rattle.tre_feed.proofs.seen.put_column.Goals as goal
 
 pub segment_at-wide-requires-clause-group : goal.segment_at-wide-requires-clause-group
@@ -26,3 +26,7 @@ loop-view-preserved g c =
     (c.segment.ensures.shown ∙ ap (shown_segment c.view-item.result) (c.segment_at-wide.ensures
     ∙ ap (λ (group : ℕ). get_or (get_or (rows_in c.args.each.now) group []) c.args.place
     no_segment) c.group.ensures)) c.in_ok-push.ensures.items
+
+pub returns : goal.returns
+returns g c = mapped-all (segment_seen (rows_in c.args.each.now) c.args.place) c.args.views.now
+    c.loop-view.view-index c.loop-view.segments.items c.loop-view-test.false c.loop-view.invariant

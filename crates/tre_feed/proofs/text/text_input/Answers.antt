@@ -10,8 +10,8 @@ pub new-requires-clause-some : goal.new-requires-clause-some
 new-requires-clause-some c =
     (AreRead-shared (parts_names line_reader.names) (map names_of c.args.patterns.now)
     c.in_ok-shares.shares.groups.items c.in_ok-shares.shares.views.items _
-    c.in_ok-readers.readers.items
-    (c.in_ok-readers.ensures.names ∙ c.deref.ensures.value ∙ c.into_parts-groups.ensures.groups)
+    c.in-Ok.readers.items
+    (c.in-Ok.ensures.names ∙ c.deref.ensures.value ∙ c.into_parts-groups.ensures.groups)
     c.into_parts-groups.ensures.views c.in_ok-shares.ensures.each).some
     (subst (λ n. 0 < n) (sym (length-map c.args.patterns.now names_of)) c.requires.some)
 
@@ -19,21 +19,21 @@ pub new-requires-clause-within : goal.new-requires-clause-within
 new-requires-clause-within c =
     (AreRead-shared (parts_names line_reader.names) (map names_of c.args.patterns.now)
     c.in_ok-shares.shares.groups.items c.in_ok-shares.shares.views.items _
-    c.in_ok-readers.readers.items
-    (c.in_ok-readers.ensures.names ∙ c.deref.ensures.value ∙ c.into_parts-groups.ensures.groups)
+    c.in-Ok.readers.items
+    (c.in-Ok.ensures.names ∙ c.deref.ensures.value ∙ c.into_parts-groups.ensures.groups)
     c.into_parts-groups.ensures.views c.in_ok-shares.ensures.each).within
 
 pub returns-clause-asks : goal.returns-clause-asks
 returns-clause-asks c = c.new.ensures.asks (map names_of c.args.patterns.now)
     (AreRead-shared (parts_names line_reader.names) (map names_of c.args.patterns.now)
     c.in_ok-shares.shares.groups.items c.in_ok-shares.shares.views.items _
-    c.in_ok-readers.readers.items
-    (c.in_ok-readers.ensures.names ∙ c.deref.ensures.value ∙ c.into_parts-groups.ensures.groups)
+    c.in-Ok.readers.items
+    (c.in-Ok.ensures.names ∙ c.deref.ensures.value ∙ c.into_parts-groups.ensures.groups)
     c.into_parts-groups.ensures.views c.in_ok-shares.ensures.each).each
 
 pub returns-clause-new : goal.returns-clause-new
-returns-clause-new c = c.new.ensures.new c.args.scale c.in_ok-readers.ensures.fresh
+returns-clause-new c = c.new.ensures.new c.args.scale c.in-Ok.ensures.fresh
 
 pub returns-clause-recording : goal.returns-clause-recording
 returns-clause-recording c =
-    c.new.ensures.recording c.args.scale c.in_ok-readers.ensures.fresh
+    c.new.ensures.recording c.args.scale c.in-Ok.ensures.fresh

@@ -1,4 +1,4 @@
-use Rattle.std.proofs.Common.{◌+◌, ◌-◌, ◌≤◌, ℕ, Bool, List, false, true, Ok, Err, length, take, arith, subst, length-take}
+use Rattle.std.proofs.Common.{◌∙◌, ◌+◌, ◌-◌, ◌≤◌, ℕ, Bool, List, false, true, Ok, Err, length, take, arith, subst, length-take}
 use Rattle.std.proofs.lemmas.Result.{err_from_is_err_and}
 use Rattle.tre_trace.specs.Reading.{Recording}
 use Rattle.tre_trace.specs.declared.reader.TheConstants.{FED_MAX}
@@ -7,6 +7,7 @@ use Rattle.tre_feed.specs.declared.TheConstants.{PIECE}
 use Rattle.tre_feed.proofs.Outcomes.{TellsAll-exceeds}
 use Rattle.tre_feed.proofs.Standing.{faultless_by, grows_by, recording_same, room_each}
 use Rattle.tre_feed.proofs.Pieces.{FindsEnd-read, KeepsSource-err, KeepsSource-ok, KeepsSource-readers, Keeps-own, TakesOn-nothing, GoesOn-fed, HasRead-end, HasRead-fed, HasRead-nothing, HasRead-refused, HasRead-stops, IsEnded-end, IsFed-all, StopsTurn-end, StopsTurn-piece}
+use Rattle.tre_feed.proofs.Cuts.{put_back}
 use Rattle.tre_feed.proofs.turn.feed_next.Goals as goal
 
 pub feed_piece-requires-clause-fits : goal.feed_piece-requires-clause-fits
@@ -232,3 +233,58 @@ returns-then-count-eq0-clause-source g c = KeepsSource-ok c.in_ok-count.ensures.
 
 pub returns-clause-source : goal.returns-clause-source
 returns-clause-source g c = KeepsSource-ok c.in_ok-count.ensures.source
+
+pub returns-in_err-count-clause-same : goal.returns-in_err-count-clause-same
+returns-in_err-count-clause-same g c = c.feed_piece.ensures.same
+
+pub returns-in_err-finish_all-clause-same : goal.returns-in_err-finish_all-clause-same
+returns-in_err-finish_all-clause-same g c = c.finish_all.ensures.same ∙ c.feed_piece.ensures.same
+
+pub returns-then-count-eq0-clause-same : goal.returns-then-count-eq0-clause-same
+returns-then-count-eq0-clause-same g c = c.finish_all.ensures.same ∙ c.feed_piece.ensures.same
+
+pub returns-clause-same : goal.returns-clause-same
+returns-clause-same g c = c.feed_piece.ensures.same
+
+pub returns-in_err-count-clause-length : goal.returns-in_err-count-clause-length
+returns-in_err-count-clause-length g c =
+    put_back c.feed_piece.new.buffer c.args.buffer.now c.min-room.result
+    c.feed_piece.ensures.length
+
+pub returns-in_err-finish_all-clause-length : goal.returns-in_err-finish_all-clause-length
+returns-in_err-finish_all-clause-length g c =
+    put_back c.feed_piece.new.buffer c.args.buffer.now c.min-room.result
+    c.feed_piece.ensures.length
+
+pub returns-then-count-eq0-clause-length : goal.returns-then-count-eq0-clause-length
+returns-then-count-eq0-clause-length g c =
+    put_back c.feed_piece.new.buffer c.args.buffer.now c.min-room.result
+    c.feed_piece.ensures.length
+
+pub returns-clause-length : goal.returns-clause-length
+returns-clause-length g c =
+    put_back c.feed_piece.new.buffer c.args.buffer.now c.min-room.result
+    c.feed_piece.ensures.length
+
+pub feed_piece-requires-clause-room : goal.feed_piece-requires-clause-room
+feed_piece-requires-clause-room g c =
+    omega (
+      arith,
+      length-take {A = ℕ} c.min-room.result c.args.buffer.now,
+      c.min-room.ensures,
+      c.requires.buffer.some,
+    )
+
+pub returns-clause-taken : goal.returns-clause-taken
+returns-clause-taken g c =
+    λ more. record {
+      more = omega (arith, c.if-count-eq0.false);
+      few = omega (
+        arith,
+        c.in_ok-count.ensures.read.within,
+        c.feed_piece.ensures.length,
+        length-take {A = ℕ} c.min-room.result c.args.buffer.now,
+        c.min-room.ensures,
+        c.if-taken-limit.false,
+      );
+    }

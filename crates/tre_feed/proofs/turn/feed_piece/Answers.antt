@@ -4,6 +4,8 @@ use Rattle.tre_feed.specs.Each.{AllWait, AllWereFed, recording_by}
 use Rattle.tre_feed.specs.Turn.{TakesOn}
 use Rattle.tre_feed.proofs.Cuts.{take_both}
 use Rattle.tre_feed.proofs.Pieces.{KeepsSource-ok, KeepsSource-readers, StopsPiece-refused, StopsPiece-unread}
+use Rattle.tre_trace.specs.declared.reader.TheConstants.{FED_MAX}
+use Rattle.tre_feed.proofs.Standing.{room_less}
 use Rattle.tre_feed.proofs.turn.feed_piece.Goals as goal
 
 pub returns-in_err-count-clause-feeds : goal.returns-in_err-count-clause-feeds
@@ -58,3 +60,26 @@ returns-clause-feeds g c =
 
 pub returns-clause-source : goal.returns-clause-source
 returns-clause-source g c = KeepsSource-ok c.in_ok-count.ensures.source
+
+pub feed_all-requires-clause-room : goal.feed_all-requires-clause-room
+feed_all-requires-clause-room g c = room_less g.R.TraceReader.fed_of c.args.each.now
+    c.args.allowed (length (take c.min.result c.read_piece.new.buffer)) FED_MAX c.requires.fits
+    (omega (arith, length-take {A = ℕ} c.min.result c.read_piece.new.buffer, c.min.ensures))
+
+pub returns-in_err-feed_all-clause-same : goal.returns-in_err-feed_all-clause-same
+returns-in_err-feed_all-clause-same g c = c.feed_all.ensures.same
+
+pub returns-in_err-feed_all-clause-length : goal.returns-in_err-feed_all-clause-length
+returns-in_err-feed_all-clause-length g c = c.read_piece.ensures.length
+
+pub returns-clause-read : goal.returns-clause-read
+returns-clause-read g c = c.in_ok-count.ensures.read
+
+pub returns-clause-same : goal.returns-clause-same
+returns-clause-same g c = c.feed_all.ensures.same
+
+pub returns-clause-length : goal.returns-clause-length
+returns-clause-length g c = c.read_piece.ensures.length
+
+pub returns-clause-finds : goal.returns-clause-finds
+returns-clause-finds g c = c.read_piece.ensures.finds

@@ -1,8 +1,9 @@
-use Rattle.std.proofs.Common.{◌≡◌, ◌∙◌, List, length, refl, sym, ap, subst, arith}
+use Rattle.std.proofs.Common.{◌≡◌, ◌∙◌, ◌<◌, List, [], length, get_or, refl, sym, ap, subst, arith}
 use Rattle.std.proofs.lemmas.List.{with_items_is}
-use Rattle.tre_feed.specs.Each.{AllStand, LastsAre, all_asked}
+use Rattle.tre_feed.specs.Each.{AllStand, LastsAre, RowsAre, all_asked}
 use Rattle.tre_feed.specs.declared.each.Fed.{Fed}
 use Rattle.tre_feed.proofs.Inputs.{IsAsked-same, KeepsViews-same}
+use Rattle.tre_feed.specs.Shares.{group_of}
 use Rattle.tre_feed.proofs.input.Input.clear.Goals as goal
 
 pub returns-clause-fed : goal.returns-clause-fed
@@ -61,3 +62,30 @@ returns-clause-views g c =
     KeepsViews-same reader.names reader.terms c.args.self.now _
     (ap asked (with_items_is own cleared same)
     ∙ (c.clear_each.ensures.same ∙ ap asked c.deref_mut.ensures.value)) refl
+
+pub invariant_of-self : goal.invariant_of-self
+invariant_of-self g c =
+    let own = c.args.self.now in
+    let cleared = c.clear_each.new.each in
+    let same : length cleared ≡ own.each.len =
+    omega (arith, c.clear_each.auto.each, c.deref_mut.ensures.len) in
+    let count = ap length (with_items_is own.each cleared same) ∙ c.clear_each.auto.each
+    ∙ ap length c.deref_mut.ensures.value in
+    record {
+      bounded = own.bounded;
+      size = own.size;
+      some = subst (λ n. 0 < n) (sym count) own.some;
+      within = λ k d below. subst (λ n. group_of (get_or own.views.items k d) < n) (sym count)
+          (own.within k d below);
+    }
+
+pub returns-clause-none : goal.returns-clause-none
+returns-clause-none g c =
+    let own = c.args.self.now.each in
+    let cleared = c.clear_each.new.each in
+    let same : length cleared ≡ own.len =
+    omega (arith, c.clear_each.auto.each, c.deref_mut.ensures.len) in
+    record {
+      rows = subst (λ (each : List (Fed g.row.R.Denot)). RowsAre g.R.TraceReader.names each [])
+          (sym (with_items_is own cleared same)) c.clear_each.ensures.none;
+    }

@@ -191,3 +191,14 @@ returns-clause-read g c =
     (c.clear.ensures.ended whole.last ended.ended))
     (traces_by reader.terms reader.recording g.met.R.TraceReader.is_trace old.each.items true
     so_far.bytes))
+
+pub returns-in_err-more-clause-by_name : goal.returns-in_err-more-clause-by_name
+returns-in_err-more-clause-by_name g c =
+    λ opened. c.open.ensures.by_name c.in_ok-open.ensures.opened
+
+pub returns-in_err-pack-clause-by_name : goal.returns-in_err-pack-clause-by_name
+returns-in_err-pack-clause-by_name g c =
+    λ opened. c.open.ensures.by_name c.in_ok-open.ensures.opened
+
+pub returns-clause-by_name : goal.returns-clause-by_name
+returns-clause-by_name g c = λ opened. c.open.ensures.by_name c.in_ok-open.ensures.opened

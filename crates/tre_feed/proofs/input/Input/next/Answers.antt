@@ -1,8 +1,9 @@
-use Rattle.std.proofs.Common.{◌≡◌, ◌∙◌, List, length, refl, ap, arith}
+use Rattle.std.proofs.Common.{◌≡◌, ◌∙◌, ◌<◌, List, length, get_or, refl, sym, ap, subst, arith}
 use Rattle.std.proofs.lemmas.List.{with_items_is}
 use Rattle.tre_feed.specs.Each.{all_asked}
 use Rattle.tre_feed.specs.declared.each.Fed.{Fed}
 use Rattle.tre_feed.proofs.Inputs.{IsAsked-same, KeepsViews-same}
+use Rattle.tre_feed.specs.Shares.{group_of}
 use Rattle.tre_feed.proofs.input.Input.next.Goals as goal
 
 pub returns-clause-same : goal.returns-clause-same
@@ -56,3 +57,26 @@ returns-clause-same_opened g c = c.feed_next.ensures.source.same_opened
 
 pub returns-clause-same_sound : goal.returns-clause-same_sound
 returns-clause-same_sound g c = c.feed_next.ensures.source.same_sound
+
+pub invariant_of-self : goal.invariant_of-self
+invariant_of-self g c =
+    let own = c.args.self.now in
+    let buffer = c.feed_next.new.buffer in
+    let fed = c.feed_next.new.each in
+    let same_buffer : length buffer ≡ own.buffer.len =
+    omega (arith, c.feed_next.ensures.length, c.deref_mut.ensures.len) in
+    let same : length fed ≡ own.each.len =
+    omega (arith, c.feed_next.auto.each, c.deref_mut-2.ensures.len) in
+    let count = ap length (with_items_is own.each fed same) ∙ c.feed_next.auto.each
+    ∙ ap length c.deref_mut-2.ensures.value in
+    record {
+      bounded = own.bounded;
+      size = ap length (with_items_is own.buffer buffer same_buffer) ∙ c.feed_next.ensures.length
+          ∙ ap length c.deref_mut.ensures.value ∙ own.size;
+      some = subst (λ n. 0 < n) (sym count) own.some;
+      within = λ k d below. subst (λ n. group_of (get_or own.views.items k d) < n) (sym count)
+          (own.within k d below);
+    }
+
+pub feed_next-requires-clause-fits : goal.feed_next-requires-clause-fits
+feed_next-requires-clause-fits g c = c.args.self.now.bounded

@@ -1,7 +1,8 @@
-use Rattle.std.proofs.Common.{◌<◌, [], length, arith}
+use Rattle.std.proofs.Common.{◌<◌, [], length, arith, sym}
 use Rattle.std.proofs.lemmas.List.Elements.{All-nil}
 use Rattle.std.proofs.lemmas.Option.{slice_get-get_or}
-use Rattle.tre_feed.proofs.Among.{Extends-none, Extends-trans, places-put, within-put, places-few}
+use Rattle.tre_feed.specs.Places.{places_of}
+use Rattle.tre_feed.proofs.Among.{Extends-none, Extends-trans, name-at, places-all, places-put, within-put, places-few}
 use Rattle.tre_feed.proofs.places.Places.join.Goals as goal
 
 pub loop-number-preserved : goal.loop-number-preserved
@@ -41,3 +42,17 @@ unreachable-requires c =
     let there = slice_get-get_or c.args.asked.now c.loop-number.number [] within in
     let none = c.in-None.ensures in
     cc (there, none)
+
+pub put-requires : goal.put-requires
+put-requires c =
+    name-at c.args.asked.now c.loop-number.number c.in-Some.name.now c.len-number-end.ensures.list
+    (sym c.in-Some.ensures)
+
+pub returns-clause-places : goal.returns-clause-places
+returns-clause-places c =
+    places-all c.args.asked.now c.loop-number.all (places_of c.of.result) c.loop-number.number
+    (omega (arith, c.loop-number-test.false, c.len-number-end.ensures.len))
+    (rw c.of.ensures c.loop-number.invariant.places)
+
+pub returns-clause-kept : goal.returns-clause-kept
+returns-clause-kept c = c.loop-number.invariant.kept

@@ -1,5 +1,6 @@
 use Rattle.std.proofs.Common.{◌<◌, length, take, arith}
-use Rattle.tre_feed.proofs.Among.{place-own, places-next, places-few, places-within}
+use Rattle.tre_feed.specs.Places.{places_of}
+use Rattle.tre_feed.proofs.Among.{place-own, places-all, places-next, places-few, places-within}
 use Rattle.tre_feed.proofs.places.Places.own.Goals as goal
 
 pub loop-number-preserved : goal.loop-number-preserved
@@ -23,3 +24,10 @@ of-requires c =
       few = places-few names names places number few c.loop-number.invariant;
       within = places-within names (take number names) places few c.loop-number.invariant;
     }
+
+pub returns : goal.returns
+returns c =
+    let names = c.args.names.now in
+    places-all names names (places_of c.of.result) c.loop-number.number
+    (omega (arith, c.loop-number-test.false, c.len-number-end.ensures.len))
+    (rw c.of.ensures c.loop-number.invariant)

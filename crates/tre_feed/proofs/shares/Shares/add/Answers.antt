@@ -10,7 +10,7 @@ returns c asked are =
     let names = names_of c.args.pattern.now in
     let told = c.in_ok-view.ensures in
     record {
-      each = rw c.in-Ok.ensures.items
+      each = rw c.in_ok-put_last.ensures
           (views-push groups asked old.views.items names c.in_ok-view.view
           (views-kept old.groups.items groups asked old.views.items told.keep are.each) told.view);
       few = omega (arith, are.few, told.count, length-append asked (names ∷ []));
