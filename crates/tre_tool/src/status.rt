@@ -11,7 +11,7 @@ use tre_words::WordsFault;
 /// How a run ended.
 #[derive(Clone, Copy, PartialEq, Eq)]
 pub enum Status {
-    /// The zones of all matches were written.
+    /// The answer was written: the zones of all matches, the pattern's text, or a summary.
     Done,
     /// The words give no job.
     Usage,
