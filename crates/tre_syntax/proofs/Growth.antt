@@ -2,7 +2,6 @@
 -- end.
 use Rattle.std.proofs.Common.{ℕ, ◌+◌, ◌*◌, ◌<◌, ◌≤◌, List, [], ◌∷◌, ◌++◌, Option, Some, inl, inr, ⊎_elim, arith, rules}
 use Rattle.std.proofs.Math.Nat.{mul-le-mul_right}
-use Rattle.std.proofs.lemmas.Nat.Bits.{bit_at-zero}
 use Rattle.tre_pairs.proofs.Laws.{Implies, ImpliesBefore}
 use Rattle.tre_state.specs.StateTree.{HoldsOn}
 use Rattle.tre_trace.specs.declared.segment.Segment.{Segment}

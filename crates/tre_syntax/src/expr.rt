@@ -1,6 +1,7 @@
 ghost use Rattle.std.specs.Prelude.{◌≡◌, IfOk};
 ghost use Rattle.tre_syntax.specs.Expr.{tree_of};
 
+use crate::boxes::{boxed, boxes};
 use std::alloc::{AllocError, Global};
 use tre_state::State;
 use tre_zone::Interval;
@@ -37,30 +38,58 @@ impl Expr {
     {
         match self {
             Expr::Eps => Ok(Expr::Eps),
-            Expr::Lit(state) => Ok(Expr::Lit(state.try_clone(alloc)?)),
-            Expr::Rise(state) => Ok(Expr::Rise(state.try_clone(alloc)?)),
-            Expr::Fall(state) => Ok(Expr::Fall(state.try_clone(alloc)?)),
+            Expr::Lit(state) => {
+                let Ok(copy) = state.try_clone(alloc) else {
+                    return Err(AllocError);
+                };
+                Ok(Expr::Lit(copy))
+            }
+            Expr::Rise(state) => {
+                let Ok(copy) = state.try_clone(alloc) else {
+                    return Err(AllocError);
+                };
+                Ok(Expr::Rise(copy))
+            }
+            Expr::Fall(state) => {
+                let Ok(copy) = state.try_clone(alloc) else {
+                    return Err(AllocError);
+                };
+                Ok(Expr::Fall(copy))
+            }
             Expr::Event(number) => Ok(Expr::Event(*number)),
             Expr::Seq(left, right) => {
-                let left = Box::new(alloc, left.try_clone(alloc)?)?;
-                let right = Box::new(alloc, right.try_clone(alloc)?)?;
+                let left = left.try_clone(alloc);
+                let Ok((left, right)) = boxes(alloc, left, right.try_clone(alloc)) else {
+                    return Err(AllocError);
+                };
                 Ok(Expr::Seq(left, right))
             }
             Expr::Alt(left, right) => {
-                let left = Box::new(alloc, left.try_clone(alloc)?)?;
-                let right = Box::new(alloc, right.try_clone(alloc)?)?;
+                let left = left.try_clone(alloc);
+                let Ok((left, right)) = boxes(alloc, left, right.try_clone(alloc)) else {
+                    return Err(AllocError);
+                };
                 Ok(Expr::Alt(left, right))
             }
             Expr::Meet(left, right) => {
-                let left = Box::new(alloc, left.try_clone(alloc)?)?;
-                let right = Box::new(alloc, right.try_clone(alloc)?)?;
+                let left = left.try_clone(alloc);
+                let Ok((left, right)) = boxes(alloc, left, right.try_clone(alloc)) else {
+                    return Err(AllocError);
+                };
                 Ok(Expr::Meet(left, right))
             }
-            Expr::Star(expr) => Ok(Expr::Star(Box::new(alloc, expr.try_clone(alloc)?)?)),
-            Expr::Within(expr, interval) => Ok(Expr::Within(
-                Box::new(alloc, expr.try_clone(alloc)?)?,
-                *interval,
-            )),
+            Expr::Star(expr) => {
+                let Ok(copy) = boxed(alloc, expr.try_clone(alloc)) else {
+                    return Err(AllocError);
+                };
+                Ok(Expr::Star(copy))
+            }
+            Expr::Within(expr, interval) => {
+                let Ok(copy) = boxed(alloc, expr.try_clone(alloc)) else {
+                    return Err(AllocError);
+                };
+                Ok(Expr::Within(copy, *interval))
+            }
         }
     }
 }

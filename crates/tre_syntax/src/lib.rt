@@ -15,6 +15,7 @@ pub use expr::Expr;
 pub use name_kind::NameKind;
 pub use pattern::{NODES_MAX, Pattern};
 
+mod boxes;
 mod count;
 pub mod cut;
 mod expr;

@@ -1,10 +1,11 @@
-ghost use Rattle.std.specs.Prelude.{◌≡◌, ◌≤◌, ◌↔◌, length, IsSome, IfSome, IfOk};
+ghost use Rattle.std.specs.Prelude.{◌≡◌, ◌≤◌, ◌↔◌, length, IsSome, IsTrue, IfSome, IfOk};
 ghost use Rattle.tre_syntax.specs.PatternTree.{node_count, IsNumbered};
 ghost use Rattle.tre_syntax.specs.Expr.{tree_of};
 ghost use Rattle.tre_syntax.specs.declared.name_kind.NameKind.{NameKind};
 ghost use Rattle.tre_syntax.specs.declared.pattern.TheConstants.{NODES_MAX};
 ghost use Rattle.tre_state.specs.declared.names.TheConstants.{NAMES_MAX};
 
+use crate::boxes::both;
 use crate::count::{left_after, seen_after};
 use crate::expr::Expr;
 use crate::name_kind::NameKind;
@@ -48,13 +49,9 @@ impl Pattern {
         ensures names { IfSome result (λ pattern.
             names_of pattern ≡ record { names = names; events = events }) }
     {
-        if left_after(&expr, NODES_MAX).is_none() {
-            return None;
-        }
-        if seen_after(NameKind::Proposition, &expr, 0) != Some(names.len()) {
-            return None;
-        }
-        if seen_after(NameKind::Event, &expr, 0) != Some(events.len()) {
+        if !is_pattern(&expr, names.len(), events.len()) {
+            // So it is let go in one way, and not in one for each of its forms.
+            drop(expr);
             return None;
         }
         Some(Pattern {
@@ -104,10 +101,43 @@ impl Pattern {
         ensures tree { IfOk result (λ copy. pattern_tree copy ≡ pattern_tree self.now) }
         ensures names { IfOk result (λ copy. names_of copy ≡ names_of self.now) }
     {
+        let names = both(self.names.try_clone(), self.events.try_clone());
+        let Ok((expr, (names, events))) = both(self.expr.try_clone(alloc), names) else {
+            return Err(AllocError);
+        };
         Ok(Pattern {
-            expr: self.expr.try_clone(alloc)?,
-            names: self.names.try_clone()?,
-            events: self.events.try_clone()?,
+            expr,
+            names,
+            events,
         })
+    }
+}
+
+// Whether the expression has no more nodes than a pattern may have, and its names of either kind
+// are so many and numbered by their first use.
+fn is_pattern(expr: &Expr, names: usize, events: usize) -> bool
+    ensures { IsTrue result ↔ ((node_count (tree_of expr.now) ≤ NODES_MAX)
+        × IsNumbered NameKind.Proposition (tree_of expr.now) names
+        × IsNumbered NameKind.Event (tree_of expr.now) events) }
+{
+    left_after(expr, NODES_MAX).is_some() && are_numbered(expr, names, events)
+}
+
+// Whether its names of either kind are so many and numbered by their first use.
+fn are_numbered(expr: &Expr, names: usize, events: usize) -> bool
+    ensures { IsTrue result ↔ (IsNumbered NameKind.Proposition (tree_of expr.now) names
+        × IsNumbered NameKind.Event (tree_of expr.now) events) }
+{
+    is_numbered(NameKind::Proposition, expr, names) && is_numbered(NameKind::Event, expr, events)
+}
+
+// Whether the numbers of its names of this kind, by their first use from the left, are 0, 1 and so
+// on up to the count.
+fn is_numbered(kind: NameKind, expr: &Expr, count: usize) -> bool
+    ensures { IsTrue result ↔ IsNumbered kind (tree_of expr.now) count }
+{
+    match seen_after(kind, expr, 0) {
+        Some(seen) => seen == count,
+        None => false,
     }
 }
