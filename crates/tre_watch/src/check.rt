@@ -65,32 +65,33 @@ fn add_check(
     }
 }
 
-// Adds a name that is not there yet, and its pattern.
-fn add_pair(
+// Adds a name that is not there yet, and what has it. Whatever that is, it is let go in one way,
+// where a pattern has one for each form of its expression.
+fn add_pair<T: Drop>(
     names: &mut Names,
-    patterns: &mut Vec<Pattern>,
+    list: &mut Vec<T>,
     name: &str,
-    pattern: Pattern,
+    value: T,
 ) -> Result<(), WatchFault>
     requires is_name { IsName name.now }
     requires absent { place_of names.old name.now ≡ None }
     ensures { MatchResult result
         (λ _. (names.new ≡ names.old ++ name.now ∷ [])
-        × (patterns.new.items ≡ patterns.old.items ++ pattern ∷ []))
+        × (list.new.items ≡ list.old.items ++ value ∷ []))
         (λ fault. fault ≡ WatchFault.Memory) }
 {
     match names.number(name) {
-        Ok(_) => push(patterns, pattern),
+        Ok(_) => push(list, value),
         Err(_) => Err(WatchFault::Memory),
     }
 }
 
-fn push(patterns: &mut Vec<Pattern>, pattern: Pattern) -> Result<(), WatchFault>
+fn push<T: Drop>(list: &mut Vec<T>, value: T) -> Result<(), WatchFault>
     ensures { MatchResult result
-        (λ _. patterns.new.items ≡ patterns.old.items ++ pattern ∷ [])
+        (λ _. list.new.items ≡ list.old.items ++ value ∷ [])
         (λ fault. fault ≡ WatchFault.Memory) }
 {
-    match patterns.push(pattern) {
+    match list.push(value) {
         Ok(()) => Ok(()),
         Err(_) => Err(WatchFault::Memory),
     }

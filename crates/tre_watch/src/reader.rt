@@ -1,9 +1,10 @@
-ghost use Rattle.std.specs.Prelude.{◌≡◌, ◌+◌, ◌≤◌, ◌↔◌, ◌<◌, length, drop, IsTrue, [], IfErr};
+ghost use Rattle.std.specs.Prelude.{◌≡◌, ◌+◌, ◌≤◌, ◌↔◌, ◌<◌, ◌⊎◌, length, drop, IsTrue, [], OnOk, IfErr, MatchResult};
 ghost use Rattle.std.specs.Char.{is_newline};
 ghost use Rattle.std.specs.List.{slice_split};
 ghost use Rattle.tre_decimal.specs.declared.TheConstants.{SCALE_MAX};
-ghost use Rattle.tre_watch.specs.Outcome.{Outcome, IsOutcome, IsOutcomeFrom};
-ghost use Rattle.tre_watch.specs.Steps.{AnswersPlan, NeverMemoryInside};
+ghost use Rattle.tre_watch.specs.Outcome.{Outcome, planned, faulty, IsOutcome, IsOutcomeFrom};
+ghost use Rattle.tre_watch.specs.Steps.{spelt_in, AnswersPlan, NeverMemoryInside};
+ghost use Rattle.tre_watch.specs.declared.fault.WatchFault.{WatchFault};
 
 use crate::check::add_line;
 use crate::fault::WatchFault;
@@ -11,6 +12,7 @@ use crate::plan::Plan;
 use memchr::memchr;
 use std::alloc::Global;
 use tre_state::Names;
+use tre_syntax::Pattern;
 
 /// How many bytes a file may have.
 pub const FILE_MAX: usize = 1_048_576;
@@ -48,25 +50,44 @@ fn read_lines(alloc: Global, bytes: &[u8], scale: u8) -> Result<Plan, WatchFault
 {
     let mut names = Names::new(alloc);
     let mut patterns = Vec::new(alloc);
+    match add_lines(alloc, &mut names, &mut patterns, scale, bytes) {
+        Ok(()) => Ok(Plan { names, patterns }),
+        Err(fault) => Err(fault),
+    }
+}
+
+// Adds the checks that the lines of the bytes say, where there are none yet.
+fn add_lines(
+    alloc: Global,
+    names: &mut Names,
+    patterns: &mut Vec<Pattern>,
+    scale: u8,
+    bytes: &[u8],
+) -> Result<(), WatchFault>
+    requires small { length bytes.now ≤ FILE_MAX }
+    requires scale { scale ≤ SCALE_MAX }
+    requires names { names.old ≡ [] }
+    requires patterns { patterns.old.items ≡ [] }
+    ensures outcome { MatchResult result
+        (λ _. IsOutcomeFrom scale [] [] 1 (slice_split is_newline bytes.now)
+        (planned names.new (spelt_in patterns.new.items)))
+        (λ fault. (fault ≡ WatchFault.Memory)
+        ⊎ IsOutcomeFrom scale [] [] 1 (slice_split is_newline bytes.now) (faulty fault)) }
+    ensures paired { OnOk result (length names.new ≡ length patterns.new.items) }
+    ensures never_memory { IfErr result NeverMemoryInside }
+{
     let mut rest = bytes;
     let mut number = 1;
     while let Some(end) = memchr(b'\n', rest) {
-        add_line(
-            alloc,
-            &mut names,
-            &mut patterns,
-            scale,
-            number,
-            &rest[..end],
-        )?;
+        add_line(alloc, names, patterns, scale, number, &rest[..end])?;
         rest = behind_line(rest, end);
         number += 1;
     }
-    add_line(alloc, &mut names, &mut patterns, scale, number, rest)?;
+    add_line(alloc, names, patterns, scale, number, rest)?;
     if names.is_empty() {
         return Err(WatchFault::Empty);
     }
-    Ok(Plan { names, patterns })
+    Ok(())
 }
 
 // What stands behind a line that ends at this place.

@@ -25,7 +25,7 @@ returns-in-Ok c = λ line says.
     c.args.name.now
     c.args.text.now says (omega (arith, c.len.ensures.len))
     (ap is_some (sym c.find.ensures) ∙ sym c.if-is_some.ensures) c.in-Ok.pattern
-    c.in-Ok.ensures c.add_pair.new.names c.add_pair.new.patterns.items h.0 h.1)
+    c.in-Ok.ensures c.add_pair.new.names c.add_pair.new.list.items h.0 h.1)
     (λ fault e. stops_memory c.args.scale c.args.number line c.args.names.now
     (spelt_in c.args.patterns.now.items) fault e)
 

@@ -6,11 +6,11 @@ use Rattle.std.specs.List.{slice_split}
 use Rattle.tre_watch.specs.Outcome.{Outcome, IsOutcomeFrom}
 use Rattle.tre_watch.specs.Steps.{spelt_in}
 use Rattle.tre_watch.proofs.Outcomes.{Reaches-start, Reaches-next, Reaches-stop, Reaches-last_stop, Reaches-end, ended_empty, ended_some}
-use Rattle.tre_watch.proofs.reader.read_lines.Goals as goal
+use Rattle.tre_watch.proofs.reader.add_lines.Goals as goal
 
 pub loop-end-init : goal.loop-end-init
 loop-end-init c = record {
-  reaches = rw (c.new-names.ensures, c.new-patterns.ensures.items)
+  reaches = rw (c.requires.names, c.requires.patterns)
       (Reaches-start c.args.scale c.args.bytes.now);
   small = omega arith;
 }

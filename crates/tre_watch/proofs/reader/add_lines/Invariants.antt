@@ -1,7 +1,7 @@
 use Rattle.std.proofs.Common.{◌+◌, ◌≤◌, length}
 use Rattle.tre_watch.specs.Steps.{spelt_in}
 use Rattle.tre_watch.proofs.Outcomes.{Reaches}
-use Rattle.tre_watch.proofs.reader.read_lines.Given as goal
+use Rattle.tre_watch.proofs.reader.add_lines.Given as goal
 
 abbrev pub invariant-loop-end : goal.invariant-loop-end
 invariant-loop-end l = record {
