@@ -143,6 +143,6 @@ fn is_beyond(reaches: &[Reach], place: usize, zone: &ZoneBounds) -> bool
         → (zone.now.begin_low <ℤ (slice_index_or reaches.now place r).low)
         × ((slice_index_or reaches.now place r).high <ℤ zone.now.begin_high) }
 {
-    let reach = &reaches[place];
+    let reach = reach_at(reaches, place);
     zone.begin_low.key() < reach.low && reach.high < zone.begin_high.key()
 }

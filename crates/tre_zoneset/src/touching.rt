@@ -17,12 +17,10 @@ impl ZoneSet {
     {
         let zones = by_begin(zones);
         if !some_may_touch(&zones) {
-            let set = ZoneSet::of_zones(alloc, zones)?;
-            return Ok(set);
+            return ZoneSet::of_zones(alloc, zones);
         }
         let united = all_united(alloc, &zones)?;
-        let set = ZoneSet::of_zones(alloc, united)?;
-        Ok(set)
+        ZoneSet::of_zones(alloc, united)
     }
 
     /// The pairs of either set, as `of_touching` makes one of its zones.
@@ -30,11 +28,9 @@ impl ZoneSet {
         ensures { IfOk result (λ set.
             HoldExactly set (Either (SetHolds one.now) (SetHolds other.now))) }
     {
-        let mut zones = Vec::new(alloc);
-        zones.extend_from_slice(one.zones())?;
+        let mut zones = Vec::from_slice(alloc, one.zones())?;
         zones.extend_from_slice(other.zones())?;
-        let joined = ZoneSet::of_touching(alloc, zones)?;
-        Ok(joined)
+        ZoneSet::of_touching(alloc, zones)
     }
 }
 

@@ -68,7 +68,7 @@ impl ZoneSet {
         Ok(ZoneSet { zones })
     }
 
-    /// The zones, in the order in which they were added.
+    /// The zones as they stand: a zone that is added comes last.
     pub fn zones(&self) -> &[Zone]
         ensures same { result.now ≡ self.now }
         ensures set { IsZoneSet self.now }
@@ -110,9 +110,7 @@ impl ZoneSet {
         if some_includes(&self.zones, &zone) {
             return Ok(false);
         }
-        self.zones.reserve(1)?;
-        drop_included(&mut self.zones, &zone);
-        self.zones.push(zone)?;
+        put_last(&mut self.zones, zone)?;
         Ok(true)
     }
 
@@ -194,8 +192,7 @@ impl ZoneSet {
     {
         let alloc = *self.zones.allocator();
         let found = meets_of(alloc, self.zones(), other.zones())?;
-        let met = ZoneSet::of_zones(alloc, found)?;
-        Ok(met)
+        ZoneSet::of_zones(alloc, found)
     }
 
     /// The pairs whose duration is in the interval.
@@ -207,8 +204,7 @@ impl ZoneSet {
         if let Some(lasting) = self.cut_of(&cut)? {
             return Ok(lasting);
         }
-        let all = self.try_clone()?;
-        Ok(all)
+        self.try_clone()
     }
 
     /// The same of a set that is not needed any more: the set itself where all of them are.
@@ -217,8 +213,7 @@ impl ZoneSet {
             HoldExactly set (Lasting (LastsWithin interval.now) (SetHolds self))) }
     {
         let cut = Cut::Within(*interval);
-        let lasting = self.into_cut(&cut)?;
-        Ok(lasting)
+        self.into_cut(&cut)
     }
 
     /// The pairs that last at most `longest`: the set itself where all of them do.
@@ -228,8 +223,7 @@ impl ZoneSet {
             HoldExactly set (Lasting (LastsUpTo longest) (SetHolds self))) }
     {
         let cut = Cut::UpTo(longest);
-        let lasting = self.into_cut(&cut)?;
-        Ok(lasting)
+        self.into_cut(&cut)
     }
 
     /// The pairs that end at `time`; of zones that touch there, each stretch is one zone.
@@ -240,8 +234,7 @@ impl ZoneSet {
         let alloc = *self.zones.allocator();
         let cut = Cut::EndingAt(time);
         let found = cut_each(alloc, self.zones(), &cut)?;
-        let ending = ZoneSet::of_touching(alloc, found)?;
-        Ok(ending)
+        ZoneSet::of_touching(alloc, found)
     }
 
     // What the cut leaves of a set that is not needed any more.
@@ -277,8 +270,7 @@ impl ZoneSet {
     {
         let alloc = *self.zones.allocator();
         let zones = merged(alloc, self.zones(), other.zones())?;
-        let joined = ZoneSet::of_zones(alloc, zones)?;
-        Ok(joined)
+        ZoneSet::of_zones(alloc, zones)
     }
 
     /// The same zones in the same order.
@@ -299,10 +291,8 @@ pub fn are_few(zones: &[Zone]) -> bool {
 pub fn index_of(alloc: Global, zones: &[Zone]) -> Result<ZoneIndex, AllocError>
     ensures { IfOk result (λ index. index ≡ zones.now) }
 {
-    let mut list = Vec::new(alloc);
-    list.extend_from_slice(zones)?;
-    let index = ZoneIndex::of_list(alloc, list)?;
-    Ok(index)
+    let list = Vec::from_slice(alloc, zones)?;
+    ZoneIndex::of_list(alloc, list)
 }
 
 /// Adds the zone that was found to a list, if there is one: lists that are to become a set.
@@ -509,6 +499,17 @@ fn some_includes(zones: &[Zone], zone: &Zone) -> bool
     ensures { IsTrue result ↔ Any (λ member. Includes member zone.now) zones.now }
 {
     zones.iter().any(|member| member.includes(zone))
+}
+
+// Adds the zone at the end, in place of those that it includes.
+fn put_last(zones: &mut Vec<Zone>, zone: Zone) -> Result<(), AllocError>
+    ensures ok { OnOk result (IsAdded zones.old.items zone zones.new.items) }
+    ensures err { OnErr result (zones.new.items ≡ zones.old.items) }
+{
+    zones.reserve(1)?;
+    drop_included(zones, &zone);
+    zones.push(zone)?;
+    Ok(())
 }
 
 // Drops the zones that the other includes.

@@ -6,7 +6,7 @@ use super::ZoneSet;
 use tre_zone::Zone;
 
 impl ZoneSet {
-    /// The zones, in the order in which they were added and in the memory where they stand.
+    /// The zones as they stand, in the memory where they stand.
     pub fn into_zones(self) -> Vec<Zone>
         ensures same { result.items ≡ self }
         ensures set { IsZoneSet result.items }

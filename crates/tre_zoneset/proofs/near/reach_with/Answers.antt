@@ -9,3 +9,7 @@ returns-clause-before c = λ k r other is h.
     c.wider.ensures.first other
     (subst (λ (reach : Reach). IsWithin reach other) (sym (c.reach_at.ensures r))
     (subst (λ (j : ℕ). IsWithin (get_or c.args.reaches.now j r) other) last h))
+
+pub returns-then-count-eq0-clause-before : goal.returns-then-count-eq0-clause-before
+returns-then-count-eq0-clause-before c = λ k r other is h.
+    absurd (omega (arith, is, c.if-count-eq0.true))

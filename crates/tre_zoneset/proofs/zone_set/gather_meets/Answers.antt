@@ -1,5 +1,7 @@
+use Rattle.std.proofs.Common.{◌+◌, ◌-◌, ◌<◌, length, ap, arith}
+use Rattle.std.proofs.lemmas.List.{length-map}
 use Rattle.tre_pairs.specs.Pairs.{Both}
-use Rattle.tre_zone.specs.Zone.{ZoneHolds}
+use Rattle.tre_zone.specs.Zone.{ZoneHolds, row_of}
 use Rattle.tre_zone.proofs.ZoneListLemmas.{SetHolds-empty}
 use Rattle.tre_zoneset.specs.ZoneSet.{FoundHolds}
 use Rattle.tre_zoneset.proofs.Searching.{HoldsFirst-none, HoldsFirst-next, HoldsFirst-rest, HoldsFirst-end, IsKeyOf-canonical}
@@ -42,3 +44,26 @@ returns c =
     (IsKeyOf-canonical (Both (ZoneHolds c.args.zone.now)) c.args.others.now c.key_meeting-key.result
     c.requires c.key_meeting-key.ensures.others) c.loop-place.place
     (rw c.items-items.ensures at c.loop-place-test.false) c.loop-place.invariant
+
+pub bounds-items-next : goal.bounds-items-next
+bounds-items-next c =
+    let below : c.in-Some.next < length c.items-items.result.now =
+    omega (
+      arith,
+      c.in-Some.ensures.ends,
+      length-map c.args.others.now row_of,
+      ap length c.items-items.ensures,
+    ) in
+    below
+
+pub loop-place-smaller : goal.loop-place-smaller
+loop-place-smaller c =
+    let less : length c.args.others.now - (c.in-Some.next + 1)
+    < length c.args.others.now - c.loop-place.place =
+    omega (
+      arith,
+      c.in-Some.ensures.starts,
+      c.in-Some.ensures.ends,
+      length-map c.args.others.now row_of,
+    ) in
+    less

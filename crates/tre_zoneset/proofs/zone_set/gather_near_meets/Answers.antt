@@ -16,3 +16,6 @@ returns c =
     c.find_stretch-stretch.result c.find_stretch-stretch.ensures
     (λ a b n h. SetHolds-empty a b n h.right)
     c.in_ok-gather_each_meet.ensures
+
+pub slice_bounds-gather_each_meet-count : goal.slice_bounds-gather_each_meet-count
+slice_bounds-gather_each_meet-count c = c.find_stretch-stretch.ensures.rising

@@ -1,6 +1,5 @@
 use Rattle.std.proofs.Common.{refl}
-use Rattle.tre_zone.specs.Zone.{Includes}
-use Rattle.tre_zoneset.specs.ZoneSet.{Without}
+use Rattle.tre_zoneset.specs.ZoneSet.{IsAdded}
 use Rattle.tre_zoneset.proofs.Members.{IsZoneSet-push}
 use Rattle.tre_zoneset.proofs.Kept.{IsZoneSet-kept, IsApartFrom-kept}
 use Rattle.tre_zoneset.proofs.Unions.{HoldExactly-added, HoldExactly-included}
@@ -11,25 +10,27 @@ returns-then-some_includes-clause-held c =
     HoldExactly-included c.args.self.now c.args.zone
     (rw (c.deref.ensures.value, c.self.view_is) at (c.if-some_includes.ensures.0 refl))
 
-without : (c : goal.In_ok-push) → Without
-    (Includes c.args.zone) c.args.self.now c.drop_included.new.zones.items
-without c = rw (c.reserve.ensures.items, c.self.view_is) at c.drop_included.ensures.kept
+added : (c : goal.In_ok-put_last) → IsAdded c.args.self.now c.args.zone c.put_last.new.zones.items
+added c = rw c.self.view_is at c.in_ok-put_last.ensures.ok
 
 pub invariant_of-self-2 : goal.invariant_of-self-2
 invariant_of-self-2 c =
-    rw c.in_ok-push.ensures.items
-    (IsZoneSet-push c.drop_included.new.zones.items c.args.zone
-    (IsZoneSet-kept (Includes c.args.zone) c.args.self.now c.drop_included.new.zones.items
-    (without c) (rw c.self.view_is at c.self.invariant))
-    (IsApartFrom-kept c.args.zone c.args.self.now c.drop_included.new.zones.items (without c)
+    let is = added c in
+    rw is.last
+    (IsZoneSet-push is.kept c.args.zone
+    (IsZoneSet-kept _ c.args.self.now is.kept is.without (rw c.self.view_is at c.self.invariant))
+    (IsApartFrom-kept c.args.zone c.args.self.now is.kept is.without
     (λ any. let e = c.if-some_includes.ensures.1
     (rw (c.deref.ensures.value, c.self.view_is) any) in (cc)))
     c.bounds-bounds.ensures.canonical)
 
+pub returns-clause-added : goal.returns-clause-added
+returns-clause-added c = λ yes. added c
+
 pub returns-clause-held : goal.returns-clause-held
 returns-clause-held c =
-    rw c.in_ok-push.ensures.items (HoldExactly-added c.args.self.now
-    c.drop_included.new.zones.items c.args.zone (without c))
+    let is = added c in
+    rw is.last (HoldExactly-added c.args.self.now is.kept c.args.zone is.without)
 
 pub returns-clause-set : goal.returns-clause-set
 returns-clause-set c = invariant_of-self-2 c

@@ -1,3 +1,4 @@
+use Rattle.std.proofs.lemmas.Result.{IfOk-weaker}
 use Rattle.tre_zoneset.proofs.Cuts.{HoldExactly-within, IsCut-within}
 use Rattle.tre_zoneset.proofs.zone_set.ZoneSet.into_within.Goals as goal
 
@@ -6,4 +7,5 @@ into_cut-requires c = IsCut-within c.args.interval.now
 
 pub returns : goal.returns
 returns c =
-    HoldExactly-within c.args.interval.now c.in_ok-lasting.lasting _ c.in_ok-lasting.ensures
+    IfOk-weaker c.into_cut.result _ _
+    (λ lasting held. HoldExactly-within c.args.interval.now lasting _ held) c.into_cut.ensures

@@ -1,3 +1,4 @@
+use Rattle.std.proofs.lemmas.Result.{IfOk-weaker}
 use Rattle.tre_zoneset.proofs.Cuts.{HoldExactly-up_to, IsCut-up_to}
 use Rattle.tre_zoneset.proofs.zone_set.ZoneSet.up_to.Goals as goal
 
@@ -6,4 +7,5 @@ into_cut-requires c = IsCut-up_to c.args.longest c.requires
 
 pub returns : goal.returns
 returns c =
-    HoldExactly-up_to c.args.longest c.in_ok-lasting.lasting _ c.in_ok-lasting.ensures
+    IfOk-weaker c.into_cut.result _ _
+    (λ lasting held. HoldExactly-up_to c.args.longest lasting _ held) c.into_cut.ensures
