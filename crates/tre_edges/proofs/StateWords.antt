@@ -8,12 +8,13 @@ use Rattle.std.proofs.lemmas.Simd.{length-zip2}
 use Rattle.std.specs.Int.{bit_at}
 use Rattle.std.specs.Prelude.{slice_index}
 use lib.Lanes.{zip2}
-use Rattle.tre_state.specs.StateTree.{StateTree, proposition, conjunction, disjunction}
+use Rattle.tre_state.specs.StateTree.{StateTree, always, proposition, negation, conjunction, disjunction}
 use Rattle.tre_trace.proofs.Bits.{valuation_at-past}
 use Rattle.tre_trace.specs.Planes.{IsPlane, bit_in, valuation_at}
 use Rattle.tre_trace.specs.declared.segment.Segment.{Segment}
 use Rattle.tre_edges.proofs.WordBits.{bit_in-and, bit_in-or}
 use Rattle.tre_edges.specs.StateWords.{AreTruthOf}
+use Rattle.tre_edges.specs.WordBits.{AreOnes, AreOpposite}
 use Rattle.tre_edges.specs.NextPlace.{bit_for}
 use Rattle.tre_edges.specs.Truth.{HasTruth}
 
@@ -49,6 +50,31 @@ module _ (segments : List Segment) where
   } where
     none : (k : ℕ) → bit_at 0 k ≡ 0
     none = bit_at-zero
+
+  pub of_ones : (words : List ℕ) → AreOnes (length segments) words
+      → AreTruthOf always segments words
+  of_ones words ones = record {
+    size = ones.size;
+    held = λ place early. ((λ one. tt), (λ holds. ones.set place early));
+    past = ones.past;
+  }
+
+  pub of_opposite : (state : StateTree) (words opposite : List ℕ)
+      → AreTruthOf state segments words → AreOpposite (length segments) words opposite
+      → AreTruthOf (negation state) segments opposite
+  of_opposite state words opposite truth turned = record {
+    size = turned.size;
+    held = λ place early.
+        let inner = truth.held place early in
+        let bit = turned.flipped place early in (
+          λ one holds. omega (arith, bit, one, inner.1 holds),
+          λ fails. elim (cases_eq (bit_in words place) 1) [
+            | inl is ↦ absurd (fails (inner.0 is))
+            | inr other ↦ omega (arith, bit, other, bit_in-lt words place)
+          ],
+        );
+    past = turned.past;
+  }
 
   module _ (left right : StateTree) (a b : List ℕ) (first : AreTruthOf left segments a)
       (second : AreTruthOf right segments b) where

@@ -71,6 +71,7 @@ pub(crate) fn each_run<T: AnyTrace, K: KeepsParts>(
         AreTruthOf state (T.timeline trace.now).segments words.now →
         OnOk result (HoldExactly (K.kept keeper.new) (Lasting (LastsIn (K.interval keeper.old))
         (IsRunPart (K.edges keeper.old) state (whole (T.timeline trace.now))))) }
+    ensures edges { OnOk result (K.edges keeper.new ≡ K.edges keeper.old) }
     ensures runs_of { OnOk result (K.runs_of keeper.new ≡ K.runs_of keeper.old) }
     ensures stands { OnOk result (K.stands keeper.new) }
 {

@@ -1,12 +1,16 @@
 // The stretches of a trace on which a state holds, from its edges on or up to them, as a set.
-ghost use Rattle.std.specs.Prelude.{◌<◌, ◌^◌, IfOk, length};
+ghost use Rattle.std.specs.Prelude.{◌≡◌, ◌<◌, ◌^◌, IfOk, length};
 ghost use Rattle.tre_pairs.specs.Pairs.{Lasting};
 ghost use Rattle.tre_state.specs.State.{tree_of};
-ghost use Rattle.tre_state.specs.StateTree.{NumbersBelow};
+ghost use Rattle.tre_state.specs.StateTree.{StateTree, NumbersBelow};
 ghost use Rattle.tre_syntax.specs.Rest.{whole};
+ghost use Rattle.tre_trace.specs.Planes.{words_for};
 ghost use Rattle.tre_zone.specs.ZoneList.{HoldExactly};
 ghost use Rattle.tre_edges.specs.RunParts.{IsRunPart, LastsIn};
+ghost use Rattle.tre_edges.specs.RunPlaces.{AreRunPlaces, runs_at, trace_words};
 ghost use Rattle.tre_edges.specs.RunSets.{zones_of};
+ghost use Rattle.tre_edges.specs.RunsInTime.{zones_in};
+ghost use Rattle.tre_edges.specs.StateWords.{AreTruthOf};
 
 use crate::each_run::{KeepsParts, each_run};
 use crate::part_within::part_within;
@@ -59,16 +63,34 @@ pub fn run_set(
         (IsRunPart edges (tree_of state.now) (whole trace))) }
 {
     let words = truth(alloc, state, &trace)?;
-    let mut keeper = PlaceKeeper::new(alloc, &trace, &words, edges)?;
-    each_run(&words, &trace, &mut keeper)?;
-    let edges = keeper.edges;
-    let places = keeper.places;
+    let places = places_of(alloc, &trace, &words, edges)?;
     Ok(RunSet {
         trace,
         words,
         places,
         edges,
     })
+}
+
+// The place of the first segment of each of them, where these words say where the state holds.
+fn places_of(
+    alloc: Global,
+    trace: &Packed,
+    words: &[u64],
+    edges: RunEdges,
+) -> Result<Vec<u32>, AllocError>
+    requires size { length words.now ≡ words_for (length trace.now.segments) }
+    requires few { length trace.now.segments < 2 ^ 32 }
+    ensures placed { IfOk result (λ places.
+        AreRunPlaces (trace_words trace.now words.now) places.items) }
+    ensures held { (state : StateTree) → AreTruthOf state trace.now.segments words.now
+        → IfOk result (λ places.
+        HoldExactly (zones_in edges (runs_at (trace_words trace.now words.now) places.items))
+        (IsRunPart edges state (whole trace.now))) }
+{
+    let mut keeper = PlaceKeeper::new(alloc, trace, words, edges)?;
+    each_run(words, trace, &mut keeper)?;
+    Ok(keeper.places)
 }
 
 // The zones of parts, and which parts are kept.

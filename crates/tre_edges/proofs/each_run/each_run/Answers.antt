@@ -179,3 +179,6 @@ returns-clause-held g c = λ state truth.
                 rest.related.held)) (same.0 matches),
           );
     })
+
+pub returns-clause-edges : goal.returns-clause-edges
+returns-clause-edges g c = c.loop-at.invariant.edges ∙ c.edges-edges.ensures

@@ -1,7 +1,9 @@
-use Rattle.std.proofs.Common.{◌+◌, length, refl, arith, inr, ⊎_elim}
+use Rattle.std.proofs.Common.{◌+◌, ◌≤◌, length, not, ap, refl, arith, inl, inr, ⊎_elim}
 use Rattle.tre_packed.proofs.Adding.{count-limit}
 use Rattle.tre_state.specs.State.{tree_of}
 use Rattle.tre_zone.proofs.ZoneListLemmas.{SetHolds-empty}
+use Rattle.tre_edges.specs.Truth.{HasTruth}
+use Rattle.tre_edges.proofs.EdgesOfTraces.{no_more}
 use Rattle.tre_edges.proofs.EndsOfLists.{EndBefore-empty, EndBefore-later}
 use Rattle.tre_edges.proofs.InstantLists.{AreInstants-empty}
 use Rattle.tre_edges.proofs.NextTurns.{edge_found, calm_then, lt_test}
@@ -99,4 +101,61 @@ loop-at-preserved g c =
       calm = λ inside.
           calm_then state trace words truth c.args.becomes c.loop-at.at other turn first last
           (omega (arith, inside));
+    }
+
+pub next_place-other-requires-clause-bits : goal.next_place-other-requires-clause-bits
+next_place-other-requires-clause-bits g c =
+    omega (
+      arith,
+      c.in_ok-words.ensures.size,
+      c.count-count.ensures.count,
+      ap length c.deref-in-loop-at.ensures.value,
+    )
+
+pub next_place-turn-requires-clause-bits : goal.next_place-turn-requires-clause-bits
+next_place-turn-requires-clause-bits g c =
+    omega (
+      arith,
+      c.in_ok-words.ensures.size,
+      c.count-count.ensures.count,
+      ap length c.deref-in-loop-at-2.ensures.value,
+    )
+
+pub start_from-seen-requires-clause-order : goal.start_from-seen-requires-clause-order
+start_from-seen-requires-clause-order g c =
+    omega (
+      arith,
+      c.loop-at.invariant.passed,
+      c.next_place-other.ensures.late,
+      c.next_place-turn.ensures.late,
+    )
+
+pub start_from-seen-requires-clause-within : goal.start_from-seen-requires-clause-within
+start_from-seen-requires-clause-within g c =
+    omega (arith, c.next_place-turn.ensures.within, c.count-count.ensures.count)
+
+pub loop-at-smaller : goal.loop-at-smaller
+loop-at-smaller g c =
+    omega (
+      arith,
+      c.next_place-other.ensures.late,
+      c.next_place-turn.ensures.late,
+      c.loop-at-test.true,
+    )
+
+pub returns-clause-matches : goal.returns-clause-matches
+returns-clause-matches g c =
+    let segments = (g.T.AnyTrace.timeline c.args.trace.now).segments in
+    let state = tree_of c.args.state.now in
+    let past : length segments ≤ c.loop-at.at =
+    omega (arith, c.loop-at-test.false, c.count-count.ensures.count) in
+    record {
+      exact = λ a b n some rising.
+          let same = c.loop-at.invariant.exact a b n some rising in (
+            λ held. same.1 (inl held),
+            λ matches. ⊎_elim (λ held. held)
+                (λ rest. absurd (no_more (HasTruth (not c.args.becomes) state)
+                (HasTruth c.args.becomes state) segments a b n c.loop-at.at past rest))
+                (same.0 matches),
+          );
     }

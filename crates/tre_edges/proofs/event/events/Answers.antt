@@ -120,3 +120,26 @@ next_place-at-requires-in-loop-at-clause-limit g c =
       c.count-count.ensures.count,
       count-limit (g.T.AnyTrace.timeline c.args.trace.now).segments c.count-count.ensures.trace,
     )
+
+pub add_instant-requires-2-clause-ended : goal.add_instant-requires-2-clause-ended
+add_instant-requires-2-clause-ended g c =
+    let segments = (g.T.AnyTrace.timeline c.args.trace.now).segments in
+    let at = c.loop-at.at in
+    let past : length segments ≤ at =
+    omega (arith, c.loop-at-test.false, c.count-count.ensures.count) in
+    let all : time_of segments at ≡ end_of 0 segments = ap (end_of 0) (take_all at segments past) in
+    rw (c.end.ensures.end, ← all) c.loop-at.invariant.ended
+
+pub add_instant-requires-2-clause-limit : goal.add_instant-requires-2-clause-limit
+add_instant-requires-2-clause-limit g c =
+    let segments = (g.T.AnyTrace.timeline c.args.trace.now).segments in
+    let at = c.loop-at.at in
+    let past : length segments ≤ at =
+    omega (arith, c.loop-at-test.false, c.count-count.ensures.count) in
+    let all : time_of segments at ≡ end_of 0 segments = ap (end_of 0) (take_all at segments past) in
+    omega (
+      arith,
+      all,
+      c.end.ensures.end,
+      time_of-limit segments at c.count-count.ensures.trace,
+    )

@@ -20,3 +20,9 @@ returns-clause-matches g c =
           let one = held.exact a b n some le in
           ((λ h. (one.0 h).related), (λ h. one.1 (record { related = h; admitted = tt })));
     }
+
+pub each_run-requires-clause-size : goal.each_run-requires-clause-size
+each_run-requires-clause-size g c = rw c.deref-2.ensures.value c.in_ok-words.ensures.size
+
+pub returns-clause-runs : goal.returns-clause-runs
+returns-clause-runs g c = c.in_ok-each_run.ensures.stands

@@ -17,3 +17,9 @@ returns-in-Some-clause-meaning c = λ p q n some le.
     (omega (arith, ints, c.weak-whole.ensures.key)) p q n le _ _
     (tightened c.tighter.result c.weak-whole.result c.high_end.result c.tighter.ensures p q n some _
     (c.high_end.ensures.meaning p q n le)))
+
+pub returns-in-None-clause-low : goal.returns-in-None-clause-low
+returns-in-None-clause-low c = omega (arith, ints, c.weak-whole.ensures.key)
+
+pub returns-in-None-clause-high : goal.returns-in-None-clause-high
+returns-in-None-clause-high c = omega (arith, ints, c.weak-whole.ensures.key)

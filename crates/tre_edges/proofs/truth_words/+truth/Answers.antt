@@ -1,7 +1,8 @@
 use Rattle.std.proofs.Common.{◌≡◌, length, arith, bit_and, bit_or}
 use Rattle.std.proofs.lemmas.List.{with_items_is}
+use Rattle.std.proofs.lemmas.Result.{IfOk-weaker}
 use lib.Lanes.{zip2}
-use Rattle.tre_edges.proofs.StateWords.{of_proposition, of_conjunction, of_disjunction}
+use Rattle.tre_edges.proofs.StateWords.{of_ones, of_proposition, of_opposite, of_conjunction, of_disjunction}
 use Rattle.tre_edges.proofs.truth_words.+truth.Goals as goal
 
 pub returns-in_ok-plane-in-Prop : goal.returns-in_ok-plane-in-Prop
@@ -36,3 +37,21 @@ returns-in_ok-other-in-Or g t c =
     (of_disjunction (g.T.AnyTrace.timeline c.args.trace.now).segments _ _ words.items other.items
     (rw c.deref-in-Or.ensures at c.in_ok-words-in-Or.ensures)
     (rw c.deref-in-Or-2.ensures at c.in_ok-other-in-Or.ensures))
+
+pub returns-in-Yes : goal.returns-in-Yes
+returns-in-Yes g t c =
+    IfOk-weaker c.always.result _ _
+    (λ words ones. rw c.in-Yes.is
+    (of_ones (g.T.AnyTrace.timeline c.args.trace.now).segments words.items
+    (rw c.count.ensures.count at ones)))
+    c.always.ensures
+
+pub returns-in_ok-words-in-Not : goal.returns-in_ok-words-in-Not
+returns-in_ok-words-in-Not g t c =
+    IfOk-weaker c.complement.result _ _
+    (λ opposite turned. rw c.in-Not.is
+    (of_opposite (g.T.AnyTrace.timeline c.args.trace.now).segments _
+    c.in_ok-words-in-Not.words.items opposite.items
+    (rw c.deref.ensures at c.in_ok-words-in-Not.ensures)
+    (rw (c.deref-in-Not.ensures.value, c.count-in-Not.ensures.count) at turned)))
+    c.complement.ensures
