@@ -1,5 +1,5 @@
 // The list of the strips.
-ghost use Rattle.std.specs.Prelude.{◌≡◌, ◌^◌, ◌↔◌, neg_ℤ, Contains, List, IfOk, IsTrue};
+ghost use Rattle.std.specs.Prelude.{◌≡◌, ◌^◌, ◌↔◌, neg_ℤ, Contains, List, [], IfOk, IsTrue, OnOk};
 ghost use Rattle.std.specs.List.Sorted.{IsStrictlySortedBy};
 ghost use Rattle.std.specs.declared.cmp.Ordering.TheVariants.{Less};
 ghost use Rattle.tre_zone.specs.Bound.{IsKeyWithin};
@@ -7,8 +7,8 @@ ghost use Rattle.tre_zone.specs.ZoneList.{SetHolds, AreCanonical, HoldExactly};
 ghost use Rattle.tre_zone.specs.declared.zone_bounds.ZoneBounds.{ZoneBounds};
 ghost use Rattle.tre_strips.specs.Listed.{line_key, compare_lines, AreListed};
 ghost use Rattle.tre_strips.specs.Strips.{AreStrips};
-ghost use Rattle.tre_strips.specs.Spun.{HaveSamePairs, AreFound};
-ghost use Rattle.tre_strips.specs.Sweep.{begin_of, BeginInTurn};
+ghost use Rattle.tre_strips.specs.Spun.{HaveSamePairs, AreFound, IsSpun};
+ghost use Rattle.tre_strips.specs.Sweep.{begin_of, BeginInTurn, IsSwept};
 
 use crate::begins::first_begin;
 use crate::column::{Column, Sweep};
@@ -55,15 +55,47 @@ fn strips_of(alloc: Global, zones: &[Zone]) -> Result<Vec<Zone>, AllocError>
         → HaveSamePairs set zones.now → AreFound set found.items) }
 {
     let mut found = Vec::with_capacity(alloc, zones.len())?;
+    add_strips(alloc, zones, &mut found)?;
+    Ok(found)
+}
+
+// Adds them to an empty list: in one pass over the columns, the first of which begins a run.
+fn add_strips(alloc: Global, zones: &[Zone], found: &mut Vec<Zone>) -> Result<(), AllocError>
+    requires turn { BeginInTurn zones.now }
+    requires none { found.old.items ≡ [] }
+    ensures { OnOk result ((set : List ZoneBounds) → AreCanonical set
+        → HaveSamePairs set zones.now → AreFound set found.new.items) }
+{
     let mut sweep = Sweep::new(alloc);
     let mut column = Column::new(alloc);
     sweep.next_column(alloc, zones, &mut column)?;
-    let mut run = Run::first(alloc, &mut found, &mut column)?;
+    let mut run = Run::first(alloc, found, &mut column)?;
+    spin(alloc, zones, found, &mut sweep, &mut column, &mut run)
+}
+
+// The same behind the first column, in which the run begins.
+fn spin(
+    alloc: Global,
+    zones: &[Zone],
+    found: &mut Vec<Zone>,
+    sweep: &mut Sweep,
+    column: &mut Column,
+    run: &mut Run,
+) -> Result<(), AllocError>
+    requires turn { BeginInTurn zones.now }
+    requires swept { IsSwept zones.now sweep.old.open_zones.items sweep.old.waiting
+        sweep.old.time }
+    ensures { OnOk result ((set : List ZoneBounds) → AreCanonical set
+        → HaveSamePairs set zones.now
+        → IsSpun set run.old.bars.items run.old.from run.old.takes_from found.old.items
+        sweep.old.time
+        → AreFound set found.new.items) }
+{
     while sweep.time <= TIME_MAX {
-        sweep.next_column(alloc, zones, &mut column)?;
-        run.next(alloc, &mut found, &mut column)?;
+        sweep.next_column(alloc, zones, column)?;
+        run.next(alloc, found, column)?;
     }
-    Ok(found)
+    Ok(())
 }
 
 // The zones in the order in which they are printed, each once.

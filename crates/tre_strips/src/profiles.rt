@@ -60,10 +60,7 @@ pub(crate) fn united(
 {
     let bars = in_order(bars, times);
     match bars.split_first() {
-        Some((first, rest)) => {
-            let union = joined(alloc, first, rest, times)?;
-            Ok(union)
-        }
+        Some((first, rest)) => joined(alloc, first, rest, times),
         None => Ok(Vec::new(alloc)),
     }
 }

@@ -160,8 +160,7 @@ fn push_alone(
         until: column.time,
         takes_until: true,
     };
-    push_strip(found, &alone, &column.there)?;
-    Ok(())
+    push_strip(found, &alone, &column.there)
 }
 
 // Whether over the time none of the bars is empty, and together they are what the profile there is.
@@ -177,8 +176,7 @@ fn fit(alloc: Global, time: u64, bars: &[Bar], there: &[Bar]) -> Result<bool, Al
     if bars.len() < 2 {
         return Ok(false);
     }
-    let fits = fit_when_united(alloc, time, bars, there)?;
-    Ok(fits)
+    fit_when_united(alloc, time, bars, there)
 }
 
 // The same, told by their union.
@@ -198,8 +196,7 @@ fn fit_when_united(
         from: time,
         until: time,
     };
-    let mut all = Vec::new(alloc);
-    all.extend_from_slice(bars)?;
+    let all = Vec::from_slice(alloc, bars)?;
     let united = united(alloc, all, &mut times)?;
     Ok(are_same_at(time, &united, there))
 }

@@ -18,14 +18,11 @@ pub(crate) fn trimmed(alloc: Global, zones: &[Zone]) -> Result<Vec<Zone>, AllocE
 {
     // Mostly they stand in this order, and no copy has to be made.
     if are_in_order(zones) {
-        let fewer = each_trimmed(alloc, zones)?;
-        return Ok(fewer);
+        return each_trimmed(alloc, zones);
     }
-    let mut sorted = Vec::new(alloc);
-    sorted.extend_from_slice(zones)?;
+    let mut sorted = Vec::from_slice(alloc, zones)?;
     sorted.sort_unstable_by_key(|zone| [first_begin(zone), last_begin(zone)]);
-    let kept = each_trimmed(alloc, &sorted)?;
-    Ok(kept)
+    each_trimmed(alloc, &sorted)
 }
 
 // Whether none of the zones begins before the one in front of it, nor begins with it and stops
@@ -121,8 +118,12 @@ fn is_early_held(zone: &Zone, other: &Zone, last: &Bound) -> bool
 fn covers_early(other: &Zone, zone: &Zone, last: &Bound) -> bool
     ensures { IsTrue result ↔ Covers other.now (bounds_by zone.now last.now) }
 {
-    let outer = other.bounds();
-    let inner = zone.bounds();
+    are_looser(&other.bounds(), &zone.bounds(), last)
+}
+
+fn are_looser(outer: &ZoneBounds, inner: &ZoneBounds, last: &Bound) -> bool
+    ensures { IsTrue result ↔ Covers outer.now (bounds_by inner.now last.now) }
+{
     is_looser(&outer.begin_low, &inner.begin_low)
         && is_looser(&outer.begin_high, last)
         && is_looser(&outer.end_low, &inner.end_low)

@@ -1,4 +1,5 @@
 use Rattle.std.proofs.Common.{◌≡◌, ◌∷◌, [], List, length, refl, ap, arith, sym, ◌∙◌, subst}
+use Rattle.std.proofs.lemmas.Result.{IfOk-weaker}
 use Rattle.tre_strips.specs.Profiles.{AreFilledOver, IsUnionOfBars}
 use Rattle.tre_strips.specs.declared.bar.Bar.{Bar}
 use Rattle.tre_strips.proofs.Joining.{IsInOrder, AreFilledOver-permutation, IsUnion-permutation, IsUnion-none}
@@ -25,9 +26,12 @@ pub returns-in-Some-clause-union : goal.returns-in-Some-clause-union
 returns-in-Some-clause-union c =
     let same : c.in_order-bars.result.items ≡ c.in-Some.first.now ∷ c.in-Some.rest.now =
     sym c.deref.ensures.value ∙ c.in-Some.ensures.cases.0 in
-    IsUnion-permutation _ _ c.in_order-bars.result.items _ c.in_order-bars.ensures.same
-    (subst (λ (bars : List Bar). IsUnionOfBars c.joined.new.times bars c.in_ok-union-in-Some.union.items)
-    (sym same) c.in_ok-union-in-Some.ensures.union)
+    IfOk-weaker c.joined.result _ _
+    (λ union held. IsUnion-permutation _ _ c.in_order-bars.result.items _
+    c.in_order-bars.ensures.same
+    (subst (λ (bars : List Bar). IsUnionOfBars c.joined.new.times bars union.items) (sym same)
+    held))
+    c.joined.ensures.union
 
 pub returns-clause-union : goal.returns-clause-union
 returns-clause-union c =

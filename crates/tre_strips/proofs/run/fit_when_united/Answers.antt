@@ -10,7 +10,7 @@ returns-then-not-are_filled c = (
 
 pub united-requires : goal.united-requires
 united-requires c =
-    rw (c.in_ok-extend_from_slice.ensures.items, c.new-all.ensures.items)
+    rw c.in_ok-all.ensures.items
     (AreFilledOver-single c.args.time c.args.bars.now _ refl refl
     (c.if-not-are_filled.ensures.0 refl))
 
@@ -19,8 +19,7 @@ returns c =
     let narrowed = c.in_ok-united.ensures.narrowed in
     let from = narrowed.from in
     let until = narrowed.single refl in
-    let all = rw (c.in_ok-extend_from_slice.ensures.items, c.new-all.ensures.items)
-    at c.in_ok-united.ensures.union in
+    let all = rw c.in_ok-all.ensures.items at c.in_ok-united.ensures.union in
     let same = rw c.deref.ensures.value at c.are_same_at.ensures in (
       (λ e. Agree-same c.args.time c.united.new.times c.args.bars.now _ c.args.there.now from until
           (c.if-not-are_filled.ensures.0 refl) all (same.0 e)),

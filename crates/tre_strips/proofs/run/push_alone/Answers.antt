@@ -1,4 +1,5 @@
 use Rattle.std.proofs.Common.{refl, inl, inr}
+use Rattle.std.proofs.lemmas.Result.{IfOk-weaker}
 use Rattle.tre_strips.proofs.run.push_alone.Goals as goal
 
 pub returns-then-taken : goal.returns-then-taken
@@ -8,8 +9,11 @@ pub returns-then-fits : goal.returns-then-fits
 returns-then-fits c = inl (inr c.if-fits.true, refl)
 
 pub returns : goal.returns
-returns c = inr (
-  c.if-taken.false,
-  c.if-fits.false,
-  rw c.deref.ensures.value at c.in_ok-push_strip.ensures,
-)
+returns c =
+    IfOk-weaker c.push_strip.result _ _
+    (λ _ pushed. inr (
+      c.if-taken.false,
+      c.if-fits.false,
+      rw c.deref.ensures.value at pushed,
+    ))
+    c.push_strip.ensures

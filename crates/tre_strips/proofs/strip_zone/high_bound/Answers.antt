@@ -22,3 +22,15 @@ returns-else-end-clause-meaning c =
     omega (arith, ints) in
     HighMeans-strict c.strict.result c.args.end.now c.args.moves is
     (same_flags c.args.end.now.moves c.args.moves c.if-end-moves.false) c.if-end.false
+
+pub returns-then-end-clause-value : goal.returns-then-end-clause-value
+returns-then-end-clause-value c =
+    let shown = c.shown.ensures in
+    let value = c.weak-then-end.ensures.value in
+    record { low = omega (arith, ints); high = omega (arith, ints) }
+
+pub returns-else-end-clause-value : goal.returns-else-end-clause-value
+returns-else-end-clause-value c =
+    let shown = c.shown-else-end.ensures in
+    let value = c.strict.ensures.value in
+    record { low = omega (arith, ints); high = omega (arith, ints) }
