@@ -124,8 +124,7 @@ fn chains_of_part(alloc: Global, steps: &[Zone], limits: &Limits) -> Result<Zone
         HoldExactly set (ChainsWithin limits.now (SetHolds steps.now))) }
 {
     let found = chains_found(alloc, steps, limits)?;
-    let chains = ZoneSet::of_zones(alloc, found)?;
-    Ok(chains)
+    ZoneSet::of_zones(alloc, found)
 }
 
 // The zones of the chains of one step or more within the limits.
@@ -276,8 +275,7 @@ fn add_found(
     let Some(short) = zone.up_to(longest) else {
         return Ok(());
     };
-    add_new(reached, &short)?;
-    Ok(())
+    add_new(reached, &short)
 }
 
 // Adds a zone, where none of those reached includes it.

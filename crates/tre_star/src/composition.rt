@@ -32,8 +32,7 @@ pub fn compose_sets_up_to(
         (Lasting (LastsUpTo longest) (Composed (SetHolds first.now) (SetHolds second.now)))) }
 {
     let found = compositions_of(alloc, first.zones(), second.zones(), longest)?;
-    let composed = ZoneSet::of_zones(alloc, found)?;
-    Ok(composed)
+    ZoneSet::of_zones(alloc, found)
 }
 
 // The compositions of the first zones with the second ones, two by two, as far as they last at most
@@ -101,8 +100,7 @@ fn gather_followed(
         (Composed (ZoneHolds zone.now) (SetHolds (second.now ++ others.now)))))) }
 {
     gather_each(found, zone, others, longest)?;
-    let near = gather_near(found, zone, second, near, longest)?;
-    Ok(near)
+    gather_near(found, zone, second, near, longest)
 }
 
 // Adds the compositions of the zone with the second ones to a list, as far as they last at most
@@ -160,8 +158,8 @@ fn compose_by_index(
     ensures { IfOk result (λ found. HoldExactly found.items
         (Lasting (LastsUpTo longest) (Composed (SetHolds first.now) (SetHolds second.now)))) }
 {
-    let mut found = Vec::new(alloc);
     let seconds = index_of(alloc, second)?;
+    let mut found = Vec::new(alloc);
     for zone in first {
         gather_after(&mut found, zone, &seconds, longest)?;
     }

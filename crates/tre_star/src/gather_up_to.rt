@@ -19,8 +19,8 @@ pub(crate) fn gather_up_to(
     ensures { OnOk result (HoldExactly found.new.items
         (Either (SetHolds found.old.items) (Lasting (LastsUpTo longest) (FoundHolds zone)))) }
 {
-    if let Some(zone) = zone {
-        gather(found, zone.up_to(longest))?;
+    match zone {
+        Some(zone) => gather(found, zone.up_to(longest)),
+        None => Ok(()),
     }
-    Ok(())
 }

@@ -1,4 +1,7 @@
+use Rattle.std.proofs.Common.{◌+◌, ◌-◌, ◌<◌, length, ap, arith}
+use Rattle.std.proofs.lemmas.List.{length-map}
 use Rattle.tre_zone.specs.Longest.{LastsUpTo}
+use Rattle.tre_zone.specs.Zone.{row_of}
 use Rattle.tre_pairs.specs.Pairs.{Lasting}
 use Rattle.tre_zone.proofs.ZoneListLemmas.{SetHolds-empty}
 use Rattle.tre_zoneset.specs.ZoneSet.{FoundHolds}
@@ -56,3 +59,26 @@ returns-clause-held c =
     (Before-key longest zone steps _ c.requires.steps c.key_before-key.ensures.others)
     c.loop-place.place (rw c.items-items.ensures at c.loop-place-test.false)
     c.loop-place.invariant.first
+
+pub bounds-items-next : goal.bounds-items-next
+bounds-items-next c =
+    let below : c.in-Some.next < length c.items-items.result.now =
+    omega (
+      arith,
+      c.in-Some.ensures.ends,
+      length-map c.args.steps.now row_of,
+      ap length c.items-items.ensures,
+    ) in
+    below
+
+pub loop-place-smaller : goal.loop-place-smaller
+loop-place-smaller c =
+    let less : length c.args.steps.now - (c.in-Some.next + 1)
+    < length c.args.steps.now - c.loop-place.place =
+    omega (
+      arith,
+      c.in-Some.ensures.starts,
+      c.in-Some.ensures.ends,
+      length-map c.args.steps.now row_of,
+    ) in
+    less

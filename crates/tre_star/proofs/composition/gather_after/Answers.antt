@@ -1,4 +1,7 @@
+use Rattle.std.proofs.Common.{◌+◌, ◌-◌, ◌<◌, length, ap, arith}
+use Rattle.std.proofs.lemmas.List.{length-map}
 use Rattle.tre_zone.specs.Longest.{LastsUpTo}
+use Rattle.tre_zone.specs.Zone.{row_of}
 use Rattle.tre_pairs.specs.Pairs.{Lasting}
 use Rattle.tre_zone.proofs.ZoneListLemmas.{SetHolds-empty}
 use Rattle.tre_zoneset.specs.ZoneSet.{FoundHolds}
@@ -45,3 +48,26 @@ returns c =
     (After-key longest zone seconds _ c.requires.seconds c.key_after-key.ensures.others)
     c.loop-place.place (rw c.items-items.ensures at c.loop-place-test.false)
     c.loop-place.invariant
+
+pub bounds-items-next : goal.bounds-items-next
+bounds-items-next c =
+    let below : c.in-Some.next < length c.items-items.result.now =
+    omega (
+      arith,
+      c.in-Some.ensures.ends,
+      length-map c.args.seconds.now row_of,
+      ap length c.items-items.ensures,
+    ) in
+    below
+
+pub loop-place-smaller : goal.loop-place-smaller
+loop-place-smaller c =
+    let less : length c.args.seconds.now - (c.in-Some.next + 1)
+    < length c.args.seconds.now - c.loop-place.place =
+    omega (
+      arith,
+      c.in-Some.ensures.starts,
+      c.in-Some.ensures.ends,
+      length-map c.args.seconds.now row_of,
+    ) in
+    less

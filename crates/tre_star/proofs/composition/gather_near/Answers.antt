@@ -25,3 +25,6 @@ returns c =
     c.args.zone.now c.find_stretch-stretch.result c.find_stretch-stretch.ensures
     (λ a b n h. SetHolds-empty _ _ _ h.related.right)
     c.in_ok-gather_each.ensures
+
+pub slice_bounds-gather_each-count : goal.slice_bounds-gather_each-count
+slice_bounds-gather_each-count c = c.find_stretch-stretch.ensures.rising
