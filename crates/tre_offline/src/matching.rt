@@ -97,8 +97,7 @@ pub fn matches_among<T: AnyTrace>(
         AreMatchesAmong zones (pattern_tree pattern.now) (T.timeline trace.now) set.now) }
 {
     let longest = longest_for(set, pattern.expr());
-    let zones = matches_of(alloc, pattern.expr(), &trace, longest)?;
-    Ok(zones)
+    matches_of(alloc, pattern.expr(), &trace, longest)
 }
 
 /// The matches of the expression inside one piece of a trace: those that begin and end within it,
@@ -110,8 +109,7 @@ pub fn local(alloc: Global, expr: &Expr, piece: &Piece) -> Result<ZoneSet, Alloc
     ensures { IfOk result (λ zones.
         HoldExactly zones (MatchesRest (tree_of expr.now) (rest_of_piece piece.now))) }
 {
-    let zones = matches_of(alloc, expr, piece, None)?;
-    Ok(zones)
+    matches_of(alloc, expr, piece, None)
 }
 
 // The matches of the expression, where it is a literal with its edges, and where they are found at
@@ -145,41 +143,26 @@ fn matches_of<A: Atoms>(
         (Lasting (LastsUpTo longest) (MatchesRest (tree_of expr.now) (A.rest atoms.now)))) }
 {
     if let Some(found) = edged_matches(alloc, expr, atoms)? {
-        return shortened(found, longest);
+        return shortened(Ok(found), longest);
     }
     match expr {
-        Expr::Eps => {
-            let all = atoms.moments(alloc)?;
-            shortened(all, longest)
-        }
-        Expr::Lit(state) => {
-            let all = atoms.literal(alloc, state)?;
-            shortened(all, longest)
-        }
-        Expr::Rise(state) => {
-            let all = atoms.rises(alloc, state)?;
-            shortened(all, longest)
-        }
-        Expr::Fall(state) => {
-            let all = atoms.falls(alloc, state)?;
-            shortened(all, longest)
-        }
-        Expr::Event(number) => {
-            let all = atoms.events(alloc, *number)?;
-            shortened(all, longest)
-        }
+        Expr::Eps => shortened(atoms.moments(alloc), longest),
+        Expr::Lit(state) => shortened(atoms.literal(alloc, state), longest),
+        Expr::Rise(state) => shortened(atoms.rises(alloc, state), longest),
+        Expr::Fall(state) => shortened(atoms.falls(alloc, state), longest),
+        Expr::Event(number) => shortened(atoms.events(alloc, *number), longest),
         Expr::Seq(left, right) => {
             if is_iterated(left, right) {
                 return matches_of(alloc, left, atoms, longest);
             }
             let first = matches_of(alloc, left, atoms, longest)?;
-            let second = matches_of(alloc, right, atoms, longest)?;
-            followed(alloc, &first, &second, longest)
+            let second = matches_of(alloc, right, atoms, longest);
+            followed(alloc, &first, second, longest)
         }
         Expr::Alt(left, right) => {
             let one = matches_of(alloc, left, atoms, longest)?;
-            let other = matches_of(alloc, right, atoms, longest)?;
-            joined(one, &other)
+            let other = matches_of(alloc, right, atoms, longest);
+            joined(one, other)
         }
         Expr::Meet(left, right) => {
             if goes_first(right, left) {
@@ -202,16 +185,16 @@ fn matches_of<A: Atoms>(
                     return matches_of(alloc, more, atoms, longest);
                 }
             }
-            let step = matches_of(alloc, step, atoms, longest)?;
-            repeated(alloc, &step, atoms.begin(), atoms.end(), longest)
+            let step = matches_of(alloc, step, atoms, longest);
+            repeated(alloc, step, atoms.begin(), atoms.end(), longest)
         }
         Expr::Within(all, interval) => {
             if let Expr::Lit(state) = &**all {
-                let within = atoms.literal_within(alloc, state, interval)?;
+                let within = atoms.literal_within(alloc, state, interval);
                 return shortened(within, longest);
             }
             let inner = interval.up_to(longest);
-            let all = matches_of(alloc, all, atoms, inner)?;
+            let all = matches_of(alloc, all, atoms, inner);
             restricted(all, interval)
         }
     }
@@ -231,7 +214,7 @@ fn last_matches_of<T: AnyTrace + Drop>(
         (Lasting (LastsUpTo longest) (MatchesRest (tree_of expr.now) (whole (T.timeline trace))))) }
 {
     if let Some(found) = edged_matches(alloc, expr, &&trace)? {
-        return shortened(found, longest);
+        return shortened(Ok(found), longest);
     }
     match expr {
         Expr::Seq(left, right) => {
@@ -239,13 +222,13 @@ fn last_matches_of<T: AnyTrace + Drop>(
                 return last_matches_of(alloc, left, trace, longest);
             }
             let first = matches_of(alloc, left, &&trace, longest)?;
-            let second = last_matches_of(alloc, right, trace, longest)?;
-            followed(alloc, &first, &second, longest)
+            let second = last_matches_of(alloc, right, trace, longest);
+            followed(alloc, &first, second, longest)
         }
         Expr::Alt(left, right) => {
             let one = matches_of(alloc, left, &&trace, longest)?;
-            let other = last_matches_of(alloc, right, trace, longest)?;
-            joined(one, &other)
+            let other = last_matches_of(alloc, right, trace, longest);
+            joined(one, other)
         }
         Expr::Meet(left, right) => {
             if goes_first(right, left) {
@@ -270,15 +253,15 @@ fn last_matches_of<T: AnyTrace + Drop>(
             }
             let begin = Atoms::begin(&&trace);
             let end = Atoms::end(&&trace);
-            let step = last_matches_of(alloc, step, trace, longest)?;
-            repeated(alloc, &step, begin, end, longest)
+            let step = last_matches_of(alloc, step, trace, longest);
+            repeated(alloc, step, begin, end, longest)
         }
         Expr::Within(all, interval) => {
             if let Expr::Lit(_) = &**all {
                 return matches_of(alloc, expr, &&trace, longest);
             }
             let inner = interval.up_to(longest);
-            let all = last_matches_of(alloc, all, trace, inner)?;
+            let all = last_matches_of(alloc, all, trace, inner);
             restricted(all, interval)
         }
         _ => matches_of(alloc, expr, &&trace, longest),

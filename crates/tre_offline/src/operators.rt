@@ -1,5 +1,6 @@
 // The operators of expressions, each on the matches of its parts: on those of them that last at
-// most `longest`, and of its own those alone. Where there is no longest, these are all.
+// most `longest`, and of its own those alone. Where there is no longest, these are all. The last
+// part comes as it was looked for, and is opened here, so that it is dropped in one place.
 ghost use Rattle.std.specs.Prelude.{◌≡◌, ◌≤◌, ◌↔◌, ℕ, Option, IfOk};
 ghost use Rattle.tre_pairs.specs.Pairs.{Lasting};
 ghost use Rattle.tre_pairs.specs.declared.TheConstants.{TIME_MAX};
@@ -18,12 +19,16 @@ use tre_zone::Interval;
 use tre_zoneset::ZoneSet;
 
 /// The short ones of all matches of an expression.
-pub fn shortened(all: ZoneSet, longest: Option<u64>) -> Result<ZoneSet, AllocError>
+pub fn shortened(
+    all: Result<ZoneSet, AllocError>,
+    longest: Option<u64>,
+) -> Result<ZoneSet, AllocError>
     requires { IsLongest longest }
     ensures { IfOk result (λ zones. (tree : PatternTree) (rest : Rest)
-        → HoldExactly all (MatchesRest tree rest)
+        → IfOk all (λ found. HoldExactly found (MatchesRest tree rest))
         → HoldExactly zones (Lasting (LastsUpTo longest) (MatchesRest tree rest))) }
 {
+    let all = all?;
     all.up_to(longest)
 }
 
@@ -31,31 +36,35 @@ pub fn shortened(all: ZoneSet, longest: Option<u64>) -> Result<ZoneSet, AllocErr
 pub fn followed(
     alloc: Global,
     first: &ZoneSet,
-    second: &ZoneSet,
+    second: Result<ZoneSet, AllocError>,
     longest: Option<u64>,
 ) -> Result<ZoneSet, AllocError>
     requires { IsLongest longest }
     ensures { IfOk result (λ zones. (left right : PatternTree) (rest : Rest)
         → HoldExactly first.now (Lasting (LastsUpTo longest) (MatchesRest left rest))
-        → HoldExactly second.now (Lasting (LastsUpTo longest) (MatchesRest right rest))
+        → IfOk second (λ found.
+        HoldExactly found (Lasting (LastsUpTo longest) (MatchesRest right rest)))
         → HoldExactly zones
         (Lasting (LastsUpTo longest) (MatchesRest (sequence left right) rest))) }
 {
+    let second = second?;
     // For the proof: the calls say that both are sets of zones.
     let _first = first.zones();
     let _second = second.zones();
-    compose_sets_up_to(alloc, first, second, longest)
+    compose_sets_up_to(alloc, first, &second, longest)
 }
 
 /// The matches of an alternation, of those of its parts: with parts cut to any longest duration.
-pub fn joined(mut one: ZoneSet, other: &ZoneSet) -> Result<ZoneSet, AllocError>
+pub fn joined(mut one: ZoneSet, other: Result<ZoneSet, AllocError>) -> Result<ZoneSet, AllocError>
     ensures { IfOk result (λ zones. (longest : Option ℕ) (left right : PatternTree) (rest : Rest)
         → HoldExactly one (Lasting (LastsUpTo longest) (MatchesRest left rest))
-        → HoldExactly other.now (Lasting (LastsUpTo longest) (MatchesRest right rest))
+        → IfOk other (λ found.
+        HoldExactly found (Lasting (LastsUpTo longest) (MatchesRest right rest)))
         → HoldExactly zones
         (Lasting (LastsUpTo longest) (MatchesRest (alternation left right) rest))) }
 {
-    one.join(other)?;
+    let other = other?;
+    one.join(&other)?;
     Ok(one)
 }
 
@@ -78,7 +87,7 @@ pub fn met(one: &ZoneSet, other: &ZoneSet) -> Result<ZoneSet, AllocError>
 /// The matches of a repetition, of those of its part, over a rest from `begin` to `end`.
 pub fn repeated(
     alloc: Global,
-    step: &ZoneSet,
+    step: Result<ZoneSet, AllocError>,
     begin: u64,
     end: u64,
     longest: Option<u64>,
@@ -88,22 +97,28 @@ pub fn repeated(
     requires longest { IsLongest longest }
     ensures { IfOk result (λ zones. (tree : PatternTree) (rest : Rest)
         → begin ≡ rest.start → end ≡ end_of rest.start rest.segments
-        → HoldExactly step.now (Lasting (LastsUpTo longest) (MatchesRest tree rest))
+        → IfOk step (λ found.
+        HoldExactly found (Lasting (LastsUpTo longest) (MatchesRest tree rest)))
         → HoldExactly zones (Lasting (LastsUpTo longest) (MatchesRest (repetition tree) rest))) }
 {
+    let step = step?;
     // For the proof: the call says that it is a set of zones.
     let _step = step.zones();
-    closure_up_to(alloc, step, begin, end, longest)
+    closure_up_to(alloc, &step, begin, end, longest)
 }
 
 /// The matches of a restriction to the interval, of those of its part: its part may be cut to an
 /// `inner` longest duration that is the longest for all durations in the interval.
-pub fn restricted(all: ZoneSet, interval: &Interval) -> Result<ZoneSet, AllocError>
+pub fn restricted(
+    all: Result<ZoneSet, AllocError>,
+    interval: &Interval,
+) -> Result<ZoneSet, AllocError>
     ensures { IfOk result (λ zones. (inner longest : Option ℕ) (tree : PatternTree) (rest : Rest)
         → ((d n : ℕ) → LastsWithin interval.now d n → LastsUpTo inner d n ↔ LastsUpTo longest d n)
-        → HoldExactly all (Lasting (LastsUpTo inner) (MatchesRest tree rest))
+        → IfOk all (λ found. HoldExactly found (Lasting (LastsUpTo inner) (MatchesRest tree rest)))
         → HoldExactly zones
         (Lasting (LastsUpTo longest) (MatchesRest (restriction tree interval.now) rest))) }
 {
+    let all = all?;
     all.into_within(interval)
 }

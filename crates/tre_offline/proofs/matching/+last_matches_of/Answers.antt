@@ -24,8 +24,8 @@ returns-then-is_iterated g t c =
     (λ zones exact. iterated_exact c.args.longest left right rest zones first second exact)
     c.last_matches_of.ensures
 
-pub returns-in_ok-second-in-Seq : goal.returns-in_ok-second-in-Seq
-returns-in_ok-second-in-Seq g t c =
+pub returns-in_ok-first-in-Seq : goal.returns-in_ok-first-in-Seq
+returns-in_ok-first-in-Seq g t c =
     let rest = whole (g.T.AnyTrace.timeline c.args.trace) in
     let left = tree_of c.deref-in-Seq-2.result.now in
     let right = tree_of c.deref-in-Seq-3.result.now in
@@ -33,11 +33,11 @@ returns-in_ok-second-in-Seq g t c =
     rw (c.deref-in-Seq-2.ensures, c.deref-in-Seq-3.ensures) (ap tree_of c.in-Seq.is) in
     short_of_form c.followed.result c.args.longest rest tree _
     (λ zones exact. exact left right rest c.in_ok-first-in-Seq.ensures
-    c.in_ok-second-in-Seq.ensures)
+    c.last_matches_of-second.ensures)
     c.followed.ensures
 
-pub returns-in_ok-other-in-Alt : goal.returns-in_ok-other-in-Alt
-returns-in_ok-other-in-Alt g t c =
+pub returns-in_ok-one-in-Alt : goal.returns-in_ok-one-in-Alt
+returns-in_ok-one-in-Alt g t c =
     let rest = whole (g.T.AnyTrace.timeline c.args.trace) in
     let left = tree_of c.deref-in-Alt.result.now in
     let right = tree_of c.deref-in-Alt-2.result.now in
@@ -45,7 +45,7 @@ returns-in_ok-other-in-Alt g t c =
     rw (c.deref-in-Alt.ensures, c.deref-in-Alt-2.ensures) (ap tree_of c.in-Alt.is) in
     short_of_form c.joined.result c.args.longest rest tree _
     (λ zones exact. exact c.args.longest left right rest c.in_ok-one-in-Alt.ensures
-    c.in_ok-other-in-Alt.ensures)
+    c.last_matches_of-other.ensures)
     c.joined.ensures
 
 pub returns-then-goes_first : goal.returns-then-goes_first
@@ -107,26 +107,26 @@ returns-then-repeats g t c =
     (λ zones exact. iteration_exact c.args.longest once more rest zones again exact)
     c.last_matches_of-then-repeats.ensures
 
-pub returns-in_ok-step-in-Star : goal.returns-in_ok-step-in-Star
-returns-in_ok-step-in-Star g t c =
+pub returns-after-deref : goal.returns-after-deref
+returns-after-deref g t c =
     let rest = whole (g.T.AnyTrace.timeline c.args.trace) in
     let step = tree_of c.deref-in-Star-3.result.now in
     let tree : tree_of c.args.expr.now ≡ repetition step =
     rw c.deref-in-Star-3.ensures (ap tree_of c.in-Star.is) in
     short_of_form c.repeated.result c.args.longest rest tree _
     (λ zones exact. exact step rest c.begin-begin.ensures c.end-end.ensures.end
-    c.in_ok-step-in-Star.ensures)
+    c.last_matches_of-step.ensures)
     c.repeated.ensures
 
-pub returns-in_ok-all-in-Within : goal.returns-in_ok-all-in-Within
-returns-in_ok-all-in-Within g t c =
+pub returns-in_default-deref-2 : goal.returns-in_default-deref-2
+returns-in_default-deref-2 g t c =
     let rest = whole (g.T.AnyTrace.timeline c.args.trace) in
     let all = tree_of c.deref-in-Within-2.result.now in
     let tree : tree_of c.args.expr.now ≡ restriction all c.in-Within.interval =
     rw c.deref-in-Within-2.ensures (ap tree_of c.in-Within.is) in
     short_of_form c.restricted.result c.args.longest rest tree _
     (λ zones exact. exact c.up_to-inner.result c.args.longest all rest c.up_to-inner.ensures.same
-    c.in_ok-all-in-Within.ensures)
+    c.last_matches_of-all.ensures)
     c.restricted.ensures
 
 pub returns-in-Some : goal.returns-in-Some

@@ -24,8 +24,8 @@ returns-then-is_iterated g t c =
     (λ zones exact. iterated_exact c.args.longest left right rest zones first second exact)
     c.matches_of.ensures
 
-pub returns-in_ok-second-in-Seq : goal.returns-in_ok-second-in-Seq
-returns-in_ok-second-in-Seq g t c =
+pub returns-in_ok-first-in-Seq : goal.returns-in_ok-first-in-Seq
+returns-in_ok-first-in-Seq g t c =
     let rest = g.A.Atoms.rest c.args.atoms.now in
     let left = tree_of c.deref-in-Seq-2.result.now in
     let right = tree_of c.deref-in-Seq-3.result.now in
@@ -33,11 +33,11 @@ returns-in_ok-second-in-Seq g t c =
     rw (c.deref-in-Seq-2.ensures, c.deref-in-Seq-3.ensures) (ap tree_of c.in-Seq.is) in
     short_of_form c.followed.result c.args.longest rest tree _
     (λ zones exact. exact left right rest c.in_ok-first-in-Seq.ensures
-    c.in_ok-second-in-Seq.ensures)
+    c.matches_of-second.ensures)
     c.followed.ensures
 
-pub returns-in_ok-other-in-Alt : goal.returns-in_ok-other-in-Alt
-returns-in_ok-other-in-Alt g t c =
+pub returns-in_ok-one-in-Alt : goal.returns-in_ok-one-in-Alt
+returns-in_ok-one-in-Alt g t c =
     let rest = g.A.Atoms.rest c.args.atoms.now in
     let left = tree_of c.deref-in-Alt.result.now in
     let right = tree_of c.deref-in-Alt-2.result.now in
@@ -45,7 +45,7 @@ returns-in_ok-other-in-Alt g t c =
     rw (c.deref-in-Alt.ensures, c.deref-in-Alt-2.ensures) (ap tree_of c.in-Alt.is) in
     short_of_form c.joined.result c.args.longest rest tree _
     (λ zones exact. exact c.args.longest left right rest c.in_ok-one-in-Alt.ensures
-    c.in_ok-other-in-Alt.ensures)
+    c.matches_of-other.ensures)
     c.joined.ensures
 
 pub returns-then-goes_first : goal.returns-then-goes_first
@@ -107,15 +107,15 @@ returns-then-repeats g t c =
     (λ zones exact. iteration_exact c.args.longest once more rest zones again exact)
     c.matches_of-then-repeats.ensures
 
-pub returns-in_ok-step-in-Star : goal.returns-in_ok-step-in-Star
-returns-in_ok-step-in-Star g t c =
+pub returns-after-deref : goal.returns-after-deref
+returns-after-deref g t c =
     let rest = g.A.Atoms.rest c.args.atoms.now in
     let step = tree_of c.deref-in-Star-3.result.now in
     let tree : tree_of c.args.expr.now ≡ repetition step =
     rw c.deref-in-Star-3.ensures (ap tree_of c.in-Star.is) in
     short_of_form c.repeated.result c.args.longest rest tree _
     (λ zones exact. exact step rest c.begin.ensures c.end.ensures.end
-    c.in_ok-step-in-Star.ensures)
+    c.matches_of-step.ensures)
     c.repeated.ensures
 
 pub returns-in-Lit-deref : goal.returns-in-Lit-deref
@@ -130,59 +130,59 @@ returns-in-Lit-deref g t c =
     whole ∙ ap (λ (t : PatternTree). restriction t c.in-Within.interval) inner in
     short_of_form c.shortened-in-Lit-deref.result c.args.longest rest tree _
     (λ zones exact. exact (restriction part c.in-Within.interval) rest
-    c.in_ok-within-in-Within.ensures)
+    c.literal_within-within.ensures)
     c.shortened-in-Lit-deref.ensures
 
-pub returns-in_ok-all-in-Within : goal.returns-in_ok-all-in-Within
-returns-in_ok-all-in-Within g t c =
+pub returns-in_default-deref-2 : goal.returns-in_default-deref-2
+returns-in_default-deref-2 g t c =
     let rest = g.A.Atoms.rest c.args.atoms.now in
     let all = tree_of c.deref-in-Within-2.result.now in
     let tree : tree_of c.args.expr.now ≡ restriction all c.in-Within.interval =
     rw c.deref-in-Within-2.ensures (ap tree_of c.in-Within.is) in
     short_of_form c.restricted.result c.args.longest rest tree _
     (λ zones exact. exact c.up_to-inner.result c.args.longest all rest c.up_to-inner.ensures.same
-    c.in_ok-all-in-Within.ensures)
+    c.matches_of-all.ensures)
     c.restricted.ensures
 
-pub returns-in_ok-all-in-Eps : goal.returns-in_ok-all-in-Eps
-returns-in_ok-all-in-Eps g t c =
+pub returns-in-Eps : goal.returns-in-Eps
+returns-in-Eps g t c =
     let rest = g.A.Atoms.rest c.args.atoms.now in
     let part : PatternTree = atom empty in
     let tree : tree_of c.args.expr.now ≡ part = ap tree_of c.in-Eps.is in
     short_of_form c.shortened-in-Eps.result c.args.longest rest tree _
-    (λ zones exact. exact part rest c.in_ok-all-in-Eps.ensures) c.shortened-in-Eps.ensures
+    (λ zones exact. exact part rest c.moments.ensures) c.shortened-in-Eps.ensures
 
-pub returns-in_ok-all-in-Lit : goal.returns-in_ok-all-in-Lit
-returns-in_ok-all-in-Lit g t c =
+pub returns-in-Lit : goal.returns-in-Lit
+returns-in-Lit g t c =
     let rest = g.A.Atoms.rest c.args.atoms.now in
     let part : PatternTree = atom (literal (states.tree_of c.in-Lit.state)) in
     let tree : tree_of c.args.expr.now ≡ part = ap tree_of c.in-Lit.is in
     short_of_form c.shortened-in-Lit.result c.args.longest rest tree _
-    (λ zones exact. exact part rest c.in_ok-all-in-Lit.ensures) c.shortened-in-Lit.ensures
+    (λ zones exact. exact part rest c.literal.ensures) c.shortened-in-Lit.ensures
 
-pub returns-in_ok-all-in-Rise : goal.returns-in_ok-all-in-Rise
-returns-in_ok-all-in-Rise g t c =
+pub returns-in-Rise : goal.returns-in-Rise
+returns-in-Rise g t c =
     let rest = g.A.Atoms.rest c.args.atoms.now in
     let part : PatternTree = atom (rise (states.tree_of c.in-Rise.state)) in
     let tree : tree_of c.args.expr.now ≡ part = ap tree_of c.in-Rise.is in
     short_of_form c.shortened-in-Rise.result c.args.longest rest tree _
-    (λ zones exact. exact part rest c.in_ok-all-in-Rise.ensures) c.shortened-in-Rise.ensures
+    (λ zones exact. exact part rest c.rises.ensures) c.shortened-in-Rise.ensures
 
-pub returns-in_ok-all-in-Fall : goal.returns-in_ok-all-in-Fall
-returns-in_ok-all-in-Fall g t c =
+pub returns-in-Fall : goal.returns-in-Fall
+returns-in-Fall g t c =
     let rest = g.A.Atoms.rest c.args.atoms.now in
     let part : PatternTree = atom (fall (states.tree_of c.in-Fall.state)) in
     let tree : tree_of c.args.expr.now ≡ part = ap tree_of c.in-Fall.is in
     short_of_form c.shortened-in-Fall.result c.args.longest rest tree _
-    (λ zones exact. exact part rest c.in_ok-all-in-Fall.ensures) c.shortened-in-Fall.ensures
+    (λ zones exact. exact part rest c.falls.ensures) c.shortened-in-Fall.ensures
 
-pub returns-in_ok-all-in-Event : goal.returns-in_ok-all-in-Event
-returns-in_ok-all-in-Event g t c =
+pub returns-in-Event : goal.returns-in-Event
+returns-in-Event g t c =
     let rest = g.A.Atoms.rest c.args.atoms.now in
     let part : PatternTree = atom (event c.in-Event.number) in
     let tree : tree_of c.args.expr.now ≡ part = ap tree_of c.in-Event.is in
     short_of_form c.shortened-in-Event.result c.args.longest rest tree _
-    (λ zones exact. exact part rest c.in_ok-all-in-Event.ensures) c.shortened-in-Event.ensures
+    (λ zones exact. exact part rest c.events.ensures) c.shortened-in-Event.ensures
 
 pub returns-in-Some : goal.returns-in-Some
 returns-in-Some g t c =
