@@ -3,7 +3,7 @@ ghost use Rattle.std.specs.Prelude.{◌≡◌, Ok, IfOk};
 
 use std::alloc::{AllocError, Global};
 
-/// In a box, where memory was enough for it.
+/// What was made, in a box. It fails where nothing was made, or there is no memory for the box.
 pub(crate) fn boxed<T: Drop>(
     alloc: Global,
     made: Result<T, AllocError>,
@@ -13,7 +13,8 @@ pub(crate) fn boxed<T: Drop>(
     Ok(Box::new(alloc, made?)?)
 }
 
-/// Each in a box, where memory was enough for both.
+/// What was made twice, each in a box. It fails where one was not made, or there is no memory for
+/// the boxes.
 pub(crate) fn boxes<T: Drop>(
     alloc: Global,
     left: Result<T, AllocError>,

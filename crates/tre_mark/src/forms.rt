@@ -1,11 +1,10 @@
-// The forms of a mark, each from its parts.
+// Forms of a mark from their parts.
 ghost use Rattle.std.specs.Prelude.{◌≡◌, ◌≤◌, IfOk};
 ghost use Rattle.tre_pairs.specs.declared.TheConstants.{TIME_MAX};
 ghost use Rattle.tre_zone.specs.Zone.{IsInstantBetween};
 ghost use Rattle.tre_zone.specs.ZoneList.{HoldExactly};
-ghost use Rattle.tre_mark.specs.MarkTree.{atom_mark, sequence_mark, alternation_mark, repetition_mark, intersection_of, restriction_of, mark_of};
+ghost use Rattle.tre_mark.specs.MarkTree.{atom_mark, repetition_mark, intersection_of, restriction_of, mark_of};
 
-use crate::boxes::{boxed, boxes};
 use crate::copy::copied;
 use crate::mark::{Mark, Room};
 use std::alloc::{AllocError, Global};
@@ -21,74 +20,6 @@ pub fn atom(alloc: Global, here: Vec<Zone>, begun: Vec<Zone>) -> Mark
         begun,
         room: Room::new(alloc),
     }
-}
-
-/// The mark of a sequence.
-pub fn sequence(alloc: Global, left: Mark, right: Mark) -> Result<Mark, AllocError>
-    ensures { IfOk result (λ mark. mark_of mark ≡ sequence_mark (mark_of left) (mark_of right)) }
-{
-    let (left, right) = boxes(alloc, Ok(left), Ok(right))?;
-    Ok(Mark::Seq {
-        left,
-        right,
-        room: Room::new(alloc),
-    })
-}
-
-/// The mark of an alternation.
-pub fn alternation(alloc: Global, left: Mark, right: Mark) -> Result<Mark, AllocError>
-    ensures { IfOk result (λ mark. mark_of mark ≡ alternation_mark (mark_of left) (mark_of right)) }
-{
-    let (left, right) = boxes(alloc, Ok(left), Ok(right))?;
-    Ok(Mark::Alt(left, right))
-}
-
-/// The mark of a repetition.
-pub fn repetition(alloc: Global, here: Vec<Zone>, body: Mark) -> Result<Mark, AllocError>
-    ensures { IfOk result (λ mark. mark_of mark ≡ repetition_mark here.items (mark_of body)) }
-{
-    let body = boxed(alloc, Ok(body))?;
-    Ok(Mark::Star {
-        here,
-        body,
-        room: Room::new(alloc),
-    })
-}
-
-/// The mark of an intersection that began behind each pair of `outer`, the last of which has ended
-/// by `to`.
-pub fn intersection(
-    alloc: Global,
-    to: u64,
-    outer: Vec<Zone>,
-    left: Mark,
-    right: Mark,
-) -> Result<Mark, AllocError>
-    ensures { IfOk result (λ mark.
-        mark_of mark ≡ intersection_of to outer.items (mark_of left) (mark_of right)) }
-{
-    let (left, right) = boxes(alloc, Ok(left), Ok(right))?;
-    Ok(Mark::Meet {
-        to,
-        outer,
-        left,
-        right,
-        room: Room::new(alloc),
-    })
-}
-
-/// The mark of a restriction that began behind each pair of `outer`, the last of which has ended by
-/// `to`.
-pub fn restriction(alloc: Global, to: u64, outer: Vec<Zone>, body: Mark) -> Result<Mark, AllocError>
-    ensures { IfOk result (λ mark. mark_of mark ≡ restriction_of to outer.items (mark_of body)) }
-{
-    let body = boxed(alloc, Ok(body))?;
-    Ok(Mark::Within {
-        to,
-        outer,
-        body,
-        room: Room::new(alloc),
-    })
 }
 
 /// The mark of a repetition, behind copies of these zones.

@@ -21,5 +21,5 @@ mod nothing;
 mod start;
 
 pub use copy::copied;
-pub use forms::{alternation, atom, intersection, moments, repetition, restriction, sequence};
+pub use forms::{atom, moments};
 pub use mark::{Mark, Room};
