@@ -3,7 +3,7 @@ use Rattle.std.specs.Prelude.{ℕ, ◌*◌, ◌<◌, ◌≤◌, ◌↔◌, Some,
 use Rattle.tre_pairs.specs.Cuts.{Crossing}
 use Rattle.tre_pairs.specs.Pairs.{Pairs, Composed}
 use Rattle.tre_zone.specs.Held.{Held}
-use Rattle.tre_zone.specs.ZoneList.{HoldExactly}
+use Rattle.tre_zone.specs.ZoneList.{SetHolds, HoldExactly}
 use Rattle.tre_zone.specs.declared.zone_bounds.ZoneBounds.{ZoneBounds}
 use Rattle.tre_trace.specs.Trace.{Timeline, quiet, AreLong}
 use Rattle.tre_syntax.specs.Cut.{uncut, back_of, MatchesAcross}
@@ -13,7 +13,7 @@ use Rattle.tre_edges.specs.Piece.{rest_of_piece, end_of_piece, cut_behind}
 use Rattle.tre_edges.specs.declared.piece.Piece.{Piece}
 use Rattle.tre_mark.specs.MarkTree.{MarkTree}
 use Rattle.tre_mark.specs.Marked.{since}
-use Rattle.tre_advance.specs.Advance.{GoesOver}
+use Rattle.tre_advance.specs.Advance.{GoesOver, Advances}
 use Rattle.tre_residual.specs.Residual.{ResidualTree, followed, either, Means, IsWellAt, CanGoOn, Builds}
 
 -- R, to the time or to a later one.
@@ -58,6 +58,13 @@ pub record BeginsBehindPairs (tree : PatternTree) (enter : List ZoneBounds) (pie
   pub leaves : StandsBehind piece
       (λ next. Crossing (end_of_piece piece) (Composed (Held enter)
       (MatchesRest tree (uncut (cut_behind piece next))))) rest
+
+-- The mark goes over the piece, and the set has the pairs that it tells.
+pub record TellsAsSet (mark : MarkTree) (tree : PatternTree) (enter : List ZoneBounds)
+    (piece : Piece) (set : List ZoneBounds) (rest : MarkTree) : Type 0 where
+  pub told : List ZoneBounds
+  pub goes : Advances mark tree enter piece told rest
+  pub holds : HoldExactly set (SetHolds told)
 
 -- The whole stands for a pair of the residual, and then a match of the expression, and for the
 -- pairs of the other.

@@ -10,6 +10,7 @@ ghost use Rattle.tre_advance.specs.Advance.{before_piece};
 ghost use Rattle.tre_residual.specs.Residual.{ResidualTree, joined, preceded, followed, either, both, lasting, marked, residual_tree, Builds};
 ghost use Rattle.tre_derive.specs.Derivative.{StepsTo, ComesBehind};
 
+use crate::beside::beside;
 use crate::going::{begin_behind, go_alone};
 use crate::sets::of_either;
 use crate::stepped::Stepped;
@@ -78,12 +79,10 @@ pub fn follow(
         → StepsTo (followed residual (tree_of expr.now)) piece.now whole.told
         (residual_tree whole.rest)) }
 {
-    let begun = begin_behind(alloc, inner.told.zones(), expr, piece)?;
-    let rest = behind(alloc, inner.rest, expr, begun.rest)?;
-    Ok(Stepped {
-        told: begun.told,
-        rest,
-    })
+    let begun = begin_behind(alloc, inner.told.zones(), expr, piece);
+    let (begun, rest) = beside(begun, inner.rest)?;
+    let rest = behind(alloc, rest, expr, begun.rest);
+    Stepped::of(Ok(begun.told), rest)
 }
 
 /// A pair of one of the two.
@@ -134,7 +133,8 @@ fn behind(
         ComesBehind (residual_tree rest) (tree_of expr.now) (residual_tree begun)
         (residual_tree whole)) }
 {
-    let later = followed_by(alloc, rest, expr)?;
+    let later = followed_by(alloc, rest, expr);
+    let (later, begun) = beside(later, begun)?;
     Residual::or(alloc, later, begun)
 }
 
@@ -144,8 +144,9 @@ fn followed_by(alloc: Global, residual: Residual, expr: &Expr) -> Result<Residua
     ensures { IfOk result (λ whole.
         Builds (residual_tree whole) (followed (residual_tree residual) (tree_of expr.now))) }
 {
-    let expr = expr.try_clone(alloc)?;
-    Residual::post(alloc, residual, expr)
+    let copy = expr.try_clone(alloc);
+    let (copy, residual) = beside(copy, residual)?;
+    Residual::post(alloc, residual, copy)
 }
 
 // A pair of the set, and then one of the residual.
@@ -153,6 +154,7 @@ fn preceded_by(alloc: Global, zones: &ZoneSet, rest: Residual) -> Result<Residua
     ensures { IfOk result (λ whole.
         Builds (residual_tree whole) (preceded zones.now (residual_tree rest))) }
 {
-    let zones = zones.try_clone()?;
-    Residual::pre(alloc, zones, rest)
+    let copy = zones.try_clone();
+    let (copy, rest) = beside(copy, rest)?;
+    Residual::pre(alloc, copy, rest)
 }

@@ -7,8 +7,9 @@ ghost use Rattle.tre_mark.specs.MarkTree.{mark_of};
 ghost use Rattle.tre_mark.specs.Marked.{CanTakeIn, EndBetween, IsWellAt};
 ghost use Rattle.tre_advance.specs.Advance.{before_piece};
 ghost use Rattle.tre_residual.specs.Residual.{marked, residual_tree, Builds};
-ghost use Rattle.tre_derive.specs.Derivative.{GoesOverTo, BeginsBehindPairs, StepsTo};
+ghost use Rattle.tre_derive.specs.Derivative.{TellsAsSet, GoesOverTo, BeginsBehindPairs, StepsTo};
 
+use crate::beside::beside;
 use crate::stepped::Stepped;
 use std::alloc::{AllocError, Global};
 use tre_advance::advance;
@@ -51,8 +52,7 @@ pub fn go_alone(
         StepsTo (marked (mark_of mark) (tree_of expr.now)) piece.now whole.told
         (residual_tree whole.rest)) }
 {
-    let none = ZoneSet::new(alloc);
-    go_over(alloc, mark, expr, none.zones(), piece)
+    go_over(alloc, mark, expr, &[], piece)
 }
 
 // The mark goes over the piece, and the pairs of the zones enter on the way.
@@ -71,11 +71,30 @@ fn go_over(
         GoesOverTo (mark_of mark) (tree_of expr.now) entering.now piece.now whole.told
         (residual_tree whole.rest)) }
 {
-    let mut told = Vec::new(alloc);
-    advance(alloc, &mut mark, expr, entering, piece, &mut told)?;
-    let told = ZoneSet::of_zones(alloc, told);
+    let told = told_by(alloc, &mut mark, expr, entering, piece);
+    let (told, mark) = beside(told, mark)?;
     let rest = as_residual(alloc, mark, expr);
-    Stepped::of(told, rest)
+    Stepped::of(Ok(told), rest)
+}
+
+// What the mark tells as it goes over the piece.
+fn told_by(
+    alloc: Global,
+    mark: &mut Mark,
+    expr: &Expr,
+    entering: &[Zone],
+    piece: &Piece,
+) -> Result<ZoneSet, AllocError>
+    requires numbers { NumbersBelow NAMES_MAX (tree_of expr.now) }
+    requires well { IsWellAt piece.now.begin (mark_of mark.old) (tree_of expr.now) }
+    requires enter { EndBetween piece.now.begin (end_of_piece piece.now) entering.now }
+    ensures { IfOk result (λ told.
+        TellsAsSet (mark_of mark.old) (tree_of expr.now) entering.now piece.now told
+        (mark_of mark.new)) }
+{
+    let mut told = Vec::new(alloc);
+    advance(alloc, mark, expr, entering, piece, &mut told)?;
+    ZoneSet::of_zones(alloc, told)
 }
 
 // What the mark stands for.
@@ -83,6 +102,7 @@ fn as_residual(alloc: Global, mark: Mark, expr: &Expr) -> Result<Residual, Alloc
     ensures { IfOk result (λ whole.
         Builds (residual_tree whole) (marked (mark_of mark) (tree_of expr.now))) }
 {
-    let expr = expr.try_clone(alloc)?;
-    Residual::mark(alloc, mark, expr)
+    let copy = expr.try_clone(alloc);
+    let (copy, mark) = beside(copy, mark)?;
+    Residual::mark(alloc, mark, copy)
 }

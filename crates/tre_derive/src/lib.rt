@@ -21,6 +21,7 @@ pub use stepped::Stepped;
 pub use stepping::step;
 
 mod beginning;
+mod beside;
 mod closing;
 mod forms;
 mod going;

@@ -1,5 +1,6 @@
 ghost use Rattle.std.specs.Prelude.{◌≡◌, Ok, IfOk};
 
+use crate::beside::both;
 use std::alloc::AllocError;
 use tre_residual::Residual;
 use tre_zoneset::ZoneSet;
@@ -22,8 +23,7 @@ impl Stepped {
         ensures told { IfOk result (λ whole. told ≡ Ok whole.told) }
         ensures rest { IfOk result (λ whole. rest ≡ Ok whole.rest) }
     {
-        let told = told?;
-        let rest = rest?;
+        let (told, rest) = both(told, rest)?;
         Ok(Stepped { told, rest })
     }
 }

@@ -4,6 +4,7 @@ ghost use Rattle.tre_advance.specs.Advance.{before_piece};
 ghost use Rattle.tre_residual.specs.Residual.{residual_tree, IsWellAt, CanGoOn};
 ghost use Rattle.tre_derive.specs.Derivative.{StepsTo};
 
+use crate::beside::beside;
 use crate::forms::{begin_now, choose, follow, go_on, meet, precede, restrict};
 use crate::stepped::Stepped;
 use std::alloc::{AllocError, Global};
@@ -47,12 +48,14 @@ pub fn step(alloc: Global, residual: &Residual, piece: &Piece) -> Result<Stepped
         }
         Residual::Or(one, other) => {
             let one = step(alloc, one, piece)?;
-            let other = step(alloc, other, piece)?;
+            let other = step(alloc, other, piece);
+            let (other, one) = beside(other, one)?;
             choose(alloc, one, other)
         }
         Residual::Both(one, other) => {
             let one = step(alloc, one, piece)?;
-            let other = step(alloc, other, piece)?;
+            let other = step(alloc, other, piece);
+            let (other, one) = beside(other, one)?;
             meet(alloc, one, other)
         }
         Residual::Dur(inner, interval) => {

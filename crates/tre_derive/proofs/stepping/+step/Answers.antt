@@ -1,12 +1,17 @@
 -- The form at the top is the tree's, and its parts are those of the tree.
-use Rattle.std.proofs.Common.{◌≡◌, ap, sym, subst}
+use Rattle.std.proofs.Common.{◌≡◌, IfOk, ap, sym, subst}
 use Rattle.std.proofs.lemmas.Result.{IfOk-weaker}
 use Rattle.tre_syntax.specs.Expr.{tree_of}
+use Rattle.tre_edges.specs.declared.piece.Piece.{Piece}
 use Rattle.tre_mark.specs.MarkTree.{mark_of}
 use Rattle.tre_residual.specs.Residual.{ResidualTree, nothing, here, joined, preceded, followed, either, both, lasting, marked, residual_tree, IsWell}
 use Rattle.tre_derive.specs.Derivative.{StepsTo}
+use Rattle.tre_derive.specs.declared.stepped.Stepped.{Stepped}
 use Rattle.tre_derive.proofs.StepsOfForms.{step_nothing, step_here, told_between}
 use Rattle.tre_derive.proofs.stepping.+step.Goals as goal
+
+abbrev DoesStep : Piece → ResidualTree → Stepped → Type 0
+DoesStep piece residual stepped = StepsTo residual piece stepped.told (residual_tree stepped.rest)
 
 pub returns-in-Nil : goal.returns-in-Nil
 returns-in-Nil t c =
@@ -78,11 +83,17 @@ returns-in_ok-other-in-Or t c =
     let other = residual_tree c.deref-in-Or-2.result.now in
     let tree : residual_tree c.args.residual.now ≡ either one other =
     rw (c.deref-in-Or.ensures, c.deref-in-Or-2.ensures) (ap residual_tree c.in-Or.is) in
+    let first : DoesStep c.args.piece.now one c.in_ok-other-in-Or.one =
+    subst (DoesStep c.args.piece.now one) (sym c.in_ok-other-in-Or.ensures.second)
+    c.in_ok-one-in-Or.ensures in
+    let second : DoesStep c.args.piece.now other c.in_ok-other-in-Or.other =
+    subst (λ r. IfOk r (DoesStep c.args.piece.now other)) c.in_ok-other-in-Or.ensures.first
+    c.step-other.ensures in
     IfOk-weaker c.choose.result _ _
     (λ stepped steps.
     subst (λ (whole : ResidualTree).
     StepsTo whole c.args.piece.now stepped.told (residual_tree stepped.rest)) (sym tree)
-    (steps one other c.args.piece.now c.in_ok-one-in-Or.ensures c.in_ok-other-in-Or.ensures))
+    (steps one other c.args.piece.now first second))
     c.choose.ensures
 
 pub returns-in_ok-other-in-Both : goal.returns-in_ok-other-in-Both
@@ -91,12 +102,17 @@ returns-in_ok-other-in-Both t c =
     let other = residual_tree c.deref-in-Both-2.result.now in
     let tree : residual_tree c.args.residual.now ≡ both one other =
     rw (c.deref-in-Both.ensures, c.deref-in-Both-2.ensures) (ap residual_tree c.in-Both.is) in
+    let first : DoesStep c.args.piece.now one c.in_ok-other-in-Both.one =
+    subst (DoesStep c.args.piece.now one) (sym c.in_ok-other-in-Both.ensures.second)
+    c.in_ok-one-in-Both.ensures in
+    let second : DoesStep c.args.piece.now other c.in_ok-other-in-Both.other =
+    subst (λ r. IfOk r (DoesStep c.args.piece.now other)) c.in_ok-other-in-Both.ensures.first
+    c.step-other-in-Both.ensures in
     IfOk-weaker c.meet.result _ _
     (λ stepped steps.
     subst (λ (whole : ResidualTree).
     StepsTo whole c.args.piece.now stepped.told (residual_tree stepped.rest)) (sym tree)
-    (steps one other c.args.piece.now c.in_ok-one-in-Both.ensures
-    c.in_ok-other-in-Both.ensures))
+    (steps one other c.args.piece.now first second))
     c.meet.ensures
 
 pub returns-in_ok-inner-in-Dur : goal.returns-in_ok-inner-in-Dur
