@@ -101,6 +101,16 @@ pub adds_alone : (old new : List ZoneBounds) (P : List ZoneBounds → Type 0) �
 adds_alone old new P none h =
     subst P (sym (h.is ∙ ap (λ list. list ++ h.added) none)) h.what
 
+-- One more of the zones is put behind what was there.
+pub put_next : (old zones found next : List ZoneBounds) (i : ℕ) (zone : ZoneBounds)
+    → found ≡ old ++ take i zones → next ≡ found ++ zone ∷ [] → i < length zones
+    → zone ≡ get_or zones i zone → next ≡ old ++ take (i + 1) zones
+put_next old zones found next i zone so_far is below item =
+    is ∙ ap (λ (list : List ZoneBounds). list ++ zone ∷ []) so_far
+    ∙ append_assoc old (take i zones) (zone ∷ [])
+    ∙ ap (λ (z : ZoneBounds). old ++ (take i zones ++ z ∷ [])) item
+    ∙ ap (λ (list : List ZoneBounds). old ++ list) (sym (take_more zones i zone below))
+
 pub held_append : (one other : List ZoneBounds)
     → IsSetOf (one ++ other) (Either (Held one) (Held other))
 held_append one other = record {

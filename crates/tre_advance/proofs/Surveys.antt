@@ -257,13 +257,10 @@ module _ (piece : Piece) (tree : PatternTree) where
           agree_then (followed_chains piece.begin T' steps chains are starts between)
           (agree_composed (agree_refl (Held starts)) chains_any)
 
-      pub repeated_told : (none mid told : List ZoneBounds) → none ≡ []
-          → IsSetOf mid (Either (Held none)
-          (Either (Held starts) (Composed (Held starts) (Held chains))))
-          → HoldExactly told (SetHolds mid) → IsSetOf told (Composed (Held starts) Any)
-      repeated_told none mid told nothing set same =
-          set_moved told mid _ same
-          (set_of (agree_then (set_agrees (set_alone nothing set)) repeated_starts))
+      pub repeated_told : (told : List ZoneBounds)
+          → IsSetOf told (Either (Held starts) (Composed (Held starts) (Held chains)))
+          → IsSetOf told (Composed (Held starts) Any)
+      repeated_told told set = set_of (agree_then (set_agrees set) repeated_starts)
 
       -- What it tells: pairs that its body ends with, or that are here, are followed so.
       module _ (here ended : List ZoneBounds) (body : MarkTree) (ends : EndAt piece.begin here)

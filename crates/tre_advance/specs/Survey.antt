@@ -1,12 +1,12 @@
 -- What a piece alone makes of a mark.
 use Rattle.std.specs.Prelude.{◌≡◌, ℕ, ◌<◌, ◌↔◌, List}
-use Rattle.tre_pairs.specs.Pairs.{Composed, Either, Chain}
+use Rattle.tre_pairs.specs.Pairs.{Composed, Either, Both, Chain}
 use Rattle.tre_zone.specs.Held.{Held, IsSetOf}
-use Rattle.tre_zone.specs.Zone.{IsInstantBetween}
+use Rattle.tre_zone.specs.Zone.{EndsAt, IsInstantBetween}
 use Rattle.tre_zone.specs.declared.zone_bounds.ZoneBounds.{ZoneBounds}
 use Rattle.tre_syntax.specs.Meaning.{MatchesRest}
 use Rattle.tre_syntax.specs.PatternTree.{PatternTree}
-use Rattle.tre_edges.specs.Piece.{rest_of_piece}
+use Rattle.tre_edges.specs.Piece.{rest_of_piece, end_of_piece}
 use Rattle.tre_edges.specs.declared.piece.Piece.{Piece}
 use Rattle.tre_mark.specs.MarkTree.{MarkTree}
 use Rattle.tre_mark.specs.Marked.{Marked}
@@ -32,6 +32,17 @@ pub record AreChains (steps : List ZoneBounds) (from to : ℕ) (chains : List Zo
   pub each : (a b n : ℕ) → 0 < n
       → Either (IsInstantBetween from to) (Held chains) a b n
       ↔ Chain (Held steps) (IsInstantBetween from to) a b n
+
+-- A repetition starts behind the pairs that its body ended with, that are here or that enter, and
+-- begins again behind each of them and any number of steps. Those that end with the piece are here.
+pub record BeginsAgain (here ended enter steps : List ZoneBounds) (piece : Piece)
+    (again here' : List ZoneBounds) : Type 0 where
+  pub starts : List ZoneBounds
+  pub union : IsSetOf starts (Either (Either (Held ended) (Held here)) (Held enter))
+  pub chains : List ZoneBounds
+  pub are : AreChains steps piece.begin (end_of_piece piece) chains
+  pub set : IsSetOf again (Either (Held starts) (Composed (Held starts) (Held chains)))
+  pub kept : IsSetOf here' (Both (Held again) (EndsAt (end_of_piece piece)))
 
 -- Two of the steps, one after the other, are no more than one.
 pub record LeadsNoFurther (steps : List ZoneBounds) : Type 0 where

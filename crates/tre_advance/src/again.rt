@@ -1,19 +1,19 @@
 // The pairs behind which a repetition goes on.
-ghost use Rattle.std.specs.Prelude.{◌≡◌, [], IfSome, IsTrue, OnOk};
+ghost use Rattle.std.specs.Prelude.{◌≡◌, [], ◌++◌, IfSome, IsTrue, OnOk};
 ghost use Rattle.tre_pairs.specs.Pairs.{Composed, Either};
 ghost use Rattle.tre_zone.specs.Held.{Held, IsSetOf};
 ghost use Rattle.tre_zone.specs.Zone.{Includes};
 ghost use Rattle.tre_mark.specs.MarkTree.{mark_of};
 ghost use Rattle.tre_mark.specs.Marked.{EndBetween};
 ghost use Rattle.tre_edges.specs.Piece.{end_of_piece};
-ghost use Rattle.tre_advance.specs.Survey.{AreChains, LeadsNoFurther};
+ghost use Rattle.tre_advance.specs.Survey.{AreChains, BeginsAgain, LeadsNoFurther};
 ghost use Rattle.tre_advance.specs.Taking.{IsAtomMark, TakesHere};
 
-use crate::vectors::{put_behind, put_each, put_missing};
+use crate::vectors::{keep_ending, prune, put_behind, put_each, put_missing};
 use std::alloc::{AllocError, Global};
 use tre_compose::compose;
 use tre_edges::Piece;
-use tre_mark::{Mark, copied};
+use tre_mark::{Mark, Room, copied};
 use tre_star::closure;
 use tre_zone::Zone;
 use tre_zoneset::ZoneSet;
@@ -106,6 +106,59 @@ fn put_chains(
     let _steps = steps.zones();
     let any = closure(alloc, steps, piece.begin, piece.begin + piece.segment.len)?;
     put_behind(chains, any.zones())
+}
+
+/// Of what the body of a repetition ended with, and of the steps inside the piece, which are what
+/// more there is in the room and what is in its middle: the pairs behind which it begins again take
+/// the place of the steps and are told, and those of them that end with the piece are here.
+pub fn begin_again(
+    alloc: Global,
+    here: &mut Vec<Zone>,
+    room: &mut Room,
+    entering: &[Zone],
+    piece: &Piece,
+    told: &mut Vec<Zone>,
+) -> Result<(), AllocError>
+    requires { EndBetween piece.now.begin (end_of_piece piece.now) room.old.mid.items }
+    ensures told { OnOk result (told.new.items ≡ told.old.items ++ room.new.mid.items) }
+    ensures begins { OnOk result (BeginsAgain here.old.items room.old.aux.items entering.now
+        room.old.mid.items piece.now room.new.mid.items here.new.items) }
+{
+    chains_of(alloc, &room.mid, piece, &mut room.more)?;
+    gather_starts(alloc, here, entering, &mut room.aux)?;
+    gather_repeated(alloc, &room.aux, &room.more, &mut room.mid)?;
+    keep_ending(here, &room.mid, piece.begin + piece.segment.len)?;
+    put_behind(told, &room.mid)
+}
+
+// Adds the pairs that are here and those that enter, and leaves out zones that others include.
+fn gather_starts(
+    alloc: Global,
+    here: &[Zone],
+    entering: &[Zone],
+    starts: &mut Vec<Zone>,
+) -> Result<(), AllocError>
+    ensures { OnOk result (IsSetOf starts.new.items
+        (Either (Either (Held starts.old.items) (Held here.now)) (Held entering.now))) }
+{
+    put_starts(here, entering, starts)?;
+    prune(alloc, starts)
+}
+
+// The pairs, each followed by any number of steps, of which these are the chains, in place of what
+// was found.
+fn gather_repeated(
+    alloc: Global,
+    starts: &[Zone],
+    chains: &[Zone],
+    found: &mut Vec<Zone>,
+) -> Result<(), AllocError>
+    ensures { OnOk result (IsSetOf found.new.items
+        (Either (Held starts.now) (Composed (Held starts.now) (Held chains.now)))) }
+{
+    found.clear();
+    repeat(starts, chains, found)?;
+    prune(alloc, found)
 }
 
 /// Adds the pairs, each followed by any number of steps, of which these are the chains.

@@ -46,8 +46,7 @@ pub fn advance_brief(
     mid.clear();
     tell_atom(here, begun, expr, entering, piece, mid)?;
     keep_ending(here, entering, piece.begin + piece.segment.len)?;
-    put_behind(told, mid)?;
-    Ok(())
+    put_behind(told, mid)
 }
 
 /// The same of a literal: what it tells at the end of the piece may hold on.
@@ -79,8 +78,7 @@ pub fn advance_literal(
     tell_atom(here, begun, expr, entering, piece, mid)?;
     keep_ending(here, entering, end)?;
     unite_ending(alloc, begun, mid, end)?;
-    put_behind(told, mid)?;
-    Ok(())
+    put_behind(told, mid)
 }
 
 // Whether nothing is here, has begun or enters.

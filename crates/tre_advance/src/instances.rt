@@ -66,20 +66,28 @@ fn reset(alloc: Global, mark: &mut Mark, expr: &Expr) -> Result<(), AllocError>
     Ok(())
 }
 
-/// Moments for what enters: those that enter serve, else all of the piece do.
+/// Room for what the parts tell, with moments for what enters, as what more there is in it.
 #[inline(always)]
-pub fn moments_for(
-    entering: &[Zone],
-    piece: &Piece,
-    moments: &mut Vec<Zone>,
-) -> Result<(), AllocError>
+pub fn make_room(entering: &[Zone], piece: &Piece, room: &mut Room) -> Result<(), AllocError>
+    requires { EndBetween piece.now.begin (end_of_piece piece.now) entering.now }
+    ensures moments { OnOk result (AreMomentsFor entering.now piece.now room.new.aux.items) }
+    ensures mid { OnOk result (room.new.mid.items ≡ []) }
+    ensures more { OnOk result (room.new.more.items ≡ []) }
+{
+    room.mid.clear();
+    room.more.clear();
+    moments_for(entering, piece, &mut room.aux)
+}
+
+// Moments for what enters: those that enter serve, else all of the piece do.
+#[inline(always)]
+fn moments_for(entering: &[Zone], piece: &Piece, moments: &mut Vec<Zone>) -> Result<(), AllocError>
     requires { EndBetween piece.now.begin (end_of_piece piece.now) entering.now }
     ensures { OnOk result (AreMomentsFor entering.now piece.now moments.new.items) }
 {
     moments.clear();
     if are_instants(entering) {
-        put_behind(moments, entering)?;
-        return Ok(());
+        return put_behind(moments, entering);
     }
     moments.push(Zone::instants(piece.begin, piece.begin + piece.segment.len))?;
     Ok(())
@@ -202,8 +210,7 @@ pub fn go_on_lasting(
     enter_outer(alloc, outer, entering, piece)?;
     tell_lasting(outer, room, interval)?;
     put_behind(told, &room.mid)?;
-    leave_lasting(to, outer, inner, room, interval, end)?;
-    Ok(())
+    leave_lasting(to, outer, inner, room, interval, end)
 }
 
 // What a restriction that began behind each pair of `outer` tells where its body told what is in

@@ -12,11 +12,11 @@ ghost use Rattle.tre_advance.specs.AddsZones.{AddsZones};
 ghost use Rattle.tre_advance.specs.Advance.{Advances};
 ghost use Rattle.tre_advance.specs.Moves.{IsBriefTree, IsLiteralTree, IsRepetitionTree};
 
-use crate::again::{chains_of, put_starts, repeat, take_here};
+use crate::again::{begin_again, put_starts, take_here};
 use crate::atoms::{advance_brief, advance_literal};
-use crate::instances::{go_on_both, go_on_lasting, is_idle, make_ready, moments_for, ready_both};
+use crate::instances::{go_on_both, go_on_lasting, is_idle, make_ready, make_room, ready_both};
 use crate::survey::survey_anew;
-use crate::vectors::{keep_ending, prune, put_behind};
+use crate::vectors::prune;
 use std::alloc::{AllocError, Global};
 use tre_edges::Piece;
 use tre_mark::{Mark, Room};
@@ -312,17 +312,9 @@ fn advance_body(
         (repetition_mark here.new.items (mark_of inner.new)))) }
 {
     survey_anew(alloc, inner, body, piece, &mut room.mid, &mut room.aux)?;
-    chains_of(alloc, &room.mid, piece, &mut room.more)?;
-    put_starts(here, entering, &mut room.aux)?;
-    prune(alloc, &mut room.aux)?;
-    room.mid.clear();
-    repeat(&room.aux, &room.more, &mut room.mid)?;
-    prune(alloc, &mut room.mid)?;
-    keep_ending(here, &room.mid, piece.begin + piece.segment.len)?;
-    put_behind(told, &room.mid)?;
+    begin_again(alloc, here, room, entering, piece, told)?;
     room.aux.clear();
-    advance(alloc, inner, body, &room.mid, piece, &mut room.aux)?;
-    Ok(())
+    advance(alloc, inner, body, &room.mid, piece, &mut room.aux)
 }
 
 #[cycle(advance)]
@@ -384,8 +376,7 @@ fn advance_lasting(
         return Ok(());
     }
     make_ready(alloc, *to, outer, inner, body, interval, piece)?;
-    moments_for(entering, piece, &mut room.aux)?;
-    room.mid.clear();
+    make_room(entering, piece, room)?;
     advance(alloc, inner, body, &room.aux, piece, &mut room.mid)?;
     go_on_lasting(
         alloc, to, outer, inner, room, interval, entering, piece, told,
@@ -455,10 +446,8 @@ fn advance_both(
         return Ok(());
     }
     ready_both(alloc, *to, outer, one, other, left, right, piece)?;
-    moments_for(entering, piece, &mut room.aux)?;
-    room.mid.clear();
+    make_room(entering, piece, room)?;
     advance(alloc, one, left, &room.aux, piece, &mut room.mid)?;
-    room.more.clear();
     advance(alloc, other, right, &room.aux, piece, &mut room.more)?;
     go_on_both(alloc, to, outer, one, other, room, entering, piece, told)
 }

@@ -1,5 +1,6 @@
 use Rattle.std.proofs.Common.{◌≡◌, ℕ, List, [], sym, subst}
 use Rattle.std.proofs.lemmas.List.{append-nil}
+use Rattle.std.proofs.lemmas.Result.{on_ok_weaker}
 use Rattle.tre_zone.specs.declared.zone_bounds.ZoneBounds.{ZoneBounds}
 use Rattle.tre_syntax.specs.Expr.{tree_of}
 use Rattle.tre_syntax.specs.PatternTree.{PatternTree, empty, literal, rise, fall, event, atom, sequence, alternation, intersection, repetition, restriction}
@@ -54,12 +55,14 @@ returns c =
     let mid = c.tell_atom.new.told.items in
     let last = c.keep_ending.new.kept.items in
     let none = none_begun piece.begin here begun tree c.requires.brief c.requires.well.well in
-    record {
+    on_ok_weaker c.put_behind.result
+    (λ put. record {
       added = mid;
-      is = rw c.deref-3.ensures.value at c.in_ok-put_behind.ensures;
+      is = rw c.deref-3.ensures.value at put;
       what = subst (λ (list : List ZoneBounds). Advances (atom_mark here begun) tree enter piece
           mid (atom_mark last list)) (sym none)
           (brief_advances piece here begun enter mid last c.requires.enter
           c.in_ok-keep_ending.ensures tree c.requires.brief c.requires.well
           (rw c.deref-2.ensures.value at c.in_ok-tell_atom.ensures).set);
-    }
+    })
+    c.put_behind.ensures

@@ -1,17 +1,24 @@
 -- Each form goes on as its parts do.
-use Rattle.std.proofs.Common.{◌≡◌, ◌∙◌, [], ap, subst, sym, arith}
+use Rattle.std.proofs.Common.{◌≡◌, ◌∙◌, List, [], ap, subst, sym, arith}
 use Rattle.std.proofs.lemmas.List.{append-nil}
 use Rattle.std.proofs.lemmas.Result.{on_ok_weaker}
 use Rattle.tre_syntax.specs.Expr.{tree_of}
 use Rattle.tre_edges.specs.Piece.{end_of_piece}
+use Rattle.tre_edges.specs.declared.piece.Piece.{Piece}
+use Rattle.tre_zone.specs.Held.{Held, EndAt, IsSetOf}
+use Rattle.tre_zone.specs.declared.zone_bounds.ZoneBounds.{ZoneBounds}
 use Rattle.tre_mark.specs.Marked.{EndBetween, IsWellAt}
 use Rattle.tre_mark.specs.MarkTree.{MarkTree, mark_of, sequence_mark, alternation_mark, repetition_mark, intersection_of, restriction_of}
-use Rattle.tre_syntax.specs.PatternTree.{empty, atom, alternation}
+use Rattle.tre_syntax.specs.PatternTree.{PatternTree, empty, atom, alternation, repetition}
+use Rattle.tre_advance.specs.Advance.{Advances}
+use Rattle.tre_advance.specs.Survey.{SurveysAnew, BeginsAgain}
 use Rattle.tre_advance.proofs.CallForms.{repeat_between}
-use Rattle.tre_advance.proofs.Lists.{both_idle, lasting_idle, adds_alone, adds_then, adds_weaker, advances_told, held_append, set_moved}
+use Rattle.tre_advance.proofs.Going.{alone}
+use Rattle.tre_advance.proofs.Lists.{both_idle, lasting_idle, adds_alone, adds_then, adds_weaker, advances_told, held_append}
 use Rattle.tre_advance.proofs.Nested.{nested_advances, nested_between, starts_alone}
 use Rattle.tre_advance.proofs.Optional.{optional_advances, taken_ends}
 use Rattle.tre_advance.proofs.Onward.{advances_moved, sequence_advances, alternation_advances, once_between, repetition_once}
+use Rattle.tre_advance.proofs.Steps.{Followed}
 use Rattle.tre_advance.proofs.Surveys.{inside_between, repeated_told}
 use Rattle.tre_advance.proofs.walk.+advance.Goals as goal
 
@@ -129,77 +136,73 @@ advance_nested-returns t c =
     (tree_of c.args.body.now) c.requires.nested (rw c.deref-2.ensures.value at goes)))
     c.advance.ensures
 
-pub advance_body-chains_of-requires : goal.advance_body-chains_of-requires
-advance_body-chains_of-requires t c =
-    rw c.deref.ensures.value
-    (inside_between c.args.piece.now (tree_of c.args.body.now) c.survey_anew.new.inside.items
-    c.in_ok-survey_anew.ensures.inside)
+-- What its body tells of the piece alone, and where it begins again.
+module _ (piece : Piece) (tree : PatternTree) (here enter ended steps : List ZoneBounds)
+    (inner inner' : MarkTree) (ends : EndAt piece.begin here)
+    (between : EndBetween piece.begin (end_of_piece piece) enter)
+    (surveys : SurveysAnew piece tree inner inner' steps ended)
+    (again here' : List ZoneBounds)
+    (begins : BeginsAgain here ended enter steps piece again here') where
+  begun_set : IsSetOf again (Followed (Held begins.starts) (repetition tree) (alone piece))
+  begun_set =
+      repeated_told piece tree steps begins.chains surveys.inside begins.are begins.starts
+      (once_between piece here enter inner tree ends between ended begins.starts surveys.ended
+      begins.union) again begins.set
+
+  begun_between : EndBetween piece.begin (end_of_piece piece) again
+  begun_between = repeat_between piece tree begins.starts again begun_set
+
+  begun_advances : (told : List ZoneBounds) (rest : MarkTree)
+      → Advances inner' tree again piece told rest
+      → Advances (repetition_mark here inner) (repetition tree) enter piece again
+      (repetition_mark here' rest)
+  begun_advances told rest goes =
+      repetition_once piece here enter inner tree ends between ended begins.starts surveys.ended
+      begins.union again told here' rest begun_set begun_between
+      (advances_moved (sym surveys.same) goes) begins.kept
+
+pub advance_body-begin_again-requires : goal.advance_body-begin_again-requires
+advance_body-begin_again-requires t c =
+    inside_between c.args.piece.now (tree_of c.args.body.now) c.survey_anew.new.inside.items
+    c.in_ok-survey_anew.ensures.inside
 
 pub advance_body-advance-requires : goal.advance_body-advance-requires
 advance_body-advance-requires t c =
     let piece = c.args.piece.now in
-    let here = c.args.here.now.items in
-    let entering = c.args.entering.now in
-    let inner = mark_of c.args.inner.now in
-    let tree = tree_of c.args.body.now in
-    let ended = c.survey_anew.new.ended.items in
-    let starts = c.prune.new.zones.items in
-    let mid = c.prune-2.new.zones.items in
-    let union = set_moved starts c.put_starts.new.starts.items _ c.in_ok-prune.ensures
-    (rw c.deref-2.ensures.value at c.in_ok-put_starts.ensures) in
-    let set = repeated_told piece tree c.survey_anew.new.inside.items c.chains_of.new.chains.items
-    c.in_ok-survey_anew.ensures.inside
-    (rw c.deref.ensures.value at c.in_ok-chains_of.ensures) starts
-    (once_between piece here entering inner tree c.requires.ends c.requires.enter ended starts
-    c.in_ok-survey_anew.ensures.ended union)
-    c.clear.new.self.items c.repeat.new.found.items mid c.clear.ensures.items
-    (rw (c.deref-3.ensures.value, c.deref-4.ensures.value) at c.in_ok-repeat.ensures)
-    c.in_ok-prune-2.ensures in (
+    let tree = tree_of c.args.body.now in (
       omega arith,
       (
         c.requires.numbers,
         (
           subst (λ (m : MarkTree). IsWellAt piece.begin m tree)
               (sym c.in_ok-survey_anew.ensures.same) c.requires.well,
-          subst (EndBetween piece.begin (end_of_piece piece)) (sym c.deref-7.ensures.value)
-              (repeat_between piece tree starts mid set),
+          subst (EndBetween piece.begin (end_of_piece piece)) (sym c.deref.ensures.value)
+              (begun_between piece tree c.args.here.now.items c.args.entering.now
+              c.survey_anew.new.ended.items c.survey_anew.new.inside.items
+              (mark_of c.args.inner.now) (mark_of c.survey_anew.new.mark) c.requires.ends
+              c.requires.enter c.in_ok-survey_anew.ensures c.begin_again.new.room.mid.items
+              c.begin_again.new.here.items c.in_ok-begin_again.ensures.begins),
         ),
       ),
     )
 
 pub advance_body-returns : goal.advance_body-returns
 advance_body-returns t c =
-    let piece = c.args.piece.now in
-    let here = c.args.here.now.items in
-    let entering = c.args.entering.now in
-    let inner = mark_of c.args.inner.now in
-    let tree = tree_of c.args.body.now in
-    let ended = c.survey_anew.new.ended.items in
-    let starts = c.prune.new.zones.items in
-    let mid = c.prune-2.new.zones.items in
     let last = c.advance.new.told.items in
-    let known = c.in_ok-survey_anew.ensures.ended in
-    let union = set_moved starts c.put_starts.new.starts.items _ c.in_ok-prune.ensures
-    (rw c.deref-2.ensures.value at c.in_ok-put_starts.ensures) in
-    let set = repeated_told piece tree c.survey_anew.new.inside.items c.chains_of.new.chains.items
-    c.in_ok-survey_anew.ensures.inside
-    (rw c.deref.ensures.value at c.in_ok-chains_of.ensures) starts
-    (once_between piece here entering inner tree c.requires.ends c.requires.enter ended starts
-    known union)
-    c.clear.new.self.items c.repeat.new.found.items mid c.clear.ensures.items
-    (rw (c.deref-3.ensures.value, c.deref-4.ensures.value) at c.in_ok-repeat.ensures)
-    c.in_ok-prune-2.ensures in
-    record {
-      added = mid;
-      is = rw c.deref-6.ensures.value at c.in_ok-put_behind.ensures;
-      what = repetition_once piece here entering inner tree c.requires.ends c.requires.enter
-          ended starts known union mid last c.keep_ending.new.kept.items
-          (mark_of c.advance.new.mark) set (repeat_between piece tree starts mid set)
-          (advances_moved (sym c.in_ok-survey_anew.ensures.same)
-          (adds_alone c.clear-2.new.self.items last _ c.clear-2.ensures.items
-          (rw c.deref-7.ensures.value at c.in_ok-advance.ensures)))
-          (rw c.deref-5.ensures.value at c.in_ok-keep_ending.ensures);
-    }
+    let again = c.begin_again.new.room.mid.items in
+    on_ok_weaker c.advance.result
+    (λ goes. record {
+      added = again;
+      is = c.in_ok-begin_again.ensures.told;
+      what = begun_advances c.args.piece.now (tree_of c.args.body.now) c.args.here.now.items
+          c.args.entering.now c.survey_anew.new.ended.items c.survey_anew.new.inside.items
+          (mark_of c.args.inner.now) (mark_of c.survey_anew.new.mark) c.requires.ends
+          c.requires.enter c.in_ok-survey_anew.ensures again c.begin_again.new.here.items
+          c.in_ok-begin_again.ensures.begins last (mark_of c.advance.new.mark)
+          (adds_alone c.clear.new.self.items last _ c.clear.ensures.items
+          (rw c.deref.ensures.value at goes));
+    })
+    c.advance.ensures
 
 -- ---- a restriction
 
@@ -220,10 +223,10 @@ advance_lasting-returns t c =
     let inner = mark_of c.args.inner.now in
     let mid = c.advance.new.told.items in
     on_ok_weaker c.go_on_lasting.result
-    (λ goes. goes (tree_of c.args.body.now) c.moments_for.new.moments.items
+    (λ goes. goes (tree_of c.args.body.now) c.make_room.new.room.aux.items
     (mark_of c.make_ready.new.inner) (restriction_of c.args.to.now outer inner)
-    c.in_ok-moments_for.ensures
-    (adds_alone c.clear.new.self.items mid _ c.clear.ensures.items
+    c.in_ok-make_room.ensures.moments
+    (adds_alone c.make_room.new.room.mid.items mid _ c.in_ok-make_room.ensures.mid
     (rw c.deref-3.ensures.value at c.in_ok-advance.ensures))
     (rw c.deref-2.ensures.value at c.in_ok-make_ready.ensures.is))
     c.go_on_lasting.ensures
@@ -250,13 +253,13 @@ advance_both-returns t c =
     let more = c.advance-2.new.told.items in
     on_ok_weaker c.go_on_both.result
     (λ goes. goes (tree_of c.args.left.now) (tree_of c.args.right.now)
-    c.moments_for.new.moments.items
+    c.make_room.new.room.aux.items
     (mark_of c.ready_both.new.one) (mark_of c.ready_both.new.other)
     (intersection_of c.args.to.now outer one other)
-    c.in_ok-moments_for.ensures
-    (adds_alone c.clear.new.self.items mid _ c.clear.ensures.items
+    c.in_ok-make_room.ensures.moments
+    (adds_alone c.make_room.new.room.mid.items mid _ c.in_ok-make_room.ensures.mid
     (rw c.deref-3.ensures.value at c.in_ok-advance.ensures))
-    (adds_alone c.clear-2.new.self.items more _ c.clear-2.ensures.items
+    (adds_alone c.make_room.new.room.more.items more _ c.in_ok-make_room.ensures.more
     (rw c.deref-4.ensures.value at c.in_ok-advance-2.ensures))
     (rw c.deref-2.ensures.value at c.in_ok-ready_both.ensures.is))
     c.go_on_both.ensures
