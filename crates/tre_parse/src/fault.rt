@@ -2,7 +2,7 @@ use std::alloc::AllocError;
 
 /// Why a text gives no pattern. The offsets are counted in bytes from 0. The refusals are tried in
 /// this order, each over the whole text before the next.
-#[derive(Clone, Copy, PartialEq, Eq)]
+#[derive(Clone, Copy, Debug, PartialEq, Eq)]
 pub enum ParseFault {
     /// The text has more than 16,384 bytes.
     TooLong,
