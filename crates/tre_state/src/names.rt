@@ -34,8 +34,8 @@ impl From<AllocError> for NameFault {
     }
 }
 
-/// The names of propositions in the order in which they were first seen. The place of a name is its
-/// number, counted from 0.
+/// The names of a pattern, of its propositions or of its events, in the order in which they were
+/// first seen. The place of a name is its number, counted from 0.
 #[derive(Drop)]
 pub struct Names {
     names: IndexSet<String>,

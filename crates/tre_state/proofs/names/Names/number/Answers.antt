@@ -1,6 +1,7 @@
-use Rattle.std.proofs.Common.{◌≡◌, ◌<◌, ◌++◌, ◌∷◌, [], List, ℕ, None, Some, length, map, sym, subst, ap, ◌∙◌, arith, rules}
+use Rattle.std.proofs.Common.{◌≡◌, ◌<◌, ◌++◌, ◌∷◌, [], List, ℕ, None, Some, length, map, refl, sym, subst, ap, ◌∙◌, arith, rules}
 use Rattle.std.specs.String.{string_bytes}
 use Rattle.std.proofs.lemmas.List.{length-map}
+use Rattle.std.proofs.lemmas.Result.{err_from_is_err_and}
 use Rattle.tre_state.specs.Names.{place_of, IsNameList}
 use Rattle.tre_state.specs.Sieve.{AreSifted, MayBe}
 use Rattle.tre_state.specs.declared.names.TheConstants.{NAMES_MAX}
@@ -37,3 +38,66 @@ returns-clause-number c =
 
 pub returns-clause-list : goal.returns-clause-list
 returns-clause-list c = (invariant_of-self-2 c).0
+
+-- The list is full, and the name isn't in it.
+pub returns-then-len-eq-NAMES_MAX-clause-too_many :
+    goal.returns-then-len-eq-NAMES_MAX-clause-too_many
+returns-then-len-eq-NAMES_MAX-clause-too_many c =
+    let full : length c.args.self.now ≡ NAMES_MAX =
+    ap length (sym c.self.view_is) ∙ length-map c.self.inside.names.keys string_bytes
+    ∙ sym c.len.ensures.len ∙ c.if-len-eq-NAMES_MAX.true in
+    ((λ _. (full, sym c.find.ensures ∙ c.in_default.is)), λ _. refl)
+
+pub insert_last-requires-clause-room : goal.insert_last-requires-clause-room
+insert_last-requires-clause-room c =
+    omega (
+      arith,
+      length-map c.self.inside.names.keys string_bytes,
+      c.self.invariant.0.few,
+      c.len.ensures.len,
+      c.if-len-eq-NAMES_MAX.false,
+    )
+
+pub returns-in_err-place-clause-too_many : goal.returns-in_err-place-clause-too_many
+returns-in_err-place-clause-too_many c =
+    let few = length-map c.self.inside.names.keys string_bytes in
+    let known = ap length c.self.view_is in
+    let p = err_from_is_err_and c.from_residual.result c.from_residual.ensures.1 in
+    let memory = p.1 in
+    let given = p.2 in (
+      (λ full. absurd cc),
+      (λ full. absurd (omega (
+        arith,
+        few,
+        known,
+        full.0,
+        c.len.ensures.len,
+        c.if-len-eq-NAMES_MAX.false,
+      ))),
+    )
+
+pub add-requires : goal.add-requires
+add-requires c =
+    omega (
+      arith,
+      length-map c.self.inside.names.keys string_bytes,
+      c.self.invariant.0.few,
+      c.len.ensures.len,
+      c.if-len-eq-NAMES_MAX.false,
+      c.in_ok-place.ensures.place,
+    )
+
+pub returns-clause-too_many : goal.returns-clause-too_many
+returns-clause-too_many c =
+    let few = length-map c.self.inside.names.keys string_bytes in
+    let known = ap length c.self.view_is in (
+      (λ full. absurd cc),
+      (λ full. absurd (omega (
+        arith,
+        few,
+        known,
+        full.0,
+        c.len.ensures.len,
+        c.if-len-eq-NAMES_MAX.false,
+      ))),
+    )
