@@ -1,8 +1,9 @@
-use Rattle.std.proofs.Common.{◌∙◌, ◌<◌, take, slice_index_or, arith}
-use Rattle.std.proofs.lemmas.List.{take_more}
+use Rattle.std.proofs.Common.{◌≡◌, ◌∙◌, ◌<◌, List, replicate, subst, take, slice_index_or, arith}
+use Rattle.std.proofs.lemmas.List.{take_all, take_more}
 use Rattle.std.proofs.lemmas.List.Elements.{All-get_or}
+use Rattle.tre_packed.specs.Said.{IsToldPlane}
 use Rattle.tre_packed.specs.declared.said.Said.{Said}
-use Rattle.tre_packed.proofs.Sayings.{told_more}
+use Rattle.tre_packed.proofs.Sayings.{no_bits, told_more}
 use Rattle.tre_packed.proofs.happening.said_plane.Goals as goal
 
 abbrev nothing : Said
@@ -27,3 +28,19 @@ loop-one-preserved c =
           (told_more c.args.number (take index said) (slice_index_or said index nothing) _ _ _
           c.loop-one.invariant.bits c.event_bit.ensures c.write_bit.ensures);
     }
+
+pub loop-one-init : goal.loop-one-init
+loop-one-init c =
+    let zeros : c.in_ok-words.words.items ≡ replicate c.div_ceil.result 0 =
+    c.in_ok-words.ensures.items_if_clones_equal (λ y same. same) in record {
+      size = omega (arith, c.in_ok-words.ensures.len, c.div_ceil.ensures);
+      bits = λ place. rw zeros (no_bits c.div_ceil.result place);
+    }
+
+pub returns : goal.returns
+returns c =
+    let said = c.args.said.now in
+    let all : take c.loop-one.one-index said ≡ said =
+    take_all c.loop-one.one-index said c.loop-one-test.false in
+    subst (λ (some : List Said). IsToldPlane c.args.number some c.args.count c.loop-one.words.items)
+    all (record { size = c.loop-one.invariant.size; bits = c.loop-one.invariant.bits })
