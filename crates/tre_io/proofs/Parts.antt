@@ -1,5 +1,6 @@
--- Parts of a text that are written one after the other.
-use Rattle.std.proofs.Common.{◌≡◌, ℕ, ◌+◌, List, Option, take, drop}
+-- Parts of a text that are read or written one after the other.
+use Rattle.std.proofs.Common.{◌≡◌, ℕ, ◌+◌, ◌-◌, List, Option, length, take, drop, ap, ◌∙◌, arith}
+use Rattle.std.proofs.lemmas.List.{length-drop, take_all}
 use Rattle.std.specs.Io.KnownBytes.{Appends}
 use Rattle.std.proofs.KnownBytes.{Appends-trans}
 use Rattle.std.proofs.Math.Seq.{take-add}
@@ -11,3 +12,10 @@ pub Appends-more : (a b c : Option (List ℕ)) (bytes rest : List ℕ) (done cou
     → Appends a c (take (done + count) bytes)
 Appends-more a b c bytes rest done count e first second =
     rw (take-add done count bytes) (Appends-trans a b c _ _ first (rw e at second))
+
+-- All bytes from a place on, as they are sliced.
+pub rest_is : (place : ℕ) (bytes now : List ℕ) → now ≡ bytes
+    → take (length now - place) (drop place now) ≡ drop place bytes
+rest_is place bytes now same =
+    take_all (length now - place) (drop place now) (omega (arith, length-drop place now))
+    ∙ ap (drop place) same
