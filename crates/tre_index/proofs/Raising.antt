@@ -1,14 +1,51 @@
 -- Levels of bounds, after one place of each was made to reach a row.
-use Rattle.std.proofs.Common.{◌≡◌, ℕ, ◌+◌, ◌-◌, ◌*◌, ◌/◌, ◌<◌, ◌≤◌, List, [], ◌∷◌, length, get_or, map, refl, sym, ap, subst, ◌∙◌, inl, inr, arith}
+use Rattle.std.proofs.Common.{◌≡◌, ◌≢◌, ℕ, ◌+◌, ◌-◌, ◌*◌, ◌/◌, ◌<◌, ◌≤◌, List, [], ◌∷◌, length, get_or, map, set, refl, sym, ap, subst, ◌∙◌, inl, inr, arith}
 use Rattle.std.proofs.lemmas.Bool.{cases_lt, cases_eq}
-use Rattle.std.proofs.lemmas.List.{get_or-map}
+use Rattle.std.proofs.lemmas.List.{get_or-map, get_or-set_same, get_or-set_other, get_or_default, length-set}
 use Rattle.std.specs.Prelude.{ℤ}
 use Rattle.tre_lanes.specs.Rows.{Reaches}
-use Rattle.tre_index.specs.Index.{IsUnder, IsIndex, Lifted, HasRoom, HasBound, IsRisen, AreRisen}
+use Rattle.tre_index.specs.Index.{IsUpper, IsUnder, IsIndex, Lifted, HasRoom, HasBound, IsRisen, AreRisen}
 use Rattle.tre_index.proofs.Searching.{Reaches-trans, Reaches-itself}
 
 abbrev Rows : Type 0
 Rows = List (List ℤ)
+
+-- A bound that is raised where it stands.
+module _ (old : Rows) (place : ℕ) (one row high : List ℤ) (inside : place < length old)
+    (is : one ≡ get_or old place one) (upper : IsUpper high one row) where
+  abbrev changed : Rows
+  changed = set old place high
+
+  here : get_or changed place [] ≡ high
+  here = get_or-set_same old place high [] inside
+
+  there : (k : ℕ) → k ≢ place → get_or changed k [] ≡ get_or old k []
+  there k other = get_or-set_other old place k high [] other
+
+  was : get_or old place [] ≡ one
+  was = get_or_default old place [] one inside ∙ sym is
+
+  pub lifted_in_place : Lifted old changed place row
+  lifted_in_place = record {
+    wider = omega (arith, length-set old place high);
+    narrow = omega (arith, length-set old place high);
+    within = omega (arith, length-set old place high, inside);
+    reaches = rw here upper.second;
+    risen = λ k less.
+        elim (cases_eq k place) [
+          | inl same ↦ rw (same, here, was) upper.first
+          | inr other ↦ rw (there k other) (Reaches-itself (get_or old k []))
+        ];
+    least = λ k bound less old_reached row_reached.
+        elim (cases_eq k place) [
+          | inl same ↦
+              rw (same, here)
+              (upper.least bound (rw (same, was) at (old_reached (omega (arith, same, inside))))
+              (row_reached same))
+          | inr other ↦
+              rw (there k other) (old_reached (omega (arith, less, length-set old place high)))
+        ];
+  }
 
 pub risen_none : (levels : List Rows) → length levels ≡ 0 → AreRisen levels levels
 unfolding AreRisen
