@@ -1,10 +1,10 @@
 ghost use Rattle.std.specs.Prelude.{◌≡◌, IfOk};
 ghost use Rattle.tre_mark.specs.MarkTree.{mark_of, atom_mark};
 
-use crate::boxes::{boxed, boxes};
 use crate::forms::{atom, intersection_behind, repetition_behind, restriction_behind};
 use crate::mark::{Mark, Room};
 use std::alloc::{AllocError, Global};
+use tre_syntax::{boxed_result, boxed_results};
 use tre_zone::Zone;
 
 impl Mark {
@@ -17,7 +17,7 @@ impl Mark {
             Mark::Seq { left, right, .. } => {
                 let left = left.try_clone(alloc);
                 let right = right.try_clone(alloc);
-                let (left, right) = boxes(alloc, left, right)?;
+                let (left, right) = boxed_results(alloc, left, right)?;
                 Ok(Mark::Seq {
                     left,
                     right,
@@ -27,11 +27,11 @@ impl Mark {
             Mark::Alt(left, right) => {
                 let left = left.try_clone(alloc);
                 let right = right.try_clone(alloc);
-                let (left, right) = boxes(alloc, left, right)?;
+                let (left, right) = boxed_results(alloc, left, right)?;
                 Ok(Mark::Alt(left, right))
             }
             Mark::Star { here, body, .. } => {
-                let body = boxed(alloc, body.try_clone(alloc))?;
+                let body = boxed_result(alloc, body.try_clone(alloc))?;
                 repetition_behind(alloc, here, body)
             }
             Mark::Meet {
@@ -43,7 +43,7 @@ impl Mark {
             } => {
                 let left = left.try_clone(alloc);
                 let right = right.try_clone(alloc);
-                let (left, right) = boxes(alloc, left, right)?;
+                let (left, right) = boxed_results(alloc, left, right)?;
                 intersection_behind(alloc, *to, outer, left, right)
             }
             Mark::Within {
@@ -52,7 +52,7 @@ impl Mark {
                 body,
                 ..
             } => {
-                let body = boxed(alloc, body.try_clone(alloc))?;
+                let body = boxed_result(alloc, body.try_clone(alloc))?;
                 restriction_behind(alloc, *to, outer, body)
             }
         }

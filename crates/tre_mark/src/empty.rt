@@ -4,11 +4,10 @@ ghost use Rattle.tre_syntax.specs.PatternTree.{Atom, atom};
 ghost use Rattle.tre_mark.specs.MarkTree.{mark_of};
 ghost use Rattle.tre_mark.specs.Marked.{IsUnbegun};
 
-use crate::boxes::{boxed, boxes};
 use crate::forms::{atom, intersection_behind, repetition_behind, restriction_behind};
 use crate::mark::{Mark, Room};
 use std::alloc::{AllocError, Global};
-use tre_syntax::Expr;
+use tre_syntax::{Expr, boxed_result, boxed_results};
 
 impl Mark {
     /// The mark of an expression of which nothing has begun.
@@ -26,7 +25,7 @@ impl Mark {
             Expr::Seq(left, right) => {
                 let left = Mark::empty(alloc, left);
                 let right = Mark::empty(alloc, right);
-                let (left, right) = boxes(alloc, left, right)?;
+                let (left, right) = boxed_results(alloc, left, right)?;
                 Ok(Mark::Seq {
                     left,
                     right,
@@ -36,21 +35,21 @@ impl Mark {
             Expr::Alt(left, right) => {
                 let left = Mark::empty(alloc, left);
                 let right = Mark::empty(alloc, right);
-                let (left, right) = boxes(alloc, left, right)?;
+                let (left, right) = boxed_results(alloc, left, right)?;
                 Ok(Mark::Alt(left, right))
             }
             Expr::Star(body) => {
-                let body = boxed(alloc, Mark::empty(alloc, body))?;
+                let body = boxed_result(alloc, Mark::empty(alloc, body))?;
                 repetition_behind(alloc, &[], body)
             }
             Expr::Meet(left, right) => {
                 let left = Mark::empty(alloc, left);
                 let right = Mark::empty(alloc, right);
-                let (left, right) = boxes(alloc, left, right)?;
+                let (left, right) = boxed_results(alloc, left, right)?;
                 intersection_behind(alloc, 0, &[], left, right)
             }
             Expr::Within(body, _) => {
-                let body = boxed(alloc, Mark::empty(alloc, body))?;
+                let body = boxed_result(alloc, Mark::empty(alloc, body))?;
                 restriction_behind(alloc, 0, &[], body)
             }
         }

@@ -12,7 +12,7 @@ use tre_zone::Zone;
 use tre_zoneset::ZoneSet;
 
 /// The mark of an atom.
-pub fn atom(alloc: Global, here: Vec<Zone>, begun: Vec<Zone>) -> Mark
+pub(crate) fn atom(alloc: Global, here: Vec<Zone>, begun: Vec<Zone>) -> Mark
     ensures { mark_of result ≡ atom_mark here.items begun.items }
 {
     Mark::Atom {

@@ -11,7 +11,6 @@
 //! ```
 #![tactic(auto)]
 
-mod boxes;
 mod copy;
 mod empty;
 mod forms;
@@ -21,5 +20,5 @@ mod nothing;
 mod start;
 
 pub use copy::copied;
-pub use forms::{atom, moments};
+pub use forms::moments;
 pub use mark::{Mark, Room};

@@ -6,12 +6,11 @@ ghost use Rattle.tre_syntax.specs.PatternTree.{Atom, atom};
 ghost use Rattle.tre_mark.specs.MarkTree.{mark_of};
 ghost use Rattle.tre_mark.specs.Marked.{IsStart};
 
-use crate::boxes::{boxed, boxes};
 use crate::copy::copied;
 use crate::forms::{atom, intersection_behind, moments, repetition_behind, restriction_behind};
 use crate::mark::{Mark, Room};
 use std::alloc::{AllocError, Global};
-use tre_syntax::Expr;
+use tre_syntax::{Expr, boxed, boxed_result, boxed_results};
 use tre_zoneset::ZoneSet;
 
 impl Mark {
@@ -35,9 +34,9 @@ impl Mark {
             Expr::Fall(_) => atom_at(alloc, zones),
             Expr::Event(_) => atom_at(alloc, zones),
             Expr::Seq(left, right) => {
-                let left = boxed(alloc, Mark::start(alloc, left, zones, time))?;
+                let left = boxed_result(alloc, Mark::start(alloc, left, zones, time))?;
                 let right = Mark::empty(alloc, right)?;
-                let rest = boxed(alloc, Ok(right))?;
+                let rest = boxed(alloc, right)?;
                 Ok(Mark::Seq {
                     left,
                     right: rest,
@@ -47,23 +46,23 @@ impl Mark {
             Expr::Alt(left, right) => {
                 let left = Mark::start(alloc, left, zones, time);
                 let right = Mark::start(alloc, right, zones, time);
-                let (left, right) = boxes(alloc, left, right)?;
+                let (left, right) = boxed_results(alloc, left, right)?;
                 Ok(Mark::Alt(left, right))
             }
             Expr::Star(body) => {
-                let body = boxed(alloc, Mark::empty(alloc, body))?;
+                let body = boxed_result(alloc, Mark::empty(alloc, body))?;
                 repetition_behind(alloc, zones.zones(), body)
             }
             Expr::Meet(left, right) => {
                 let moment = moments(alloc, time, time)?;
                 let left = Mark::start(alloc, left, &moment, time);
                 let right = Mark::start(alloc, right, &moment, time);
-                let (left, right) = boxes(alloc, left, right)?;
+                let (left, right) = boxed_results(alloc, left, right)?;
                 intersection_behind(alloc, time, zones.zones(), left, right)
             }
             Expr::Within(body, _) => {
                 let moment = moments(alloc, time, time)?;
-                let body = boxed(alloc, Mark::start(alloc, body, &moment, time))?;
+                let body = boxed_result(alloc, Mark::start(alloc, body, &moment, time))?;
                 restriction_behind(alloc, time, zones.zones(), body)
             }
         }

@@ -12,6 +12,5 @@
 
 pub use residual::{Residual, composed};
 
-mod boxes;
 pub mod laws;
 mod residual;

@@ -5,11 +5,10 @@ ghost use Rattle.tre_syntax.specs.PatternTree.{NumbersBelow};
 ghost use Rattle.tre_mark.specs.MarkTree.{mark_of};
 ghost use Rattle.tre_residual.specs.Residual.{nothing, here, joined, preceded, followed, either, both, lasting, marked, residual_tree, IsWellAt, Builds, IsComposition};
 
-use crate::boxes::{beside, boxed, boxed_beside, boxes};
 use std::alloc::{AllocError, Global};
 use tre_mark::Mark;
 use tre_star::compose_sets;
-use tre_syntax::Expr;
+use tre_syntax::{Expr, beside, boxed, boxes};
 use tre_zone::Interval;
 use tre_zoneset::ZoneSet;
 
@@ -53,7 +52,8 @@ impl Residual {
         ensures { Builds (residual_tree result) (joined zones (tree_of expr)) }
     {
         if zones.is_empty() {
-            // Here and below: so a value is let go in one way, whatever its form.
+            // `drop` takes any value, so the proof has one case here, as below. It has one for each
+            // form of the value where that goes out of scope.
             drop(expr);
             return Residual::Nil;
         }
@@ -141,7 +141,7 @@ impl Residual {
             drop(expr);
             return Ok(Residual::Nil);
         }
-        let (mark, expr) = boxed_beside(alloc, mark, expr)?;
+        let (mark, expr) = beside(boxed(alloc, mark), expr)?;
         Ok(Residual::Mark(mark, expr))
     }
 
@@ -241,7 +241,7 @@ fn followed_by(alloc: Global, residual: Residual, expr: Expr) -> Result<Residual
         drop(expr);
         return Ok(residual);
     }
-    let (residual, expr) = boxed_beside(alloc, residual, expr)?;
+    let (residual, expr) = beside(boxed(alloc, residual), expr)?;
     Ok(Residual::Post(residual, expr))
 }
 

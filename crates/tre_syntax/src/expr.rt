@@ -1,7 +1,7 @@
 ghost use Rattle.std.specs.Prelude.{◌≡◌, IfOk};
 ghost use Rattle.tre_syntax.specs.Expr.{tree_of};
 
-use crate::boxes::{boxed, boxes};
+use crate::boxing::{boxed_result, boxed_results};
 use std::alloc::{AllocError, Global};
 use tre_state::State;
 use tre_zone::Interval;
@@ -59,33 +59,33 @@ impl Expr {
             Expr::Event(number) => Ok(Expr::Event(*number)),
             Expr::Seq(left, right) => {
                 let left = left.try_clone(alloc);
-                let Ok((left, right)) = boxes(alloc, left, right.try_clone(alloc)) else {
+                let Ok((left, right)) = boxed_results(alloc, left, right.try_clone(alloc)) else {
                     return Err(AllocError);
                 };
                 Ok(Expr::Seq(left, right))
             }
             Expr::Alt(left, right) => {
                 let left = left.try_clone(alloc);
-                let Ok((left, right)) = boxes(alloc, left, right.try_clone(alloc)) else {
+                let Ok((left, right)) = boxed_results(alloc, left, right.try_clone(alloc)) else {
                     return Err(AllocError);
                 };
                 Ok(Expr::Alt(left, right))
             }
             Expr::Meet(left, right) => {
                 let left = left.try_clone(alloc);
-                let Ok((left, right)) = boxes(alloc, left, right.try_clone(alloc)) else {
+                let Ok((left, right)) = boxed_results(alloc, left, right.try_clone(alloc)) else {
                     return Err(AllocError);
                 };
                 Ok(Expr::Meet(left, right))
             }
             Expr::Star(expr) => {
-                let Ok(copy) = boxed(alloc, expr.try_clone(alloc)) else {
+                let Ok(copy) = boxed_result(alloc, expr.try_clone(alloc)) else {
                     return Err(AllocError);
                 };
                 Ok(Expr::Star(copy))
             }
             Expr::Within(expr, interval) => {
-                let Ok(copy) = boxed(alloc, expr.try_clone(alloc)) else {
+                let Ok(copy) = boxed_result(alloc, expr.try_clone(alloc)) else {
                     return Err(AllocError);
                 };
                 Ok(Expr::Within(copy, *interval))

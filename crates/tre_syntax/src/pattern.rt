@@ -5,7 +5,7 @@ ghost use Rattle.tre_syntax.specs.declared.name_kind.NameKind.{NameKind};
 ghost use Rattle.tre_syntax.specs.declared.pattern.TheConstants.{NODES_MAX};
 ghost use Rattle.tre_state.specs.declared.names.TheConstants.{NAMES_MAX};
 
-use crate::boxes::both;
+use crate::boxing::both;
 use crate::count::{left_after, seen_after};
 use crate::expr::Expr;
 use crate::name_kind::NameKind;

@@ -49,8 +49,8 @@ returns-in_ok-left-in-Seq t c =
     unbegun_moved (sequence_mark one other) (sequence_mark one other) (sequence left right)
     (tree_of c.args.expr.now) refl form
     (unbegun_sequence one other left right
-    (IfOk-at_ok _ c.in_ok-left-in-Seq.ensures.left c.empty-left.ensures)
-    (IfOk-at_ok _ c.in_ok-left-in-Seq.ensures.right c.empty-right.ensures))
+    (IfOk-at_ok _ c.in_ok-left-in-Seq.ensures.one c.empty-left.ensures)
+    (IfOk-at_ok _ c.in_ok-left-in-Seq.ensures.other c.empty-right.ensures))
 
 pub returns-in_ok-left-in-Alt : goal.returns-in_ok-left-in-Alt
 returns-in_ok-left-in-Alt t c =
@@ -65,8 +65,8 @@ returns-in_ok-left-in-Alt t c =
     unbegun_moved (alternation_mark one other) (alternation_mark one other)
     (alternation left right) (tree_of c.args.expr.now) refl form
     (unbegun_alternation one other left right
-    (IfOk-at_ok _ c.in_ok-left-in-Alt.ensures.left c.empty-left-in-Alt.ensures)
-    (IfOk-at_ok _ c.in_ok-left-in-Alt.ensures.right c.empty-right-in-Alt.ensures))
+    (IfOk-at_ok _ c.in_ok-left-in-Alt.ensures.one c.empty-left-in-Alt.ensures)
+    (IfOk-at_ok _ c.in_ok-left-in-Alt.ensures.other c.empty-right-in-Alt.ensures))
 
 pub returns-in_ok-body-in-Star : goal.returns-in_ok-body-in-Star
 returns-in_ok-body-in-Star t c =

@@ -1,5 +1,5 @@
 -- Each form starts as its parts do.
-use Rattle.std.proofs.Common.{◌≡◌, ◌∙◌, ap, refl, sym}
+use Rattle.std.proofs.Common.{◌≡◌, ◌∙◌, ap, refl, subst, sym}
 use Rattle.std.proofs.lemmas.Bool.{both_ways}
 use Rattle.std.proofs.lemmas.Result.{IfOk-weaker, IfOk-at_ok}
 use Rattle.tre_syntax.specs.Expr.{tree_of}
@@ -29,7 +29,7 @@ returns-in_ok-rest-in-Seq t c =
     (sequence left right) (tree_of c.args.expr.now) refl form
     (start_sequence c.args.time zones c.requires.ends one other left right
     (IfOk-at_ok _ c.in_ok-left-in-Seq.ensures c.start.ensures)
-    (IfOk-at_ok (λ mark. IsUnbegun (mark_of mark) right) c.in_ok-rest-in-Seq.ensures
+    (subst (λ mark. IsUnbegun (mark_of mark) right) (sym c.in_ok-rest-in-Seq.ensures)
     c.in_ok-right-in-Seq.ensures))
 
 pub returns-in_ok-left-in-Alt : goal.returns-in_ok-left-in-Alt
@@ -46,8 +46,8 @@ returns-in_ok-left-in-Alt t c =
     start_moved c.args.time zones (alternation_mark one other) (alternation_mark one other)
     (alternation left right) (tree_of c.args.expr.now) refl form
     (start_alternation c.args.time zones c.requires.ends one other left right
-    (IfOk-at_ok _ c.in_ok-left-in-Alt.ensures.left c.start-left.ensures)
-    (IfOk-at_ok _ c.in_ok-left-in-Alt.ensures.right c.start-right.ensures))
+    (IfOk-at_ok _ c.in_ok-left-in-Alt.ensures.one c.start-left.ensures)
+    (IfOk-at_ok _ c.in_ok-left-in-Alt.ensures.other c.start-right.ensures))
 
 pub returns-in_ok-body-in-Star : goal.returns-in_ok-body-in-Star
 returns-in_ok-body-in-Star t c =
@@ -88,8 +88,8 @@ returns-in_ok-left-in-Meet t c =
     (λ none. both_ways c.is_empty.result c.if-is_empty.false (c.is_empty.ensures.1 none))
     c.requires.ends c.in_ok-moment-in-Meet.moment
     c.in_ok-moment-in-Meet.ensures one other left right
-    (IfOk-at_ok _ c.in_ok-left-in-Meet.ensures.left c.start-left-in-Meet.ensures)
-    (IfOk-at_ok _ c.in_ok-left-in-Meet.ensures.right c.start-right-in-Meet.ensures)))
+    (IfOk-at_ok _ c.in_ok-left-in-Meet.ensures.one c.start-left-in-Meet.ensures)
+    (IfOk-at_ok _ c.in_ok-left-in-Meet.ensures.other c.start-right-in-Meet.ensures)))
     c.intersection_behind.ensures
 
 pub returns-in_ok-body-in-Within : goal.returns-in_ok-body-in-Within

@@ -1,4 +1,5 @@
-use Rattle.std.proofs.Common.{◌∙◌, ap}
+use Rattle.std.proofs.Common.{◌≡◌, ◌∙◌, ap}
+use Rattle.std.proofs.lemmas.Result.{IfOk-at_ok}
 use Rattle.tre_syntax.specs.Expr.{tree_of}
 use Rattle.tre_syntax.specs.declared.expr.Expr.{Expr}
 use Rattle.tre_mark.specs.MarkTree.{mark_of}
@@ -15,6 +16,8 @@ returns-then-is_nothing c =
 pub returns : goal.returns
 returns c =
     let mark = c.in_ok-mark.mark.value in
+    let same : mark ≡ c.args.mark =
+    IfOk-at_ok (λ b. b.value ≡ c.args.mark) c.in_ok-mark.ensures.first c.boxed.ensures in
     Builds-same _ _
     (ap (λ (e : Expr). marked (mark_of mark) (tree_of e)) c.in_ok-mark.ensures.second
-    ∙ ap (λ (m : Mark). marked (mark_of m) (tree_of c.args.expr)) c.in_ok-mark.ensures.first)
+    ∙ ap (λ (m : Mark). marked (mark_of m) (tree_of c.args.expr)) same)
