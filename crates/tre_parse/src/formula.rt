@@ -3,12 +3,12 @@ ghost use Rattle.tre_state.specs.StateTree.{StateTree, negation};
 ghost use Rattle.tre_parse.specs.Joins.{connected};
 ghost use Rattle.tre_parse.specs.Operands.{RepresentsState, Turns};
 
-use crate::boxes::{boxed, boxes};
 use crate::connective::Connective;
 use crate::counted::Counted;
 use crate::limits::COUNT_MAX;
 use std::alloc::{AllocError, Global};
 use tre_state::State;
+use tre_syntax::{boxed, boxes};
 
 /// A state as it is read.
 pub(crate) type Formula = Counted<State>;

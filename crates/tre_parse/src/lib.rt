@@ -24,7 +24,6 @@ pub use parser::parse;
 pub use token::Token;
 
 mod before;
-mod boxes;
 mod connective;
 mod counted;
 mod cursor;

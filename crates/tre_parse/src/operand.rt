@@ -7,14 +7,13 @@ ghost use Rattle.tre_parse.specs.Operands.{RepresentsState, Represents, Turns};
 ghost use Rattle.tre_parse.specs.Parts.{IsMadeOf};
 ghost use Rattle.tre_parse.specs.Unkept.{unkept_at};
 
-use crate::boxes::{boxed, boxes};
 use crate::connective::Join;
 use crate::counted::Counted;
 use crate::formula::Formula;
 use crate::limits::COUNT_MAX;
 use std::alloc::{AllocError, Global};
 use tre_state::State;
-use tre_syntax::Expr;
+use tre_syntax::{Expr, boxed, boxes};
 use tre_zone::Interval;
 
 /// An expression as it is read.
