@@ -10,7 +10,6 @@ ghost use Rattle.tre_advance.specs.Advance.{before_piece};
 ghost use Rattle.tre_residual.specs.Residual.{ResidualTree, joined, preceded, followed, either, both, lasting, marked, residual_tree, Builds};
 ghost use Rattle.tre_derive.specs.Derivative.{StepsTo, ComesBehind};
 
-use crate::beside::beside;
 use crate::going::{begin_behind, go_alone};
 use crate::sets::of_either;
 use crate::stepped::Stepped;
@@ -19,7 +18,7 @@ use tre_edges::Piece;
 use tre_mark::Mark;
 use tre_residual::{Residual, composed};
 use tre_state::NAMES_MAX;
-use tre_syntax::Expr;
+use tre_syntax::{Expr, beside};
 use tre_zone::Interval;
 use tre_zoneset::ZoneSet;
 

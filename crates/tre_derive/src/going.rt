@@ -9,7 +9,6 @@ ghost use Rattle.tre_advance.specs.Advance.{before_piece};
 ghost use Rattle.tre_residual.specs.Residual.{marked, residual_tree, Builds};
 ghost use Rattle.tre_derive.specs.Derivative.{TellsAsSet, GoesOverTo, BeginsBehindPairs, StepsTo};
 
-use crate::beside::beside;
 use crate::stepped::Stepped;
 use std::alloc::{AllocError, Global};
 use tre_advance::advance;
@@ -17,7 +16,7 @@ use tre_edges::Piece;
 use tre_mark::Mark;
 use tre_residual::Residual;
 use tre_state::NAMES_MAX;
-use tre_syntax::Expr;
+use tre_syntax::{Expr, beside};
 use tre_zone::Zone;
 use tre_zoneset::ZoneSet;
 

@@ -21,7 +21,6 @@ pub use stepped::Stepped;
 pub use stepping::step;
 
 mod beginning;
-mod beside;
 mod closing;
 mod forms;
 mod going;

@@ -1,8 +1,8 @@
 ghost use Rattle.std.specs.Prelude.{◌≡◌, Ok, IfOk};
 
-use crate::beside::both;
 use std::alloc::AllocError;
 use tre_residual::Residual;
+use tre_syntax::both;
 use tre_zoneset::ZoneSet;
 
 /// What reading a piece makes of a residual.

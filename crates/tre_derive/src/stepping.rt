@@ -4,12 +4,12 @@ ghost use Rattle.tre_advance.specs.Advance.{before_piece};
 ghost use Rattle.tre_residual.specs.Residual.{residual_tree, IsWellAt, CanGoOn};
 ghost use Rattle.tre_derive.specs.Derivative.{StepsTo};
 
-use crate::beside::beside;
 use crate::forms::{begin_now, choose, follow, go_on, meet, precede, restrict};
 use crate::stepped::Stepped;
 use std::alloc::{AllocError, Global};
 use tre_edges::Piece;
 use tre_residual::Residual;
+use tre_syntax::beside;
 use tre_zoneset::ZoneSet;
 
 /// Reads the piece, which begins at the time at which the residual is one: tells the pairs of the
