@@ -4,7 +4,7 @@ use Rattle.std.proofs.lemmas.Int.{ints, clamps}
 use Rattle.std.specs.Int.{int_min, int_max}
 use Rattle.tre_pairs.specs.Pairs.{Either}
 use Rattle.tre_zone.specs.Bound.{sum_of, Meets, IsKeyWithin}
-use Rattle.tre_zone.specs.Zone.{ZoneHolds, Includes, Covers, IsCanonical, IsZoneOf, AreKeysWithin}
+use Rattle.tre_zone.specs.Zone.{ZoneHolds, Includes, Covers, IsCanonical, IsFramed, IsZoneOf, AreKeysWithin}
 use Rattle.tre_zone.specs.Beyond.{looser_of, key_at, cut_at, MeetsAt, IsHeldBeyond, AreHeldBeyond}
 use Rattle.tre_zone.specs.declared.united.Side.{Side}
 use Rattle.tre_zone.specs.declared.united.Side.TheVariants.{BeginLow, BeginHigh, EndLow, EndHigh, DurLow, DurHigh}
@@ -379,6 +379,30 @@ key-within EndLow limit zone h = h.end_low
 key-within EndHigh limit zone h = h.end_high
 key-within DurLow limit zone h = h.dur_low
 key-within DurHigh limit zone h = h.dur_high
+
+min_most : (x y z : ℤ) → x ≤ℤ z → int_min x y ≤ℤ z
+min_most x y z h = omega (arith, ints, clamps)
+
+pub cut-framed : (side : Side) (zone : ZoneBounds) (key : ℤ) → IsFramed zone
+    → IsFramed (cut_at side zone key)
+cut-framed BeginLow zone key h = record { starts = h.starts; ends = h.ends; lasts = h.lasts }
+cut-framed BeginHigh zone key h = record {
+  starts = min_most zone.begin_low key _ h.starts;
+  ends = h.ends;
+  lasts = h.lasts;
+}
+cut-framed EndLow zone key h = record {
+  starts = h.starts;
+  ends = min_most zone.end_high key _ h.ends;
+  lasts = h.lasts;
+}
+cut-framed EndHigh zone key h = record { starts = h.starts; ends = h.ends; lasts = h.lasts }
+cut-framed DurLow zone key h = record { starts = h.starts; ends = h.ends; lasts = h.lasts }
+cut-framed DurHigh zone key h = record {
+  starts = h.starts;
+  ends = h.ends;
+  lasts = min_most zone.dur_low key _ h.lasts;
+}
 
 cut_key : (old key : ℤ) → IsKeyWithin (2 ^ 42) old → IsKeyWithin (2 ^ 42) key
     → IsKeyWithin (2 ^ 45) (int_min old (pos 1 -ℤ key))

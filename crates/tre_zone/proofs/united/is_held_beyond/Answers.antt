@@ -1,6 +1,6 @@
 use Rattle.std.proofs.Common.{refl, ◌^◌}
 use Rattle.tre_zone.specs.Beyond.{key_at}
-use Rattle.tre_zone.proofs.Unions.{held-beyond, held-covered, cut-keys, key-within}
+use Rattle.tre_zone.proofs.Unions.{held-beyond, held-covered, cut-framed, cut-keys, key-within}
 use Rattle.tre_zone.proofs.united.is_held_beyond.Goals as goal
 
 pub returns-then-covers : goal.returns-then-covers
@@ -9,6 +9,11 @@ returns-then-covers c = (
       (rw (c.at.ensures, c.at-bound.ensures) at (c.if-covers.ensures.0 refl))),
   (λ h. refl),
 )
+
+pub is_held-requires-clause-framed : goal.is_held-requires-clause-framed
+is_held-requires-clause-framed c =
+    rw c.cut_at.ensures
+    (cut-framed c.args.side c.args.whole.now c.opposite.result c.requires.whole.framed)
 
 pub is_held-requires-clause-keys : goal.is_held-requires-clause-keys
 is_held-requires-clause-keys c =
