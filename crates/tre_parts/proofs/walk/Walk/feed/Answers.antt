@@ -1,9 +1,9 @@
-use Rattle.std.proofs.Common.{◌≡◌, ◌+◌, suc, ◌++◌, [], ◌∷◌, get_or, take, drop, append-nil, arith, sym}
+use Rattle.std.proofs.Common.{◌≡◌, ◌+◌, suc, ◌++◌, [], ◌∷◌, get_or, take, drop, append-nil, arith, sym, ap, ◌∙◌}
 use Rattle.std.proofs.lemmas.List.{length-drop, length-take}
 use Rattle.std.proofs.lemmas.Result.{err_from_is_err_and}
 use Rattle.tre_parts.proofs.Cuts.{take-rest}
 use Rattle.tre_parts.proofs.Feeding.{in_two, around, fed-refused, fed-room, fed-step}
-use Rattle.tre_parts.proofs.Skimming.{fed-trans}
+use Rattle.tre_parts.proofs.Skimming.{fed-none, fed-trans}
 use Rattle.tre_trace.proofs.Readings.{Adds-trans}
 use Rattle.tre_parts.proofs.walk.Walk.feed.Goals as goal
 
@@ -76,3 +76,36 @@ loop-place-smaller g c =
     let within = c.in-Some.ensures.first.within in
     let shorter = c.skim-rest-in-Some.ensures.shorter in
     omega (arith, shorter, length-drop (c.in-Some.place + 1) rest, within)
+
+pub returns-in_err-end_part-clause-same_terms : goal.returns-in_err-end_part-clause-same_terms
+returns-in_err-end_part-clause-same_terms g c =
+    c.in_err-end_part.ensures.same_terms ∙ c.loop-place.invariant.same_terms
+    ∙ c.skim-rest.ensures.fed.same_terms
+
+pub returns-in_err-keep-clause-same_terms : goal.returns-in_err-keep-clause-same_terms
+returns-in_err-keep-clause-same_terms g c =
+    ap g.R.PartReader.terms c.in_err-keep.ensures.same_reader ∙ c.loop-place.invariant.same_terms
+    ∙ c.skim-rest.ensures.fed.same_terms
+
+pub returns-clause-same_terms : goal.returns-clause-same_terms
+returns-clause-same_terms g c =
+    ap g.R.PartReader.terms c.in_ok-keep.ensures.same_reader ∙ c.loop-place.invariant.same_terms
+    ∙ c.skim-rest.ensures.fed.same_terms
+
+pub returns-in_err-end_part-clause-same_names : goal.returns-in_err-end_part-clause-same_names
+returns-in_err-end_part-clause-same_names g c =
+    c.in_err-end_part.ensures.same_names ∙ c.loop-place.invariant.same_names
+    ∙ c.skim-rest.ensures.fed.same_names
+
+pub returns-in_err-keep-clause-same_names : goal.returns-in_err-keep-clause-same_names
+returns-in_err-keep-clause-same_names g c =
+    ap g.R.PartReader.names c.in_err-keep.ensures.same_reader ∙ c.loop-place.invariant.same_names
+    ∙ c.skim-rest.ensures.fed.same_names
+
+pub returns-clause-same_names : goal.returns-clause-same_names
+returns-clause-same_names g c =
+    ap g.R.PartReader.names c.in_ok-keep.ensures.same_reader ∙ c.loop-place.invariant.same_names
+    ∙ c.skim-rest.ensures.fed.same_names
+
+pub loop-place-init : goal.loop-place-init
+loop-place-init g c = fed-none _ _ _ _ _ _ _ _ _
