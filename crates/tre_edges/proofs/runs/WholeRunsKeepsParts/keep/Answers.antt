@@ -7,6 +7,9 @@ use Rattle.tre_edges.proofs.PartsOfRuns.{added, part_ended, span_zone}
 use Rattle.tre_edges.proofs.RunLists.{AreRuns-push}
 use Rattle.tre_edges.proofs.runs.WholeRunsKeepsParts.keep.Goals as goal
 
+pub span-requires-clause-rising : goal.span-requires-clause-rising
+span-requires-clause-rising c = c.requires.rising
+
 pub returns-clause-stands : goal.returns-clause-stands
 returns-clause-stands c =
     on_ok_weaker c.push_disjoint.result
