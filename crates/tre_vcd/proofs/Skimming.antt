@@ -1,7 +1,7 @@
 -- Tokens among the values, that are read one after the other.
 use Rattle.std.specs.Global.{Vec}
 use Rattle.std.specs.Str.Parse.{digits_value}
-use Rattle.std.proofs.Common.{◌≡◌, ◌≢◌, ℕ, ◌+◌, ◌-◌, ◌*◌, ◌^◌, ◌≤◌, min, ◌==◌, true, false, List, [], ◌∷◌, append-nil, length, map, Result, refl, sym, ap, ◌∙◌, subst, arith, if◌then◌else◌}
+use Rattle.std.proofs.Common.{◌≡◌, ◌≢◌, ℕ, ◌+◌, ◌-◌, ◌*◌, ◌^◌, ◌≤◌, ◌<◌, min, nat_lt, ◌==◌, true, false, List, [], ◌∷◌, append-nil, length, map, Result, refl, sym, ap, ◌∙◌, subst, arith, if◌then◌else◌}
 use Rattle.std.proofs.Math.Dec.{eqb-suc-zero}
 use Rattle.std.proofs.lemmas.Bool.Decides.{nat_tests}
 use Rattle.tre_decimal.specs.Decimal.{is_numeral}
@@ -9,12 +9,13 @@ use Rattle.tre_pairs.specs.declared.TheConstants.{TIME_MAX}
 use Rattle.tre_parts.specs.Bytes.{between, IsNextAt}
 use Rattle.tre_parts.specs.Format.{Step}
 use Rattle.tre_parts.specs.Skims.{Skims}
-use Rattle.tre_parts.specs.Walk.{AddsPart, PartGoesOn}
+use Rattle.tre_parts.specs.Walk.{AddsPart, IsWrong, PartGoesOn}
 use Rattle.tre_parts.specs.declared.TheConstants.{PART_MAX}
 use Rattle.tre_parts.specs.declared.skimmed.Skimmed.{Skimmed}
 use Rattle.tre_parts.proofs.Skimming.{skims-next, skims-kept}
 use Rattle.tre_trace.specs.Reading.{Vocabulary}
 use Rattle.tre_trace.specs.declared.fault.TraceKind.{TraceKind}
+use Rattle.tre_trace.specs.declared.fault.TraceKind.TheVariants.{Spent, TimeBack}
 use Rattle.tre_trace.specs.declared.segment.Segment.{Segment}
 use Rattle.tre_vcd.specs.Kept.{KnowsOfPast}
 use Rattle.tre_vcd.specs.Offers.{KnowOffers}
@@ -204,6 +205,23 @@ module _ (terms : Terms) (past : List Statement) (digits : List ℕ) (ticks : �
         (other_time ticks (time_at past) apart);
     is_held = held;
   }
+
+below : (a b : ℕ) → a < b → nat_lt a b ≡ true
+below a b lt = grind (arith, nat_tests)
+
+-- a time below the last one, which is a fault
+pub time-back : (terms : Terms) (past : List Statement) (digits : List ℕ) (ticks : ℕ)
+    → is_numeral digits ≡ true
+    → ticks ≡ min (digits_value 10 digits * 10 ^ terms.scale) (2 ^ 64 - 1)
+    → ticks < time_at past → time_at past < 2 ^ 64
+    → IsWrong (ticks_say terms past digits) TimeBack
+time-back terms past digits ticks numeral value back fits =
+    let exact : digits_value 10 digits * 10 ^ terms.scale ≡ ticks =
+    omega (arith, value, back, fits) in
+    record {
+      says = λ other. rw (numeral, exact, below ticks (time_at past) back) refl;
+      never_spent = λ (e : TimeBack ≡ Spent). cc;
+    }
 
 -- ---- one token more
 
