@@ -35,11 +35,27 @@ returns-in_err-question-clause-ends g c =
     })
     c.in_err-question.field-0.0 stopped.refuses stopped.unread stopped.wanting)
 
+pub returns-in_err-question-clause-untouched : goal.returns-in_err-question-clause-untouched
+returns-in_err-question-clause-untouched g c = λ nothing. (refl, refl)
+
+pub returns-in_err-question-clause-nothing_first :
+    goal.returns-in_err-question-clause-nothing_first
+returns-in_err-question-clause-nothing_first g c = λ first. (refl, refl)
+
+pub returns-in_err-question-clause-source_untouched :
+    goal.returns-in_err-question-clause-source_untouched
+returns-in_err-question-clause-source_untouched g c = λ job gives unread. refl
+
 pub returns-in_err-question-clause-checks_untouched :
     goal.returns-in_err-question-clause-checks_untouched
 returns-in_err-question-clause-checks_untouched g c = λ never.
     kept_by (map string_bytes c.args.words.now) c.in_ok-job.job _ c.in_ok-job.ensures.ok
     c.in_err-question.ensures.untouched never
+
+pub returns-in_err-question-clause-reads : goal.returns-in_err-question-clause-reads
+returns-in_err-question-clause-reads g c = λ job gives opened.
+    let closed = c.requires.input in
+    cc
 
 pub returns-in_err-question-clause-checks_by_name :
     goal.returns-in_err-question-clause-checks_by_name
@@ -49,6 +65,9 @@ returns-in_err-question-clause-checks_by_name g c = λ job file gives watches op
     c.in_ok-job.ensures.ok gives watches (c.in_err-question.ensures.by_name opened)
 
 -- ---- an answer that ended before its end
+
+pub answer-requires-clause-closed : goal.answer-requires-clause-closed
+answer-requires-clause-closed g c = c.requires.input
 
 pub returns-in_err-answer-clause-ends : goal.returns-in_err-answer-clause-ends
 returns-in_err-answer-clause-ends g c =
