@@ -66,8 +66,8 @@ impl View {
         self.events.seen(wide)
     }
 
-    /// Whether all that is true or happens in these segments is the pattern's: each is for the
-    /// pattern what it was read as.
+    /// Whether it is seen at a glance that all that is true or happens in these segments is the
+    /// pattern's: then each is for the pattern what it was read as. False says nothing.
     pub fn shows_all(&self, row: &[Segment]) -> bool
         ensures { IsTrue result → map (shown_segment self.now) row.now ≡ row.now }
     {
