@@ -18,7 +18,7 @@ use crate::operand::{self, Operand, at_least_once, joined, repeated, restricted}
 use crate::states::{self, state};
 use crate::token::Token;
 use std::alloc::{AllocError, Global};
-use tre_syntax::Expr;
+use tre_syntax::{Expr, beside};
 
 /// Expressions that are joined in one way, which are grouped to the left. With `|`, which binds
 /// least, between them they are a whole expression.
@@ -77,22 +77,11 @@ fn operand(alloc: Global, tokens: &mut Cursor) -> Result<Operand, Stop>
             Token::Percent => {
                 tokens.advance();
                 let at = tokens.left();
-                let (body, within) = both(whole, interval(tokens))?;
+                let (within, body) = beside(interval(tokens), whole)?;
                 whole = restricted(alloc, body, within, at)?;
             }
             _ => return not_ended(whole, tokens),
         }
-    }
-}
-
-// What was read, and what was read behind it, unless that stops.
-fn both<A: Drop, B: Drop>(first: A, second: Result<B, Stop>) -> Result<(A, B), Stop>
-    ensures ok { IfOk result (λ pair. (pair.0 ≡ first) × (second ≡ Ok pair.1)) }
-    ensures err { IfErr result (λ stop. second ≡ Err stop) }
-{
-    match second {
-        Ok(second) => Ok((first, second)),
-        Err(stop) => Err(stop),
     }
 }
 

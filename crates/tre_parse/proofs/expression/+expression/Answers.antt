@@ -1,10 +1,10 @@
-use Rattle.std.proofs.Common.{◌≡◌, ◌≢◌, ◌≤◌, ℕ, false, Option, None, Result, Ok, Err, List, length, subst, arith, ◌∙◌, ◌∷◌, refl, sym, ap}
+use Rattle.std.proofs.Common.{◌≡◌, ◌≢◌, ◌≤◌, ℕ, false, Option, Result, Ok, Err, List, length, subst, arith, ◌∙◌, ◌∷◌, refl, sym, ap, rules}
 use Rattle.std.specs.Prelude.{IfOk, IfErr}
 use Rattle.std.proofs.lemmas.Result.{err_from_is_err_and}
 use Rattle.std.specs.Option.{option_or}
 use Rattle.tre_syntax.specs.PatternTree.{PatternTree, atom, empty, sequence, alternation, repetition, restriction}
 use Rattle.tre_parse.specs.declared.token.Token.{Token}
-use Rattle.tre_parse.specs.declared.token.Token.TheVariants.{Eps, LeftParen, RightParen, Star, Plus, Question, Percent, Ends}
+use Rattle.tre_parse.specs.declared.token.Token.TheVariants.{LeftParen, RightParen, Star, Plus, Question, Percent, Ends}
 use Rattle.tre_parse.specs.declared.cursor.Stop.{Stop}
 use Rattle.tre_parse.specs.declared.cursor.Stop.TheVariants.{Syntax}
 use Rattle.tre_parse.specs.declared.connective.Join.TheVariants.{Alternation}
@@ -19,7 +19,7 @@ use Rattle.tre_parse.proofs.Counts.{leaf_counts}
 use Rattle.tre_parse.proofs.Equations.{not_sign, passed, unpassed, expression_begins, expression_goes_on, expression_ends, operand_begins, star_read, plus_read, question_read, percent_read, operand_ends, ends_stop, eps_read, parens_read, no_sign_behind}
 use Rattle.tre_parse.proofs.Steps.{goes_past, one_shorter, goes_here, goes_first, goes_turned, goes_on, goes_joined, stops_first, stops_joined, stops_at}
 use Rattle.tre_parse.specs.Unkept.{FindsUpTo, unkept_at}
-use Rattle.tre_parse.proofs.Unkept.{or_none, up_to_past, up_to_end, up_to_joined, up_to_interval, join_no_percent}
+use Rattle.tre_parse.proofs.Unkept.{or_none, up_to_past, up_to_end, up_to_joined, up_to_interval}
 use Rattle.tre_parse.proofs.expression.+expression.Goals as goal
 
 pub expression-returns-in_err-whole-clause-reads : goal.expression-returns-in_err-whole-clause-reads
@@ -31,13 +31,8 @@ expression-returns-in_err-whole-clause-reads t c =
     (expression_begins c.args.how c.args.tokens.now) c.in_err-whole.ensures.reads)
 
 pub expression-loop-alloc-init : goal.expression-loop-alloc-init
-expression-loop-alloc-init t c = record {
-  reads = goes_first (read_pattern (expression_by c.args.how) c.args.tokens.now)
-      (λ e us. read_pattern (expression_after c.args.how e) us)
-      (expression_begins c.args.how c.args.tokens.now) c.in_ok-whole.ensures.reads;
-  shorter = c.in_ok-whole.ensures.shorter;
-  unkept = c.in_ok-whole.ensures.unkept;
-}
+expression-loop-alloc-init t c =
+    search (rules, goes_first, read_pattern, expression_by, expression_after, expression_begins)
 
 pub expression-returns-in_err-next-clause-reads : goal.expression-returns-in_err-next-clause-reads
 expression-returns-in_err-next-clause-reads t c =
@@ -53,33 +48,21 @@ expression-returns-in_err-next-clause-reads t c =
 
 pub expression-loop-alloc-preserved : goal.expression-loop-alloc-preserved
 expression-loop-alloc-preserved t c =
-    let e = c.loop-alloc-test.ensures ∙ ap (λ s. s ∷ c.accept.new.self) c.sign.ensures in
-    let n = one_shorter c.loop-alloc.tokens c.accept.new.self (join_sign c.args.how) e in
-    record {
-      reads = goes_joined c.in_ok-whole-2.whole
-          (λ x. read_pattern (expression_after c.args.how x) c.part-in-loop-alloc.new.tokens)
-          (joined_by c.args.how)
-          (λ x y us. read_pattern (expression_after c.args.how (joined_by c.args.how x y)) us)
-          c.loop-alloc.invariant.reads c.in_ok-next.ensures.reads c.in_ok-whole-2.ensures.stands
-          (λ x. ap (λ ts. read_pattern (expression_after c.args.how x) ts) e
-          ∙ expression_goes_on c.args.how x c.accept.new.self) (λ x y. refl);
-      shorter = omega (arith, n, c.in_ok-next.ensures.shorter, c.loop-alloc.invariant.shorter);
-      unkept = up_to_joined c.args.tokens.now c.loop-alloc.tokens c.part-in-loop-alloc.new.tokens
-          c.loop-alloc.whole.unkept c.in_ok-next.next.unkept c.in_ok-whole-2.whole.unkept
-          c.loop-alloc.invariant.unkept
-          (up_to_past (join_sign c.args.how) c.loop-alloc.tokens c.accept.new.self
-          c.part-in-loop-alloc.new.tokens c.in_ok-next.next.unkept e
-          (join_no_percent c.args.how) c.in_ok-next.ensures.unkept)
-          c.in_ok-whole-2.ensures.unkept;
-    }
+    search (
+      rules,
+      one_shorter,
+      join_sign,
+      goes_joined,
+      read_pattern,
+      expression_after,
+      joined_by,
+      expression_goes_on,
+      up_to_joined,
+    )
 
 pub expression-returns-clause-reads : goal.expression-returns-clause-reads
 expression-returns-clause-reads t c =
-    let h = c.loop-alloc-test.ensures in
-    let n = not_sign (join_sign c.args.how) (front c.loop-alloc.tokens)
-    (λ q. h.1 (q ∙ sym c.sign.ensures)) in
-    goes_on (λ e. got e c.accept.new.self) c.loop-alloc.invariant.reads
-    (λ e. expression_ends c.args.how e c.loop-alloc.tokens n ∙ ap (λ ts. got e ts) (sym h.0))
+    search (rules, not_sign, join_sign, front, goes_on, got, expression_ends, c.args.how)
 
 pub expression-returns-clause-unkept : goal.expression-returns-clause-unkept
 expression-returns-clause-unkept t c =
@@ -88,10 +71,7 @@ expression-returns-clause-unkept t c =
 
 pub primary-expression-requires : goal.primary-expression-requires
 primary-expression-requires t c =
-    let e = goes_past c.args.tokens.now c.advance-in-LeftParen.new.self LeftParen
-    c.in-LeftParen.ensures (λ q. cc) c.advance-in-LeftParen.ensures in
-    let n = one_shorter c.args.tokens.now c.advance-in-LeftParen.new.self LeftParen e in
-    (omega (arith, n), tt)
+    search (rules, c.args.tokens.now, c.advance-in-LeftParen.new.self, c.in-LeftParen.ensures)
 
 pub primary-returns-in_err-inside-in-LeftParen-clause-reads
     : goal.primary-returns-in_err-inside-in-LeftParen-clause-reads
@@ -111,10 +91,7 @@ closed_reads : (r : Result Operand Stop) (inside : Operand) (q : Reading Pattern
     → ReadingGoes Represents inside q (λ x. run read (expect RightParen (give x)) us)
     → IfOk r (λ x. (x ≡ inside) × (us ≡ RightParen ∷ new))
     → IfErr r (λ s. Passes RightParen (Err s) us new) → IsReadAs Represents q r new
-closed_reads (Ok x) inside q us new h ok err =
-    let P = λ (y : Operand). ReadingGoes Represents y q (λ t. got t new) in
-    subst P (sym ok.0) (goes_on (λ t. got t new) h
-    (λ t. passed RightParen (give t) us new refl ok.1))
+closed_reads (Ok x) inside q us new h ok err = search (rules, got, goes_on, passed, give)
 closed_reads (Err s) inside q us new h ok err =
     let stopped = λ (t : PatternTree). unpassed RightParen (give t) s us new err in
     stops_at s new h (stopped (atom empty)).0 (λ t. (stopped t).1)
@@ -169,18 +146,11 @@ primary-returns-in_ok-inside-in-LeftParen-clause-unkept t c =
 
 pub primary-returns-in-Eps-clause-unkept : goal.primary-returns-in-Eps-clause-unkept
 primary-returns-in-Eps-clause-unkept t c =
-    let e = goes_past c.args.tokens.now c.advance.new.self Eps c.in-Eps.ensures (λ q. cc)
-    c.advance.ensures in
-    up_to_end Eps c.args.tokens.now c.args.tokens.now c.advance.new.self None c.leaf.result.unkept
-    (λ later h. h) e (λ q. cc) c.leaf.ensures.unkept
+    search (rules, c.args.tokens.now, c.advance.new.self, c.in-Eps.ensures, c.advance.ensures)
 
 pub primary-returns-in-Eps-clause-reads : goal.primary-returns-in-Eps-clause-reads
 primary-returns-in-Eps-clause-reads t c =
-    let e = goes_past c.args.tokens.now c.advance.new.self Eps c.in-Eps.ensures (λ q. cc)
-    c.advance.ensures in
-    goes_here c.leaf.result (atom empty) (read_pattern unsigned c.args.tokens.now)
-    c.advance.new.self (ap (λ ts. read_pattern unsigned ts) e ∙ eps_read c.advance.new.self)
-    (leaf_counts c.leaf.result _ c.leaf.ensures.nodes c.leaf.ensures.tree refl)
+    search (rules, goes_past, goes_here, atom, empty, read_pattern, unsigned, eps_read, leaf_counts)
 
 pub operand-returns-in_err-whole-clause-reads : goal.operand-returns-in_err-whole-clause-reads
 operand-returns-in_err-whole-clause-reads t c =
@@ -191,13 +161,8 @@ operand-returns-in_err-whole-clause-reads t c =
     c.in_err-whole.ensures.reads)
 
 pub operand-loop-tokens-init : goal.operand-loop-tokens-init
-operand-loop-tokens-init t c = record {
-  reads = goes_first (read_pattern operand c.args.tokens.now)
-      (λ x us. read_pattern (operand_after x) us) (operand_begins c.args.tokens.now)
-      c.in_ok-whole.ensures.reads;
-  shorter = c.in_ok-whole.ensures.shorter;
-  unkept = c.in_ok-whole.ensures.unkept;
-}
+operand-loop-tokens-init t c =
+    search (rules, goes_first, read_pattern, operand, operand_after, operand_begins)
 
 pub operand-loop-tokens-preserved-in-Star : goal.operand-loop-tokens-preserved-in-Star
 operand-loop-tokens-preserved-in-Star t c =
@@ -258,18 +223,12 @@ operand-loop-tokens-preserved-in-Question t c =
 
 percent_err : (r : Result (Option IntervalEnds) Stop) (s : Stop) (us new : List Token)
     → IsReadAs IsMadeOf (read of_interval us) r new → r ≡ Err s → Stops (read of_interval us) s new
-percent_err r s us new h e =
-    let P = λ (q : Result (Option IntervalEnds) Stop).
-    IsReadAs IsMadeOf (read of_interval us) q new in
-    subst P e h
+percent_err r s us new h e = search (rules, read, of_interval)
 
 percent_ok : (r : Result (Option IntervalEnds) Stop) (w : Option IntervalEnds) (us new : List Token)
     → IsReadAs IsMadeOf (read of_interval us) r new → r ≡ Ok w
     → ReadingGoes IsMadeOf w (read of_interval us) (λ ends. got ends new)
-percent_ok r w us new h e =
-    let P = λ (q : Result (Option IntervalEnds) Stop).
-    IsReadAs IsMadeOf (read of_interval us) q new in
-    subst P e h
+percent_ok r w us new h e = search (rules, read, of_interval)
 
 percent_shorter : (r : Result (Option IntervalEnds) Stop) (w : Option IntervalEnds)
     (us new : List Token)
@@ -278,22 +237,22 @@ percent_shorter r w us new h e =
     let P = λ (q : Result (Option IntervalEnds) Stop). IfOk q (λ x. length new ≤ length us) in
     subst P e h
 
-pub operand-returns-in_err-body-in-Percent-clause-reads
-    : goal.operand-returns-in_err-body-in-Percent-clause-reads
-operand-returns-in_err-body-in-Percent-clause-reads t c =
+pub operand-returns-in_err-within-in-Percent-clause-reads
+    : goal.operand-returns-in_err-within-in-Percent-clause-reads
+operand-returns-in_err-within-in-Percent-clause-reads t c =
     let e = goes_past c.loop-tokens.tokens c.advance-in-Percent.new.self Percent
     c.in-Percent.ensures (λ q. cc) c.advance-in-Percent.ensures in
-    let p = err_from_is_err_and c.from_residual-in_err-body-in-Percent.result
-    c.from_residual-in_err-body-in-Percent.ensures.1 in
+    let p = err_from_is_err_and c.from_residual-in_err-within-in-Percent.result
+    c.from_residual-in_err-within-in-Percent.ensures.1 in
     rw (p.1, p.2) (stops_joined (read of_interval c.advance-in-Percent.new.self)
-    c.in_err-body-in-Percent.field-0.0 c.interval.new.tokens
+    c.in_err-within-in-Percent.field-0.0 c.interval.new.tokens
     (λ x ends us. read_pattern (operand_after (restriction x ends)) us)
     c.loop-tokens.invariant.reads
     (λ x. ap (λ ts. read_pattern (operand_after x) ts) e
     ∙ percent_read x c.advance-in-Percent.new.self)
-    (percent_err c.interval.result c.in_err-body-in-Percent.field-0.0
+    (percent_err c.interval.result c.in_err-within-in-Percent.field-0.0
     c.advance-in-Percent.new.self c.interval.new.tokens c.interval.ensures.reads
-    c.in_err-body-in-Percent.ensures.err))
+    c.in_err-within-in-Percent.ensures.err))
 
 pub operand-loop-tokens-preserved : goal.operand-loop-tokens-preserved
 operand-loop-tokens-preserved t c =
@@ -301,19 +260,19 @@ operand-loop-tokens-preserved t c =
     c.in-Percent.ensures (λ q. cc) c.advance-in-Percent.ensures in
     let n = one_shorter c.loop-tokens.tokens c.advance-in-Percent.new.self Percent e in
     let us = c.advance-in-Percent.new.self in
-    let w = c.in_ok-body-in-Percent.within in
-    let same = c.in_ok-body-in-Percent.ensures.ok in
+    let w = c.in_ok-within-in-Percent.within in
+    let same = c.in_ok-within-in-Percent.ensures in
     let reads = percent_ok c.interval.result w us c.interval.new.tokens c.interval.ensures.reads
-    same.1 in
+    same.first in
     let short = percent_shorter c.interval.result w us c.interval.new.tokens
-    c.interval.ensures.shorter same.1 in
+    c.interval.ensures.shorter same.first in
     record {
       reads = goes_joined c.in_ok-whole-in-Percent.whole
           (λ x. read_pattern (operand_after x) c.interval.new.tokens) restriction
           (λ x ends us. read_pattern (operand_after (restriction x ends)) us)
           c.loop-tokens.invariant.reads reads
           (λ x ends h m. c.in_ok-whole-in-Percent.ensures.stands x ends m
-          (subst (λ y. Represents y x) (sym same.0) h))
+          (subst (λ y. Represents y x) (sym same.second) h))
           (λ x. ap (λ ts. read_pattern (operand_after x) ts) e ∙ percent_read x us)
           (λ x ends. refl);
       shorter = omega (arith, n, short, c.loop-tokens.invariant.shorter);
@@ -323,7 +282,7 @@ operand-loop-tokens-preserved t c =
           (subst (λ ts. FindsUpTo ts c.interval.new.tokens (unkept_at w (length us)))
           (sym e) (up_to_interval w us c.interval.new.tokens reads))
           (c.in_ok-whole-in-Percent.ensures.unkept
-          ∙ ap (λ (y : Operand). option_or y.unkept (unkept_at w c.left-at.result)) same.0
+          ∙ ap (λ (y : Operand). option_or y.unkept (unkept_at w c.left-at.result)) same.second
           ∙ ap (λ k. option_or c.loop-tokens.whole.unkept (unkept_at w k)) c.left-at.ensures);
     }
 
@@ -362,9 +321,7 @@ operand-returns-in_default-clause-reads t c =
     c.not_ended.ensures.err
 
 pub operand-returns-in_default-clause-shorter : goal.operand-returns-in_default-clause-shorter
-operand-returns-in_default-clause-shorter t c =
-    ended_shorter c.not_ended.result c.loop-tokens.tokens c.args.tokens.now
-    c.loop-tokens.invariant.shorter
+operand-returns-in_default-clause-shorter t c = ended_shorter _ _ _ c.loop-tokens.invariant.shorter
 
 pub operand-returns-in_default-clause-unkept : goal.operand-returns-in_default-clause-unkept
 operand-returns-in_default-clause-unkept t c =
