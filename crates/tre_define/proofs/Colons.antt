@@ -1,8 +1,7 @@
 -- No number has a bracket, and so no range has one between its own.
-use Rattle.std.proofs.Common.{◌≡◌, ℕ, zero, suc, ◌+◌, ◌-◌, ◌^◌, ◌<◌, ◌≤◌, ◌⊎◌, Bool, true, false, ℤ, pos, neg_ℤ, List, [], ◌∷◌, length, take, drop, get_or, Option, None, Some, option_map, inl, inr, refl, sym, ap, ◌∙◌, arith}
-use Rattle.std.specs.Prelude.{nat_le, nat_lt, position, ◌&&◌, ◌==◌, if◌then◌else◌}
-use Rattle.std.specs.Char.{is_ascii_digit}
-use Rattle.std.specs.List.{after_first, before_first, list_all, position_or_len}
+use Rattle.std.proofs.Common.{◌≡◌, ℕ, zero, suc, ◌+◌, ◌-◌, ◌<◌, ◌≤◌, ◌⊎◌, Bool, true, false, ℤ, pos, neg_ℤ, List, [], ◌∷◌, length, take, drop, get_or, Option, None, Some, option_map, inl, inr, refl, sym, ap, ◌∙◌, arith, rules}
+use Rattle.std.specs.Prelude.{position, ◌&&◌, ◌==◌, if◌then◌else◌}
+use Rattle.std.specs.List.{after_first, before_first, position_or_len}
 use Rattle.std.specs.Str.Parse.{digits_value}
 use Rattle.std.proofs.lemmas.Bool.{cases_lt, false≢true}
 use Rattle.std.proofs.lemmas.List.{drop_all, get_or-drop, get_or-take, length-drop, length-take}
@@ -23,19 +22,12 @@ failed true true c x e = absurd (false≢true (sym e))
 
 small-bracket : (digits : List ℕ) (k : ℕ) → k < length digits → get_or digits k 0 ≡ 91
     → small_in digits ≡ None
-small-bracket digits k below bracket =
-    failed (nat_lt 0 (length digits)) (list_all is_ascii_digit digits)
-    (nat_le (digits_value 10 digits) (2 ^ 31 - 1)) (digits_value 10 digits)
-    (list_all_at is_ascii_digit digits k 0 below (ap is_ascii_digit bracket))
+small-bracket digits k below bracket = search (rules, failed, digits_value, list_all_at)
 
 number-bracket : (bytes : List ℕ) (k : ℕ) → k < length bytes → get_or bytes k 0 ≡ 91
     → number_in bytes ≡ None
 number-bracket [] k below bracket = refl
-number-bracket (byte ∷ bytes) zero below bracket =
-    let plus : (byte == 45) ≡ false = ap (λ b. b == 45) bracket in
-    ap (λ t. if t then option_map (λ number. neg_ℤ (pos number)) (small_in bytes)
-    else option_map pos (small_in (byte ∷ bytes))) plus
-    ∙ ap (option_map pos) (small-bracket (byte ∷ bytes) 0 below bracket)
+number-bracket (byte ∷ bytes) zero below bracket = search rules
 number-bracket (byte ∷ bytes) (suc k) below bracket = by (byte == 45) where
   by : (minus : Bool) → (if minus then option_map (λ number. neg_ℤ (pos number)) (small_in bytes)
       else option_map pos (small_in (byte ∷ bytes))) ≡ None
@@ -46,12 +38,7 @@ number-bracket (byte ∷ bytes) (suc k) below bracket = by (byte == 45) where
 
 -- Bytes without a colon are none,
 pub no-colon : (text : List ℕ) → position is_colon text ≡ None → range_between text ≡ None
-no-colon text none =
-    let all = none_len is_colon text none in
-    let empty : after_first is_colon text ≡ [] =
-    drop_all (position_or_len is_colon text + 1) text (omega (arith, all)) in
-    ap (λ rest. range_within (number_in (before_first is_colon text)) (number_in rest)) empty
-    ∙ range_of-none (number_in (before_first is_colon text))
+no-colon text none = search (rules, none_len, is_colon, drop_all, range_within, number_in)
 
 -- and others are cut at the first one.
 pub at-colon : (text : List ℕ) (colon : ℕ) → position is_colon text ≡ Some colon

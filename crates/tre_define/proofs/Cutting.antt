@@ -1,5 +1,5 @@
 -- A text is cut into its parts in one way.
-use Rattle.std.proofs.Common.{◌≡◌, ℕ, zero, suc, ◌+◌, ◌<◌, Bool, true, false, cond, Option, Some, None, List, [], ◌∷◌, ◌++◌, length, take, drop, replicate, refl, sym, ap, ◌∙◌, arith}
+use Rattle.std.proofs.Common.{◌≡◌, ℕ, zero, suc, ◌+◌, ◌<◌, Bool, true, false, cond, Option, Some, None, List, [], ◌∷◌, ◌++◌, length, take, drop, replicate, refl, sym, ap, ◌∙◌, arith, rules}
 use Rattle.std.specs.Prelude.{◌==◌, ◌&&◌, if◌then◌else◌}
 use Rattle.std.specs.List.{list_all, prefix_len}
 use Rattle.std.specs.Str.{IsAscii}
@@ -11,7 +11,7 @@ use Rattle.tre_state.specs.Name.{continues_name, starts_name, IsWord}
 use Rattle.tre_define.specs.declared.comparison.Comparison.{Comparison}
 use Rattle.tre_define.specs.declared.comparison.Comparison.TheVariants.{Less, AtMost, Greater, AtLeast, Equal, Unequal}
 use Rattle.tre_define.specs.Texts.{IsSpaced, is_space, sign_text}
-use Rattle.tre_define.specs.Pieces.{Signed, behind_equals, behind_piece, double_sign, past_spaces, piece, sign_in, single_sign}
+use Rattle.tre_define.specs.Pieces.{Signed, behind_equals, behind_piece, past_spaces, piece, sign_in, single_sign}
 
 -- ---- the longest run
 
@@ -31,8 +31,7 @@ second false b e = absurd (false≢true e)
 pub run-length : (test : ℕ → Bool) (run rest : List ℕ) → list_all test run ≡ true → Stops test rest
     → prefix_len test (run ++ rest) ≡ length run
 run-length test [] [] all stops = refl
-run-length test [] (byte ∷ bytes) all stops =
-    ap (λ t. cond t (1 + prefix_len test bytes) 0) stops
+run-length test [] (byte ∷ bytes) all stops = search rules
 run-length test (byte ∷ run) rest all stops =
     let here = first (test byte) (list_all test run) all in
     let more = run-length test run rest (second (test byte) (list_all test run) all) stops in
@@ -40,15 +39,11 @@ run-length test (byte ∷ run) rest all stops =
 
 pub run-taken : (test : ℕ → Bool) (run rest : List ℕ) → list_all test run ≡ true → Stops test rest
     → take (prefix_len test (run ++ rest)) (run ++ rest) ≡ run
-run-taken test run rest all stops =
-    ap (λ n. take n (run ++ rest)) (run-length test run rest all stops)
-    ∙ take_at run rest (length run) refl
+run-taken test run rest all stops = search (rules, run-length, take_at)
 
 pub run-dropped : (test : ℕ → Bool) (run rest : List ℕ) → list_all test run ≡ true → Stops test rest
     → drop (prefix_len test (run ++ rest)) (run ++ rest) ≡ rest
-run-dropped test run rest all stops =
-    ap (λ n. drop n (run ++ rest)) (run-length test run rest all stops)
-    ∙ drop_at run rest (length run) refl
+run-dropped test run rest all stops = search (rules, run-length, drop_at)
 
 abbrev pub spaces : ℕ → List ℕ
 spaces count = replicate count 32
@@ -83,21 +78,10 @@ spaces-taken (byte ∷ bytes) = by (byte == 32) refl (spaces-taken bytes) where
 
 -- ---- a part and the spaces round it
 
--- a byte of a run is no space
-pub no_space : (test : ℕ → Bool) (byte : ℕ) → test 32 ≡ false → test byte ≡ true
-    → is_space byte ≡ false
-no_space test byte never passes = by (byte == 32) refl where
-  by : (space : Bool) → (byte == 32) ≡ space → space ≡ false
-  by true e =
-      let same : byte ≡ 32 = grind (arith, nat_tests) in
-      absurd (false≢true (sym never ∙ sym (ap test same) ∙ passes))
-  by false e = refl
-
 pub starts-run : (test : ℕ → Bool) (run rest : List ℕ) → test 32 ≡ false → list_all test run ≡ true
     → 0 < length run → Stops is_space (run ++ rest)
 starts-run test [] rest never all some = absurd (omega arith)
-starts-run test (byte ∷ run) rest never all some =
-    no_space test byte never (first (test byte) (list_all test run) all)
+starts-run test (byte ∷ run) rest never all some = search rules
 
 pub stops-spaces : (test : ℕ → Bool) (count : ℕ) (rest : List ℕ) → test 32 ≡ false
     → Stops test rest → Stops test (spaces count ++ rest)
@@ -160,34 +144,14 @@ choice : (byte sign : ℕ) (rest : List ℕ) (one : Signed) (others : Option Sig
     → (others ≡ Some signed → byte ∷ rest ≡ sign_text signed.comparison ++ signed.rest)
     → (if byte == sign then Some one else others) ≡ Some signed
     → byte ∷ rest ≡ sign_text signed.comparison ++ signed.rest
-choice byte sign rest one others signed here more is = by (byte == sign) refl is where
-  by : (same : Bool) → (byte == sign) ≡ same
-      → (if same then Some one else others) ≡ Some signed
-      → byte ∷ rest ≡ sign_text signed.comparison ++ signed.rest
-  by true e is =
-      let equal : byte ≡ sign = grind (arith, nat_tests) in
-      let told : one ≡ signed = cc in
-      ap (λ b. b ∷ rest) equal ∙ here ∙ ap (λ s. sign_text s.comparison ++ s.rest) told
-  by false e is = more is
+choice byte sign rest one others signed here more is = search rules
 
 pub never : (signed : Signed) → None ≡ Some signed → ⊥
 never signed e = cc
 
 single : (byte : ℕ) (rest : List ℕ) (signed : Signed) → single_sign byte rest ≡ Some signed
     → byte ∷ rest ≡ sign_text signed.comparison ++ signed.rest
-single byte rest signed is =
-    choice byte 60 rest (record { comparison = Less; rest = rest }) _ signed refl
-    (choice byte 62 rest (record { comparison = Greater; rest = rest }) _ signed refl
-    (λ none. absurd (never signed none))) is
-
-double : (byte : ℕ) (rest : List ℕ) (signed : Signed) → double_sign byte rest ≡ Some signed
-    → byte ∷ 61 ∷ rest ≡ sign_text signed.comparison ++ signed.rest
-double byte rest signed is =
-    choice byte 60 (61 ∷ rest) (record { comparison = AtMost; rest = rest }) _ signed refl
-    (choice byte 62 (61 ∷ rest) (record { comparison = AtLeast; rest = rest }) _ signed refl
-    (choice byte 61 (61 ∷ rest) (record { comparison = Equal; rest = rest }) _ signed refl
-    (choice byte 33 (61 ∷ rest) (record { comparison = Unequal; rest = rest }) _ signed refl
-    (λ none. absurd (never signed none))))) is
+single byte rest signed is = search rules
 
 pub sign-is : (comparison : Comparison) (tail : List ℕ) → Stops (λ byte. byte == 61) tail
     → sign_in (sign_text comparison ++ tail)
@@ -205,14 +169,7 @@ pub sign-splits : (bytes : List ℕ) (signed : Signed) → sign_in bytes ≡ Som
     → bytes ≡ sign_text signed.comparison ++ signed.rest
 sign-splits [] signed is = cc
 sign-splits (byte ∷ []) signed is = single byte [] signed is
-sign-splits (byte ∷ next ∷ rest) signed is = by (next == 61) refl is where
-  by : (equals : Bool) → (next == 61) ≡ equals
-      → (if equals then double_sign byte rest else single_sign byte (next ∷ rest)) ≡ Some signed
-      → byte ∷ next ∷ rest ≡ sign_text signed.comparison ++ signed.rest
-  by true e is =
-      let same : next ≡ 61 = grind (arith, nat_tests) in
-      ap (λ b. byte ∷ b ∷ rest) same ∙ double byte rest signed is
-  by false e is = single byte (next ∷ rest) signed is
+sign-splits (byte ∷ next ∷ rest) signed is = search rules
 
 -- ---- the bytes of names and numbers
 
@@ -222,10 +179,8 @@ start-continues byte starts = grind (arith, nat_tests)
 pub word-passes : (word : List ℕ) → IsWord word
     → (list_all continues_name word ≡ true) × (0 < length word)
 word-passes [] is = absurd is
-word-passes (byte ∷ bytes) is = (
-  rw (start-continues byte is.0, list_all-from_AllPass continues_name bytes is.1) refl,
-  omega arith,
-)
+word-passes (byte ∷ bytes) is =
+    search (rules, start-continues, is, list_all-from_AllPass, continues_name)
 
 -- a sign begins with no byte of a name and no space
 pub sign-stops : (comparison : Comparison) (rest : List ℕ)
@@ -240,20 +195,11 @@ sign-stops Unequal rest = (refl, refl)
 
 pub equals-is : (bytes behind : List ℕ) → behind_equals bytes ≡ Some behind → bytes ≡ 61 ∷ behind
 equals-is [] behind is = cc
-equals-is (byte ∷ rest) behind is = by (byte == 61) refl is where
-  by : (equals : Bool) → (byte == 61) ≡ equals → (if equals then Some rest else None) ≡ Some behind
-      → byte ∷ rest ≡ 61 ∷ behind
-  by true e is =
-      let same : byte ≡ 61 = grind (arith, nat_tests) in
-      let tail : rest ≡ behind = cc in
-      ap (λ b. b ∷ rest) same ∙ ap (λ xs. 61 ∷ xs) tail
-  by false e is = cc
+equals-is (byte ∷ rest) behind is = search rules
 
 pub empty : (bytes : List ℕ) → (length bytes == 0) ≡ true → bytes ≡ []
 empty [] none = refl
-empty (byte ∷ bytes) none =
-    let some : (suc (length bytes) == 0) ≡ false = grind (arith, nat_tests) in
-    absurd (false≢true (sym some ∙ none))
+empty (byte ∷ bytes) none = search rules
 
 pub some-same : {A : Type 0} (x y : A) → Some x ≡ Some y → x ≡ y
 some-same x y e = cc
@@ -292,13 +238,9 @@ spaced-alone test text end =
 
 -- ---- names are ASCII
 
-continues-ascii : (byte : ℕ) → continues_name byte ≡ true → byte < 128
-continues-ascii byte continues = grind (arith, nat_tests)
-
 ascii : (bytes : List ℕ) → list_all continues_name bytes ≡ true → IsAscii bytes
 ascii [] all i = omega arith
-ascii (byte ∷ bytes) all zero =
-    continues-ascii byte (first (continues_name byte) (list_all continues_name bytes) all)
+ascii (byte ∷ bytes) all zero = search rules
 ascii (byte ∷ bytes) all (suc i) =
     ascii bytes (second (continues_name byte) (list_all continues_name bytes) all) i
 

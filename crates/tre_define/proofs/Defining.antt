@@ -1,12 +1,11 @@
 -- The definitions of a text, one part after the other, of whatever kind they are.
-use Rattle.std.proofs.Common.{◌≡◌, ◌≢◌, ℕ, zero, suc, ◌+◌, ◌<◌, Bool, true, false, cond, Option, Some, None, List, [], ◌∷◌, ◌++◌, append_assoc, length, get_or, take, drop, refl, sym, ap, subst, ◌∙◌, arith}
+use Rattle.std.proofs.Common.{◌≡◌, ◌≢◌, ℕ, zero, suc, ◌+◌, ◌<◌, Bool, true, false, cond, Option, Some, None, List, [], ◌∷◌, ◌++◌, append_assoc, length, get_or, take, drop, refl, sym, ap, subst, ◌∙◌, arith, rules}
 use Rattle.std.specs.Prelude.{◌==◌, ◌&&◌, if◌then◌else◌}
 use Rattle.std.specs.List.{AllZip, list_all, position_or_len, prefix_len, slice_split}
 use Rattle.std.specs.Option.{is_some, option_map}
 use Rattle.std.specs.Str.{bytes_eq}
 use Rattle.std.proofs.lemmas.Bool.{false≢true}
 use Rattle.std.proofs.lemmas.Bool.Decides.{nat_tests}
-use Rattle.std.proofs.lemmas.List.{append-nil}
 use Rattle.std.proofs.lemmas.List.Quantifiers.{all_pairs_push}
 use Rattle.std.proofs.lemmas.List.Splits.{slice_split_first, slice_split_none}
 use Rattle.std.proofs.lemmas.List.Sums.{fails_before_first, position_or_len_is}
@@ -74,11 +73,7 @@ module _ {D : Type 0} {Spells : List ℕ → D → Type 0} {name_of : D → List
   -- ---- all parts
 
   pub begins : (all : List (List ℕ)) → HasDefined Spells name_of all [] all
-  begins all = record {
-    front = [];
-    split = refl;
-    good = record { spelt = tt; apart = λ i j d order below. absurd (omega (arith, order, below)) };
-  }
+  begins all = search rules
 
   pub one-more : (all rest : List (List ℕ)) (definitions : List D) (part : List ℕ)
       (defined : D) → HasDefined Spells name_of all definitions (part ∷ rest) → Spells part defined
@@ -106,8 +101,7 @@ module _ {D : Type 0} {Spells : List ℕ → D → Type 0} {name_of : D → List
 
   pub all-defined : (all : List (List ℕ)) (definitions : List D)
       → HasDefined Spells name_of all definitions [] → Define Spells name_of all definitions
-  all-defined all definitions has =
-      subst (λ parts. Define Spells name_of parts definitions) (sym (has.split ∙ append-nil has.front)) has.good
+  all-defined all definitions has = search rules
 
 pub none-mapped : {A B : Type 0} (f : A → B) (found : Option A) → is_some found ≡ false
     → option_map f found ≡ None
@@ -132,10 +126,7 @@ pub next-part : (bytes : List ℕ) (place : ℕ) → place < length bytes
     → slice_split is_semicolon bytes
     ≡ take place bytes ∷ slice_split is_semicolon (drop (place + 1) bytes)
 next-part bytes place below before here =
-    let first : position_or_len is_semicolon bytes ≡ place =
-    position_or_len_is is_semicolon bytes place 0 (omega (arith, below)) before (λ _. here) in
-    slice_split_first is_semicolon bytes 0 (omega (arith, first, below))
-    ∙ ap (λ n. take n bytes ∷ slice_split is_semicolon (drop (n + 1) bytes)) first
+    search (rules, is_semicolon, position_or_len_is, slice_split_first)
 
 -- what is left behind spaces says whether there is anything else
 left : (bytes : List ℕ) → list_all is_space bytes ≡ (length (past_spaces bytes) == 0)

@@ -1,7 +1,6 @@
 -- Two values that have other letters at a bit of a part.
-use Rattle.std.proofs.Common.{◌≡◌, ℕ, zero, suc, ◌+◌, ◌-◌, ◌<◌, ◌≤◌, Bool, true, false, List, length, refl, sym, ap, subst, ◌∙◌, arith}
-use Rattle.std.specs.Prelude.{slice_index, nat_lt, not, ◌||◌, ◌==◌, if◌then◌else◌}
-use Rattle.std.specs.Char.{to_ascii_lowercase}
+use Rattle.std.proofs.Common.{◌≡◌, ℕ, zero, suc, ◌+◌, ◌<◌, ◌≤◌, Bool, true, false, List, length, refl, ap, subst, ◌∙◌, arith, rules}
+use Rattle.std.specs.Prelude.{not, ◌||◌, ◌==◌}
 use Rattle.std.proofs.lemmas.Bool.Decides.{nat_tests}
 use Rattle.tre_define.specs.Values.{differ_from, extension, letter_at}
 
@@ -49,18 +48,10 @@ differ-none low (suc width) old new all =
 
 -- past its letters a value goes on with one
 past : (letters : List ℕ) (bit : ℕ) → length letters ≤ bit → letter_at letters bit ≡ extension letters
-past letters bit beyond =
-    let test : nat_lt bit (length letters) ≡ false = grind (arith, nat_tests) in
-    ap (λ t. if t then to_ascii_lowercase (slice_index letters (length letters - 1 - bit))
-    else extension letters) test
+past letters bit beyond = search rules
 
 -- Past the letters of both values one bit tells of all others.
 pub same-past : (old new : List ℕ) (one other : ℕ) → length old ≤ one → length new ≤ one
     → one ≤ other → letter_at old one ≡ letter_at new one
     → letter_at old other ≡ letter_at new other
-same-past old new one other in_old in_new order same =
-    past old other (omega (arith, in_old, order))
-    ∙ sym (past old one in_old)
-    ∙ same
-    ∙ past new one in_new
-    ∙ sym (past new other (omega (arith, in_new, order)))
+same-past old new one other in_old in_new order same = search rules

@@ -1,10 +1,9 @@
 -- The number that digits write, one after the other.
-use Rattle.std.proofs.Common.{◌≡◌, ℕ, ◌+◌, ◌*◌, ◌-◌, ◌^◌, ◌<◌, ◌≤◌, Bool, true, false, min, Some, None, List, [], ◌∷◌, ◌++◌, length, get_or, take, refl, ap, ◌∙◌, arith}
-use Rattle.std.specs.Prelude.{nat_le, nat_lt, ◌&&◌, if◌then◌else◌}
+use Rattle.std.proofs.Common.{◌≡◌, ℕ, ◌+◌, ◌*◌, ◌-◌, ◌^◌, ◌<◌, ◌≤◌, Bool, true, false, min, Some, None, List, [], ◌∷◌, ◌++◌, length, get_or, take, refl, ap, ◌∙◌, arith, rules}
+use Rattle.std.specs.Prelude.{◌&&◌, if◌then◌else◌}
 use Rattle.std.specs.Char.{digit_value, is_digit}
 use Rattle.std.specs.List.{list_all}
 use Rattle.std.specs.Str.Parse.{digits_value, digits_value_after}
-use Rattle.std.proofs.lemmas.Bool.Decides.{nat_tests}
 use Rattle.std.proofs.lemmas.Grind.{common_steps}
 use Rattle.std.proofs.lemmas.List.{take_more}
 use Rattle.tre_define.specs.Signals.{based}
@@ -47,30 +46,11 @@ passed true false c x y none = refl
 passed false b c x y none = refl
 passed true true true x y none = cc
 
-both-last : (b c : Bool) → c ≡ false → (b && c) ≡ false
-both-last true c e = e
-both-last false c e = refl
-
 pub based-is : (base : ℕ) (digits : List ℕ) → 0 < length digits
     → list_all (λ byte. is_digit byte base) digits ≡ true → digits_value base digits < 2 ^ 64
     → based base digits ≡ Some (digits_value base digits)
-based-is base digits some all small =
-    let one : nat_lt 0 (length digits) ≡ true = grind (arith, nat_tests) in
-    let three : nat_le (digits_value base digits) (2 ^ 64 - 1) ≡ true = grind (arith, nat_tests) in
-    chosen (nat_lt 0 (length digits)) (list_all (λ byte. is_digit byte base) digits)
-    (nat_le (digits_value base digits) (2 ^ 64 - 1)) _ _ one all three
-
-pub based-other : (base : ℕ) (digits : List ℕ)
-    → list_all (λ byte. is_digit byte base) digits ≡ false → based base digits ≡ None
-based-other base digits other =
-    passed (nat_lt 0 (length digits)) (list_all (λ byte. is_digit byte base) digits)
-    (nat_le (digits_value base digits) (2 ^ 64 - 1)) _ _
-    (ap (λ t. t && nat_le (digits_value base digits) (2 ^ 64 - 1)) other)
+based-is base digits some all small = search rules
 
 pub based-large : (base : ℕ) (digits : List ℕ) → 2 ^ 64 ≤ digits_value base digits
     → based base digits ≡ None
-based-large base digits large =
-    let test : nat_le (digits_value base digits) (2 ^ 64 - 1) ≡ false = grind (arith, nat_tests) in
-    passed (nat_lt 0 (length digits)) (list_all (λ byte. is_digit byte base) digits)
-    (nat_le (digits_value base digits) (2 ^ 64 - 1)) _ _
-    (both-last (list_all (λ byte. is_digit byte base) digits) _ test)
+based-large base digits large = search rules

@@ -1,5 +1,5 @@
 -- A text of definitions says one thing, where each of its parts does.
-use Rattle.std.proofs.Common.{◌≡◌, ◌≢◌, ℕ, suc, ◌+◌, ◌<◌, Bool, true, false, cond, Some, None, List, [], ◌∷◌, ◌++◌, length, get_or, refl, sym, ap, subst, ◌∙◌, arith}
+use Rattle.std.proofs.Common.{◌≡◌, ◌≢◌, ℕ, suc, ◌+◌, ◌<◌, Bool, true, false, cond, Some, None, List, [], ◌∷◌, ◌++◌, length, get_or, refl, sym, ap, subst, ◌∙◌, arith, rules}
 use Rattle.std.specs.Prelude.{AllPairs}
 use Rattle.std.specs.List.{AllZip}
 use Rattle.std.specs.Str.{bytes_eq}
@@ -27,12 +27,9 @@ fronts : {P : Type 0} (front other back rest : List (List ℕ)) (part next : Lis
     → ((mid : List (List ℕ)) → other ≡ front ++ part ∷ mid → P)
     → (front ≡ other → part ≡ next → P)
     → ((mid : List (List ℕ)) → front ≡ other ++ next ∷ mid → P) → P
-fronts [] [] back rest part next e longer same shorter =
-    let heads : part ≡ next = cc in same refl heads
-fronts [] (x ∷ xs) back rest part next e longer same shorter =
-    let heads : part ≡ x = cc in longer xs (ap (λ h. h ∷ xs) (sym heads))
-fronts (x ∷ xs) [] back rest part next e longer same shorter =
-    let heads : x ≡ next = cc in shorter xs (ap (λ h. h ∷ xs) heads)
+fronts [] [] back rest part next e longer same shorter = search rules
+fronts [] (x ∷ xs) back rest part next e longer same shorter = search rules
+fronts (x ∷ xs) [] back rest part next e longer same shorter = search rules
 fronts (x ∷ xs) (y ∷ ys) back rest part next e longer same shorter =
     let heads : x ≡ y = cc in
     let tails : xs ++ part ∷ back ≡ ys ++ next ∷ rest = cc in
@@ -135,20 +132,15 @@ module _ {D : Type 0} (Spells : List ℕ → D → Type 0) (name_of : D → List
   pub refused-or : (parts : List (List ℕ)) (definitions : List D) (fault : LetFault)
       → Define Spells name_of parts definitions → PartsAreRefused Spells name_of parts fault → ⊥
   refused-or parts definitions fault all is =
-      no_both is.front is.back is.part definitions is.definitions (length is.front + 1) fault
-      (subst (λ xs. Define Spells name_of xs definitions) is.split all) is.good is.bad
+      search (rules, no_both, is, definitions, is.front, is.back, is.part, is.definitions)
 
   same-fault : (definitions : List D) (number : ℕ) (part : List ℕ) (one other : LetFault)
       → PartHasFault Spells name_of definitions number part one → PartHasFault Spells name_of definitions number part other → one ≡ other
-  same-fault definitions number part (BadLet a) (BadLet b) is also =
-      ap (λ at. BadLet at) (is.0 ∙ sym also.0)
-  same-fault definitions number part (BadLet a) (Twice b) is also =
-      absurd (is.1 also.1.0 also.1.1)
+  same-fault definitions number part (BadLet a) (BadLet b) is also = search rules
+  same-fault definitions number part (BadLet a) (Twice b) is also = search rules
   same-fault definitions number part (BadLet a) Memory is also = absurd also
-  same-fault definitions number part (Twice a) (BadLet b) is also =
-      absurd (also.1 is.1.0 is.1.1)
-  same-fault definitions number part (Twice a) (Twice b) is also =
-      ap (λ at. Twice at) (is.0 ∙ sym also.0)
+  same-fault definitions number part (Twice a) (BadLet b) is also = search rules
+  same-fault definitions number part (Twice a) (Twice b) is also = search rules
   same-fault definitions number part (Twice a) Memory is also = absurd also
   same-fault definitions number part Memory other is also = absurd is
 

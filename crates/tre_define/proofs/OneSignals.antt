@@ -1,5 +1,5 @@
 -- A text of definitions by signals says one thing.
-use Rattle.std.proofs.Common.{◌≡◌, ℕ, List, ◌∷◌, sym, ap, subst, ◌∙◌}
+use Rattle.std.proofs.Common.{◌≡◌, ℕ, List, ◌∷◌, sym, ap, subst, ◌∙◌, rules}
 use Rattle.std.specs.List.{AllZip}
 use Rattle.tre_define.specs.declared.let_fault.LetFault.{LetFault}
 use Rattle.tre_define.specs.Pieces.{past_spaces}
@@ -10,10 +10,7 @@ use Rattle.tre_define.proofs.SignalParts.{AreParts, cut-at, parts-are}
 
 same-fields : (one other : SignalDefined) → one.name ≡ other.name → one.signal ≡ other.signal
     → one.reads ≡ other.reads → one ≡ other
-same-fields one other name signal reads =
-    ap (λ x. record { name = x; signal = one.signal; reads = one.reads }) name
-    ∙ ap (λ x. record { name = other.name; signal = x; reads = one.reads }) signal
-    ∙ ap (λ x. record { name = other.name; signal = other.signal; reads = x }) reads
+same-fields one other name signal reads = search rules
 
 same-parts : (text : List ℕ) (one other : SignalDefined) → AreParts text one
     → AreParts text other → one ≡ other
@@ -31,8 +28,7 @@ same-parts text one other is also =
 
 same-definition : (part : List ℕ) (one other : SignalDefined) → Spells part one
     → Spells part other → one ≡ other
-same-definition part one other is also =
-    same-parts part one other (parts-are part one is) (parts-are part other also)
+same-definition part one other is also = same-parts _ _ _ (parts-are _ _ is) (parts-are _ _ also)
 
 pub same-definitions : (parts : List (List ℕ)) (one other : List SignalDefined)
     → AllZip Spells parts one → AllZip Spells parts other → one ≡ other

@@ -1,5 +1,5 @@
 -- Where a range may begin in a name.
-use Rattle.std.proofs.Common.{◌≡◌, ◌≢◌, ℕ, zero, suc, ◌<◌, ◌≤◌, ◌-◌, ◌⊎◌, Bool, true, false, List, [], ◌∷◌, length, take, drop, get_or, Option, None, Some, option_map, inl, inr, refl, sym, ap, ◌∙◌, arith}
+use Rattle.std.proofs.Common.{◌≡◌, ◌≢◌, ℕ, zero, suc, ◌<◌, ◌≤◌, ◌-◌, ◌⊎◌, Bool, true, false, List, [], ◌∷◌, length, take, drop, get_or, Option, None, Some, option_map, inl, inr, refl, sym, ap, ◌∙◌, arith, rules}
 use Rattle.std.specs.Prelude.{◌&&◌, ◌==◌, option_and_then, if◌then◌else◌}
 use Rattle.std.specs.Option.{option_or}
 use Rattle.std.proofs.lemmas.Bool.{cases_lt}
@@ -23,18 +23,13 @@ no-range false closes inner why = refl
 pub no-opening : (name : List ℕ) (k : ℕ) → get_or name k 0 ≢ 91 → range_in (drop k name) ≡ None
 no-opening [] zero apart = refl
 no-opening [] (suc k) apart = refl
-no-opening (byte ∷ bytes) zero apart =
-    let other : (byte == 91) ≡ false = grind (arith, nat_tests) in
-    no-range (byte == 91) (get_or bytes (length bytes - 1) 0 == 93) _ (inl other)
+no-opening (byte ∷ bytes) zero apart = search rules
 no-opening (byte ∷ bytes) (suc k) apart = no-opening bytes k apart
 
 same-last : (byte next : ℕ) (bytes : List ℕ)
     → get_or (byte ∷ next ∷ bytes) (length (byte ∷ next ∷ bytes) - 1) 0
     ≡ get_or (next ∷ bytes) (length (next ∷ bytes) - 1) 0
-same-last byte next bytes =
-    let more : length (byte ∷ next ∷ bytes) - 1 ≡ suc (length (next ∷ bytes) - 1) =
-    omega arith in
-    ap (λ n. get_or (byte ∷ next ∷ bytes) n 0) more
+same-last byte next bytes = search rules
 
 -- It ends with one.
 pub no-closing : (name : List ℕ) (k : ℕ) → get_or name (length name - 1) 0 ≢ 93

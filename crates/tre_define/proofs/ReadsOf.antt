@@ -1,10 +1,9 @@
 -- What stands behind a signal's text is read in one way.
-use Rattle.std.proofs.Common.{codes, ◌≡◌, ℕ, ◌-◌, ◌^◌, ◌<◌, Bool, true, false, Some, None, List, [], ◌∷◌, ◌++◌, length, refl, sym, ap, subst, ◌∙◌, arith}
-use Rattle.std.specs.Prelude.{◌==◌, ◌&&◌, nat_le, nat_lt, not, if◌then◌else◌}
+use Rattle.std.proofs.Common.{codes, ◌≡◌, ℕ, ◌<◌, Bool, true, false, Some, None, List, [], ◌∷◌, ◌++◌, length, refl, sym, ap, subst, ◌∙◌, arith, rules}
+use Rattle.std.specs.Prelude.{◌==◌, ◌&&◌, nat_lt, not, if◌then◌else◌}
 use Rattle.std.specs.Char.{is_digit}
 use Rattle.std.specs.List.{list_all, prefix_len}
 use Rattle.std.specs.Str.{bytes_eq}
-use Rattle.std.specs.Str.Parse.{digits_value}
 use Rattle.std.proofs.lemmas.Slice.Eq.{bytes_eq-Decides}
 use Rattle.std.proofs.lemmas.Bool.{false≢true}
 use Rattle.std.proofs.lemmas.Bool.Decides.{nat_tests}
@@ -29,16 +28,7 @@ is_plain byte = not (byte == 32) && not (byte == 61)
 -- bytes that pass a test which spaces and `=` don't are such
 plain : (test : ℕ → Bool) (byte : ℕ) → test 32 ≡ false → test 61 ≡ false → test byte ≡ true
     → is_plain byte ≡ true
-plain test byte space equals passes = by (byte == 32) refl (byte == 61) refl where
-  by : (is_space : Bool) → (byte == 32) ≡ is_space → (is_equals : Bool)
-      → (byte == 61) ≡ is_equals → (not is_space && not is_equals) ≡ true
-  by true e _ _ =
-      let same : byte ≡ 32 = grind (arith, nat_tests) in
-      absurd (false≢true (sym space ∙ sym (ap test same) ∙ passes))
-  by false _ true e =
-      let same : byte ≡ 61 = grind (arith, nat_tests) in
-      absurd (false≢true (sym equals ∙ sym (ap test same) ∙ passes))
-  by false _ false _ = refl
+plain test byte space equals passes = search rules
 
 all-plain : (test : ℕ → Bool) (bytes : List ℕ) → test 32 ≡ false → test 61 ≡ false
     → list_all test bytes ≡ true → list_all is_plain bytes ≡ true
@@ -59,9 +49,7 @@ chosen false b c x y e = cc
 
 based-digits : (base : ℕ) (digits : List ℕ) (number : ℕ) → based base digits ≡ Some number
     → (nat_lt 0 (length digits) ≡ true) × (list_all (λ byte. is_digit byte base) digits ≡ true)
-based-digits base digits number is =
-    chosen (nat_lt 0 (length digits)) (list_all (λ byte. is_digit byte base) digits)
-    (nat_le (digits_value base digits) (2 ^ 64 - 1)) (digits_value base digits) number is
+based-digits base digits number is = search rules
 
 -- What a number is written with.
 pub record IsPlain (digits : List ℕ) : Type 0 where
@@ -78,10 +66,7 @@ plain-decimal byte bytes number is = record {
 
 plain-behind : (byte next : ℕ) (digits : List ℕ) → is_plain byte ≡ true → is_plain next ≡ true
     → list_all is_plain digits ≡ true → IsPlain (byte ∷ next ∷ digits)
-plain-behind byte next digits one two all = record {
-  all = rw (one, two, all) refl;
-  some = omega arith;
-}
+plain-behind byte next digits one two all = search rules
 
 pub number-plain : (digits : List ℕ) (number : ℕ) → number_in digits ≡ Some number
     → IsPlain digits
@@ -122,13 +107,7 @@ plain-no_space (byte ∷ bytes) all =
 plain-starts : (digits rest : List ℕ) → IsPlain digits
     → Stops (λ byte. byte == 61) (digits ++ rest)
 plain-starts [] rest is = absurd (omega (arith, is.some))
-plain-starts (byte ∷ digits) rest is =
-    let here = first (is_plain byte) (list_all is_plain digits) is.all in
-    no (byte == 61) (second (not (byte == 32)) (not (byte == 61)) here)
-  where
-    no : (t : Bool) → not t ≡ true → t ≡ false
-    no true e = absurd (false≢true e)
-    no false e = refl
+plain-starts (byte ∷ digits) rest is = search rules
 
 -- ---- comparisons
 
@@ -183,9 +162,7 @@ bit-spaced behind none =
 
 pub changes-unsigned : (behind : List ℕ) → IsSpaced (codes "changes" ∷ []) behind
     → sign_in (past_spaces behind) ≡ None
-changes-unsigned behind is =
-    ap (λ bytes. sign_in (past_spaces bytes)) is.2
-    ∙ ap sign_in (spaces-past is.0 (codes "changes" ++ is.1) refl)
+changes-unsigned behind is = search (rules, sign_in, past_spaces, spaces-past, is.0)
 
 -- ---- all three
 
@@ -195,8 +172,7 @@ pub nothing-read : (behind : List ℕ) → (IsSpaced [] behind → ⊥)
     → IsSpaced (sign_text comparison ∷ digits ∷ []) behind → ⊥)
     → (IsSpaced (codes "changes" ∷ []) behind → ⊥) → (reads : Reads) → IsReadBehind reads behind → ⊥
 nothing-read behind bit compared changes Bit is = bit is
-nothing-read behind bit compared changes (Compared comparison number) is =
-    compared comparison is.0 number is.1 is.2
+nothing-read behind bit compared changes (Compared comparison number) is = search rules
 nothing-read behind bit compared changes Changes is = changes is
 
 -- ---- the last part

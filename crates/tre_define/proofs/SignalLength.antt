@@ -1,5 +1,5 @@
 -- How many bytes in front are a signal's text.
-use Rattle.std.proofs.Common.{◌≡◌, ℕ, suc, ◌+◌, ◌<◌, ◌≤◌, Bool, true, false, cond, List, [], ◌∷◌, ◌++◌, length, get_or, drop, refl, sym, ap, subst, ◌∙◌, arith}
+use Rattle.std.proofs.Common.{◌≡◌, ℕ, suc, ◌+◌, ◌<◌, ◌≤◌, Bool, true, false, cond, List, [], ◌∷◌, ◌++◌, length, get_or, drop, refl, sym, ap, subst, arith, rules}
 use Rattle.std.specs.Prelude.{◌==◌, not, if◌then◌else◌}
 use Rattle.std.specs.List.{prefix_len}
 use Rattle.std.proofs.lemmas.Bool.Decides.{nat_tests}
@@ -15,46 +15,28 @@ len-at : (bytes : List ℕ) (place : ℕ) → place < length bytes
     → signal_len (drop place bytes)
     ≡ (if get_or bytes place 0 == 92 then prefix_len is_no_space (drop place bytes)
     else (if ends_signal (get_or bytes place 0) then 0 else 1 + signal_len (drop (place + 1) bytes)))
-len-at bytes place below =
-    let byte = get_or bytes place 0 in
-    let cut = drop_more bytes place 0 below in
-    ap signal_len cut
-    ∙ ap (λ (xs : List ℕ). if byte == 92 then prefix_len is_no_space xs
-    else (if ends_signal byte then 0 else 1 + signal_len (drop (place + 1) bytes))) (sym cut)
+len-at bytes place below = search (rules, drop_more, signal_len, is_no_space, ends_signal)
 
 pub len-at_slash : (bytes : List ℕ) (place : ℕ) → place < length bytes
     → get_or bytes place 0 ≡ 92
     → signal_len (drop place bytes) ≡ prefix_len is_no_space (drop place bytes)
-len-at_slash bytes place below slash =
-    len-at bytes place below
-    ∙ ap (λ t. if t then prefix_len is_no_space (drop place bytes)
-    else (if ends_signal (get_or bytes place 0) then 0
-    else 1 + signal_len (drop (place + 1) bytes))) (ap (λ byte. byte == 92) slash)
+len-at_slash bytes place below slash = search (rules, len-at, is_no_space, ends_signal, signal_len)
 
 no_slash : (bytes : List ℕ) (place : ℕ) → place < length bytes
     → (get_or bytes place 0 ≡ 92 → ⊥)
     → signal_len (drop place bytes)
     ≡ (if ends_signal (get_or bytes place 0) then 0 else 1 + signal_len (drop (place + 1) bytes))
-no_slash bytes place below other =
-    let test : (get_or bytes place 0 == 92) ≡ false = grind (arith, nat_tests) in
-    len-at bytes place below
-    ∙ ap (λ t. if t then prefix_len is_no_space (drop place bytes)
-    else (if ends_signal (get_or bytes place 0) then 0
-    else 1 + signal_len (drop (place + 1) bytes))) test
+no_slash bytes place below other = search (rules, nat_tests, len-at, is_no_space, ends_signal)
 
 pub len-at_end : (bytes : List ℕ) (place : ℕ) → place < length bytes
     → (get_or bytes place 0 ≡ 92 → ⊥) → ends_signal (get_or bytes place 0) ≡ true
     → signal_len (drop place bytes) ≡ 0
-len-at_end bytes place below other ends =
-    no_slash bytes place below other
-    ∙ ap (λ t. if t then 0 else 1 + signal_len (drop (place + 1) bytes)) ends
+len-at_end bytes place below other ends = search (rules, no_slash, signal_len)
 
 pub len-more : (bytes : List ℕ) (place : ℕ) → place < length bytes
     → (get_or bytes place 0 ≡ 92 → ⊥) → ends_signal (get_or bytes place 0) ≡ false
     → signal_len (drop place bytes) ≡ 1 + signal_len (drop (place + 1) bytes)
-len-more bytes place below other ends =
-    no_slash bytes place below other
-    ∙ ap (λ t. if t then 0 else 1 + signal_len (drop (place + 1) bytes)) ends
+len-more bytes place below other ends = search (rules, no_slash, signal_len)
 
 pub len-all : (bytes : List ℕ) (place : ℕ) → length bytes ≤ place
     → signal_len (drop place bytes) ≡ 0
@@ -66,24 +48,7 @@ len-all bytes place past = ap signal_len (drop_all place bytes past)
 pub signal-starts : (signal behind : List ℕ) → IsSignal signal behind
     → Stops is_space (signal ++ behind)
 signal-starts [] behind is = absurd (omega (arith, is.some))
-signal-starts (byte ∷ signal) behind is = by (byte == 32) refl where
-  by : (space : Bool) → (byte == 32) ≡ space → space ≡ false
-  by true e =
-      let same : byte ≡ 32 = grind (arith, nat_tests) in
-      let none : 0 ≡ suc (length signal) =
-      subst (λ b. signal_len (b ∷ (signal ++ behind)) ≡ suc (length signal)) same is.all in
-      absurd (omega (arith, none))
-  by false e = refl
-
-pub len-starts : (bytes : List ℕ) → 0 < signal_len bytes → Stops is_space bytes
-len-starts [] some = tt
-len-starts (byte ∷ bytes) some = by (byte == 32) refl where
-  by : (space : Bool) → (byte == 32) ≡ space → space ≡ false
-  by true e =
-      let same : byte ≡ 32 = grind (arith, nat_tests) in
-      let none : 0 < 0 = subst (λ b. 0 < signal_len (b ∷ bytes)) same some in
-      absurd (omega (arith, none))
-  by false e = refl
+signal-starts (byte ∷ signal) behind is = search rules
 
 -- ---- it stops at the end or before a byte of ASCII
 

@@ -1,5 +1,5 @@
 -- Every text is some definitions by signals, or has a first fault.
-use Rattle.std.proofs.Common.{◌≡◌, ◌⊎◌, ℕ, ◌<◌, ◌≤◌, Bool, true, false, Option, Some, None, List, [], ◌∷◌, ◌++◌, length, take, drop, inl, inr, refl, sym, ap, subst, ◌∙◌, arith}
+use Rattle.std.proofs.Common.{◌≡◌, ◌⊎◌, ℕ, ◌<◌, ◌≤◌, Bool, true, false, Option, Some, None, List, [], ◌∷◌, ◌++◌, take, drop, inl, inr, refl, sym, ap, subst, ◌∙◌, arith, rules}
 use Rattle.std.proofs.lemmas.Bool.{cases_lt}
 use Rattle.std.proofs.lemmas.List.{length-take, take-append-drop}
 use Rattle.std.proofs.lemmas.Option.{none-some}
@@ -11,7 +11,7 @@ use Rattle.tre_define.specs.Behind.{is_changes_word, last_number}
 use Rattle.tre_define.specs.Pieces.{Signed, behind_equals, behind_piece, past_spaces, piece, sign_in}
 use Rattle.tre_define.specs.Signals.{AreRefused, DefineSignals, IsReadBehind, IsSignal, SignalDefined, Spells, name_of_signal, signal_len}
 use Rattle.tre_define.specs.Texts.{parts_of}
-use Rattle.tre_define.proofs.Cutting.{equals-is, some-same}
+use Rattle.tre_define.proofs.Cutting.{equals-is}
 use Rattle.tre_define.proofs.Deciding.{Decided, name_or}
 use Rattle.tre_define.proofs.ReadsOf.{bit-spaced, changes-spaced, compared-read, no-changes, no-number}
 use Rattle.tre_define.proofs.SignalLength.{len-within}
@@ -57,21 +57,13 @@ module _ (behind : List ℕ) where
 
 signal-cut : (rest : List ℕ) → 0 < signal_len rest
     → IsSignal (take (signal_len rest) rest) (drop (signal_len rest) rest)
-signal-cut rest some =
-    let long : length (take (signal_len rest) rest) ≡ signal_len rest =
-    omega (arith, length-take (signal_len rest) rest, len-within rest) in
-    record {
-      some = omega (arith, some, long);
-      all = ap signal_len (take-append-drop (signal_len rest) rest) ∙ sym long;
-    }
+signal-cut rest some = search (rules, signal_len, length-take, len-within, take-append-drop)
 
 -- Of one text the parts are cut in one way.
 pub same-rest : (text after : List ℕ) (defined : SignalDefined) (parts : AreParts text defined)
     → behind_equals (behind_piece continues_name text) ≡ Some after
     → past_spaces after ≡ defined.signal ++ parts.behind
-same-rest text after defined parts found =
-    let same = some-same parts.after after (sym (ap behind_equals parts.equals) ∙ found) in
-    ap past_spaces (sym same) ∙ parts.rest
+same-rest text after defined parts found = search rules
 
 pub no-signal : (text after : List ℕ) (defined : SignalDefined) → Spells text defined
     → behind_equals (behind_piece continues_name text) ≡ Some after
@@ -145,8 +137,7 @@ at_equals : (part : List ℕ) (after : Option (List ℕ))
 at_equals part None e = inr (λ defined is.
     let parts = parts-are part defined is in
     none-some parts.after (sym e ∙ ap behind_equals parts.equals))
-at_equals part (Some after) e =
-    at_signal part after e (cases_lt 0 (signal_len (past_spaces after)))
+at_equals part (Some after) e = at_signal _ after e (cases_lt 0 (signal_len (past_spaces after)))
 
 is_or_not : (part : List ℕ) → IsOrNot Spells part
 is_or_not part = at_equals part (behind_equals (behind_piece continues_name part)) refl

@@ -1,6 +1,5 @@
 -- The atoms over one segment.
-use Rattle.std.proofs.Common.{◌≡◌, ℕ, ◌+◌, ◌<◌, ◌↔◌, Bool, true, false, IsTrue, Option, Some, None, [], ◌∷◌, IsSomeAnd, inl, ⊎_elim, arith}
-use Rattle.std.proofs.lemmas.Nat.Bits.{bit_at-zero}
+use Rattle.std.proofs.Common.{◌≡◌, ℕ, ◌+◌, ◌<◌, ◌↔◌, Bool, IsTrue, Option, Some, None, [], ◌∷◌, rules}
 use Rattle.std.specs.Int.{bit_at}
 use Rattle.tre_pairs.specs.Pairs.{Pairs}
 use Rattle.tre_trace.specs.declared.segment.Segment.{Segment}
@@ -10,60 +9,23 @@ use Rattle.tre_zone.specs.Zone.{ZoneHolds, IsZoneOf, HasNoPair, GivesZone, IsInS
 use Rattle.tre_zone.specs.declared.zone_bounds.ZoneBounds.{ZoneBounds}
 use Rattle.tre_syntax.specs.Rest.{rest_of, EdgeMatches, EventMatches, EmptyMatches}
 use Rattle.tre_edges.specs.Truth.{IsFoundAt}
-use Rattle.tre_edges.proofs.InstantsOfRests.{EdgeMatches-segment, EdgeMatches-end, EventMatches-segment, EventMatches-end}
 
 -- what gives the zone of a relation gives that of another with the same pairs
 pub GivesZone-agree : (answer : Option ZoneBounds) (R S : Pairs)
     → ((a b n : ℕ) → R a b n ↔ S a b n) → GivesZone answer R → GivesZone answer S
-GivesZone-agree None R S same given = record {
-  never = λ a b n some rising h. given.never a b n some rising ((same a b n).1 h);
-}
-GivesZone-agree (Some zone) R S same given = record {
-  exact = λ a b n some rising.
-      let one = given.exact a b n some rising in
-      let other = same a b n in
-      ((λ h. other.0 (one.0 h)), (λ h. one.1 (other.1 h)));
-}
-
--- the one edge over a segment is at its begin
-pub edge_of_segment : (P Q : ℕ → Type 0) (begin : ℕ) (before : Option ℕ) (segment : Segment)
-    (found : Bool) → IsTrue found ↔ (IsSomeAnd before P × Q segment.val) → (a b n : ℕ)
-    → IsFoundAt found begin a b n ↔ EdgeMatches P Q (rest_of begin before (quiet (segment ∷ []))) a b n
-edge_of_segment P Q begin before segment found is a b n =
-    let law = EdgeMatches-segment P Q begin before segment [] found is a b n in (
-      λ h. law.1 (inl h),
-      λ h. ⊎_elim (λ x. x)
-          (λ x. absurd (EdgeMatches-end P Q (begin + segment.len) (Some segment.val) a b n x))
-          (law.0 h),
-    )
+GivesZone-agree None R S same given = search rules
+GivesZone-agree (Some zone) R S same given = search rules
 
 pub no_edge : (P Q : ℕ → Type 0) (begin : ℕ) (segment : Segment)
     → HasNoPair (EdgeMatches P Q (rest_of begin None (quiet (segment ∷ []))))
-no_edge P Q begin segment = record {
-  never = λ a b n some rising h.
-      ⊎_elim (λ here. absurd here.1) (λ later. absurd later) h.there;
-}
+no_edge P Q begin segment = search rules
 
 -- and so is the one event
 pub event_of_segment : (number begin : ℕ) (before : Option ℕ) (segment : Segment) (found : Bool)
     → IsTrue found ↔ (bit_at segment.ev number ≡ 1) → (a b n : ℕ)
     → IsFoundAt found begin a b n
     ↔ EventMatches number (rest_of begin before (quiet (segment ∷ []))) a b n
-event_of_segment number begin before segment found is a b n =
-    let law = EventMatches-segment number 0 begin before segment [] found is a b n in
-    let none : IsTrue false ↔ (bit_at 0 number ≡ 1) = (
-      (λ h. let wrong : false ≡ true = h in absurd cc),
-      (λ h. absurd (omega (arith, h, bit_at-zero number))),
-    ) in (
-      λ h. law.1 (inl h),
-      λ h. ⊎_elim (λ x. x)
-          (λ x.
-          let last = (EventMatches-end number 0 (begin + segment.len) (Some segment.val) false none a
-          b n).0 x in
-          let wrong : false ≡ true = last.is in
-          absurd cc)
-          (law.0 h),
-    )
+event_of_segment number begin before segment found is a b n = search rules
 
 -- the stretches of a literal over a segment on which it holds, and none where it doesn't
 pub literal_of_segment : (P : ℕ → Type 0) (begin end : ℕ) (segment : Segment) (zone : ZoneBounds)

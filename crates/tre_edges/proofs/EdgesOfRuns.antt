@@ -1,5 +1,5 @@
 -- Where the edges of a trace are, and so what edges a run has.
-use Rattle.std.proofs.Common.{◌≡◌, ℕ, zero, suc, take, length, ◌+◌, ◌-◌, ◌*◌, ◌<◌, ◌≤◌, ◌↔◌, inl, inr, ⊎_elim, Option, None, Some, IsSomeAnd, List, [], ◌∷◌, ◌∙◌, refl, sym, subst, ap, arith, le_of_mul-le-mul_right}
+use Rattle.std.proofs.Common.{◌≡◌, ℕ, zero, suc, take, length, ◌+◌, ◌-◌, ◌*◌, ◌<◌, ◌≤◌, ◌↔◌, inl, inr, ⊎_elim, Option, None, Some, IsSomeAnd, List, [], ◌∷◌, ◌∙◌, refl, sym, subst, ap, arith, le_of_mul-le-mul_right, rules}
 use Rattle.std.proofs.Math.Nat.{lt_of_mul-lt-mul_right}
 use Rattle.std.proofs.lemmas.Bool.{cases_lt}
 use Rattle.tre_trace.specs.declared.segment.Segment.{Segment}
@@ -69,18 +69,11 @@ module _ (P Q : ℕ → Type 0) where
       → IsSomeAnd (said_before None segments place) P
       ↔ ((0 < place) × P (valuation_at segments (place - 1)))
   was_before segments zero = ((λ h. absurd h), (λ h. absurd (omega (arith, h.0))))
-  was_before segments (suc place) =
-      let back : suc place - 1 ≡ place = omega arith in
-      rw back ((λ h. (omega arith, h)), (λ h. h.1))
+  was_before segments (suc place) = search rules
 
 pub time_of-less : (segments : List Segment) → IsTrace segments → (from to : ℕ) → from < to
     → from < length segments → time_of segments from < time_of segments to
-time_of-less segments trace from to order within =
-    omega (
-      arith,
-      later segments from within trace,
-      time_of-mono segments (from + 1) to (omega (arith, order)),
-    )
+time_of-less segments trace from to order within = search (rules, later, within, time_of-mono)
 
 -- A run of P, from the place `begin` to `end`, with the other one on either side.
 module _ (P : ℕ → Type 0) (segments : List Segment) (trace : IsTrace segments) (begin end : ℕ)
@@ -92,14 +85,7 @@ module _ (P : ℕ → Type 0) (segments : List Segment) (trace : IsTrace segment
   Not v = ¬ P v
 
   not_empty : begin < end
-  not_empty =
-      elim (cases_lt begin end) [
-        | inl less ↦ less
-        | inr same ↦
-            let one : begin ≡ end = omega (arith, order, same) in
-            let times = ap (λ place. time_of segments place * n) one in
-            absurd (omega (arith, span.starts, span.lasts, span.ends, times))
-      ]
+  not_empty = search rules
 
   -- The only rise within it is at its begin.
   pub rise_of_run : (0 < begin → Not (valuation_at segments (begin - 1)))

@@ -1,5 +1,5 @@
 -- The edges of a trace, from one place at which the state changes to the next.
-use Rattle.std.proofs.Common.{◌≡◌, ℕ, zero, suc, drop, length, ◌+◌, ◌-◌, ◌<◌, ◌≤◌, ◌↔◌, ◌⊎◌, inl, inr, ⊎_elim, Bool, true, false, IsTrue, Option, None, Some, IsSomeAnd, List, refl, subst, arith}
+use Rattle.std.proofs.Common.{◌≡◌, ℕ, zero, suc, drop, length, ◌+◌, ◌-◌, ◌<◌, ◌≤◌, ◌↔◌, ◌⊎◌, inl, inr, ⊎_elim, Bool, true, false, IsTrue, Option, None, Some, IsSomeAnd, List, refl, subst, arith, rules}
 use Rattle.std.proofs.Math.ListN.{drop_of_length-le}
 use Rattle.std.proofs.lemmas.Bool.{cases_lt, cases_eq}
 use Rattle.tre_pairs.specs.Pairs.{Pairs}
@@ -57,9 +57,7 @@ module _ (P Q : ℕ → Type 0) (segments : List Segment) (a b n : ℕ) where
       → ((k : ℕ) → place ≤ k → k < place + count
       → ¬ (IsSomeAnd (before_at segments k) P × Q (valuation_at segments k)))
       → EdgesFrom P Q segments place a b n ↔ EdgesFrom P Q segments (place + count) a b n
-  skip_edges place zero within none =
-      subst (λ to. EdgesFrom P Q segments place a b n ↔ EdgesFrom P Q segments to a b n)
-      (omega arith) ((λ h. h), (λ h. h))
+  skip_edges place zero within none = search rules
   skip_edges place (suc count) within none =
       let first = no_edge place (omega (arith, within)) (none place (omega arith) (omega arith)) in
       let back : place + 1 + count ≡ place + suc count = omega arith in
@@ -72,9 +70,7 @@ module _ (P Q : ℕ → Type 0) (segments : List Segment) (a b n : ℕ) where
 
   -- past the last segment there is no edge
   pub no_more : (place : ℕ) → length segments ≤ place → EdgesFrom P Q segments place a b n → ⊥
-  no_more place past h =
-      let rest = drop_of_length-le segments past in
-      EdgeMatches-end P Q (time_of segments place) (before_at segments place) a b n (rw rest at h)
+  no_more place past h = search (rules, drop_of_length-le, EdgeMatches-end, time_of)
 
   -- the state has one truth up to the place `other`, and the other one from there to `turn`
   pub next_edge : (at other turn : ℕ) → at ≤ other → other ≤ turn → turn ≤ length segments
@@ -143,6 +139,4 @@ module _ (P Q : ℕ → Type 0) (segments : List Segment) (a b n : ℕ) where
   -- just behind the turn nothing is the other truth
   pub calm_behind : (turn : ℕ) → ((v : ℕ) → P v → Q v → ⊥) → Q (valuation_at segments turn)
       → IsSomeAnd (before_at segments (turn + 1)) P → ⊥
-  calm_behind turn apart is other =
-      let next : turn + 1 ≡ suc turn = omega arith in
-      apart (valuation_at segments turn) (rw next at other) is
+  calm_behind turn apart is other = search rules

@@ -1,6 +1,5 @@
 -- Lists of zones whose pairs end before some time.
-use Rattle.std.proofs.Common.{ℕ, ◌≤◌, List, [], arith}
-use Rattle.std.proofs.Math.Nat.{mul-le-mul_right}
+use Rattle.std.proofs.Common.{ℕ, ◌≤◌, List, [], rules}
 use Rattle.tre_zone.specs.declared.zone_bounds.ZoneBounds.{ZoneBounds}
 use Rattle.tre_zone.proofs.ZoneListLemmas.{SetHolds-empty}
 use Rattle.tre_edges.specs.Ends.{EndBefore}
@@ -10,10 +9,4 @@ EndBefore-empty t = record { every = λ a b n some le held. absurd (SetHolds-emp
 
 pub EndBefore-later : (t later : ℕ) → t ≤ later → (zones : List ZoneBounds) → EndBefore t zones
     → EndBefore later zones
-EndBefore-later t later le zones ended = record {
-  every = λ a b n some rising held. omega (
-    arith,
-    ended.every a b n some rising held,
-    mul-le-mul_right n le,
-  );
-}
+EndBefore-later t later le zones ended = search rules

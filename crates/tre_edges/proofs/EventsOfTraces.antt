@@ -1,5 +1,5 @@
 -- The events of a trace, from one segment to the next.
-use Rattle.std.proofs.Common.{◌≡◌, ℕ, zero, suc, drop, length, ◌+◌, ◌-◌, ◌<◌, ◌≤◌, ◌↔◌, ◌⊎◌, inr, ⊎_elim, Bool, true, false, IsTrue, None, List, refl, subst, sym, ap, ◌∙◌, arith}
+use Rattle.std.proofs.Common.{◌≡◌, ℕ, zero, suc, drop, length, ◌+◌, ◌-◌, ◌<◌, ◌≤◌, ◌↔◌, ◌⊎◌, inr, ⊎_elim, Bool, true, false, IsTrue, None, List, refl, subst, sym, ◌∙◌, arith, rules}
 use Rattle.std.proofs.Math.ListN.{drop_of_length-le}
 use Rattle.std.proofs.lemmas.List.{get_or-map}
 use Rattle.std.specs.Int.{bit_at}
@@ -29,27 +29,20 @@ module _ (number last : ℕ) (segments : List Segment) (place : ℕ) (found : Bo
       ↔ (IsFoundAt found (time_of segments place) a b n
       ⊎ EventsFrom number last segments (place + 1) a b n)
   event_at within is a b n =
-      rw (rest_here segments place within, time_of-next segments place within)
-      (EventMatches-segment number last (time_of segments place) None (here segments place within)
-      (drop (place + 1) segments) found is a b n)
+      search (rules, rest_here, time_of-next, EventMatches-segment, time_of, here)
 
   -- past the last segment there is the one at the end
   pub event_last : length segments ≤ place → IsTrue found ↔ (bit_at last number ≡ 1)
       → (a b n : ℕ)
       → EventsFrom number last segments place a b n ↔ IsFoundAt found (time_of segments place) a b n
-  event_last past is a b n =
-      rw (drop_of_length-le segments past)
-      (EventMatches-end number last (time_of segments place) None found is a b n)
+  event_last past is a b n = search (rules, drop_of_length-le, EventMatches-end, time_of)
 
 -- The plane of the event says at which places it happens.
 module _ (number last : ℕ) (segments : List Segment) (words : List ℕ)
     (plane : IsEventPlane number segments words) where
   bit_here : (place : ℕ) (within : place < length segments)
       → bit_in words place ≡ bit_at (here segments place within).ev number
-  bit_here place within =
-      plane.bits place
-      ∙ ap (λ events. bit_at events number)
-      (get_or-map (λ segment. segment.ev) segments place (plain_segment 0 0) 0 within)
+  bit_here place within = search (rules, get_or-map, plain_segment)
 
   -- the event at a place whose bit is 1
   pub event_there : (place : ℕ) → place < length segments → bit_in words place ≡ 1 → (a b n : ℕ)
@@ -77,10 +70,7 @@ module _ (number last : ℕ) (segments : List Segment) (words : List ℕ)
       → ((k : ℕ) → place ≤ k → k < place + count → ¬ (bit_in words k ≡ 1)) → (a b n : ℕ)
       → EventsFrom number last segments place a b n
       ↔ EventsFrom number last segments (place + count) a b n
-  skip_events place zero within none a b n =
-      subst (λ to. EventsFrom number last segments place a b n
-      ↔ EventsFrom number last segments to a b n)
-      (omega arith) ((λ h. h), (λ h. h))
+  skip_events place zero within none a b n = search rules
   skip_events place (suc count) within none a b n =
       let first = no_event place (omega (arith, within))
       (none place (omega arith) (omega arith)) a b n in

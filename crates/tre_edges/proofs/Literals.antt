@@ -1,10 +1,10 @@
 -- A literal over segments: what one more segment does to the stretches on which it holds.
-use Rattle.std.proofs.Common.{ℕ, ◌+◌, ◌*◌, ◌<◌, ◌≤◌, ◌↔◌, ◌⊎◌, List, [], ◌∷◌, arith, inl, inr, ⊎_elim}
+use Rattle.std.proofs.Common.{ℕ, ◌+◌, ◌*◌, ◌<◌, ◌≤◌, ◌↔◌, ◌⊎◌, List, [], ◌∷◌, arith, inl, inr, ⊎_elim, rules}
 use Rattle.std.proofs.lemmas.Bool.{cases_lt}
 use Rattle.std.proofs.Math.Nat.{mul-le-mul_right}
 use Rattle.tre_trace.specs.declared.segment.Segment.{Segment}
 use Rattle.tre_trace.specs.Trace.{end_of}
-use Rattle.tre_trace.specs.Literal.{HoldsBetween, LiteralMatches}
+use Rattle.tre_trace.specs.Literal.{HoldsBetween}
 use Rattle.tre_zone.specs.Zone.{IsInSpan}
 use Rattle.tre_syntax.proofs.Atoms.{end_of-le}
 use Rattle.tre_syntax.proofs.Growth.{between_after}
@@ -18,28 +18,12 @@ pub record HoldsFrom (P : ℕ → Type 0) (begin start : ℕ) (rest : List Segme
   pub ends : b ≤ end_of start rest * n
   pub throughout : HoldsBetween P start rest a b n
 
-pub HoldsFrom-literal : (P : ℕ → Type 0) (segments : List Segment) (a b n : ℕ)
-    → LiteralMatches P 0 segments a b n ↔ HoldsFrom P 0 0 segments a b n
-HoldsFrom-literal P segments a b n = (
-  λ h. record { starts = h.begin; lasts = h.some_time; ends = h.end; throughout = h.throughout },
-  λ h. record { begin = h.starts; some_time = h.lasts; end = h.ends; throughout = h.throughout },
-)
-
 -- a segment on which it holds makes the stretch longer
 pub HoldsFrom-true : (P : ℕ → Type 0) (begin start : ℕ) (segment : Segment) (rest : List Segment)
     (a b n : ℕ) → P segment.val
     → HoldsFrom P begin start (segment ∷ rest) a b n
     ↔ HoldsFrom P begin (start + segment.len) rest a b n
-HoldsFrom-true P begin start segment rest a b n holds = (
-  λ h. record { starts = h.starts; lasts = h.lasts; ends = h.ends; throughout = h.throughout.1 },
-  λ h. record {
-    starts = h.starts;
-    lasts = h.lasts;
-    ends = h.ends;
-    throughout =
-        (λ _ _. holds, h.throughout);
-  },
-)
+HoldsFrom-true P begin start segment rest a b n holds = search rules
 
 -- one on which it doesn't ends the stretch, and another may begin behind it
 pub HoldsFrom-false : (P : ℕ → Type 0) (begin start : ℕ) (segment : Segment) (rest : List Segment)
@@ -85,7 +69,4 @@ HoldsFrom-false P begin start segment rest a b n order fails =
 -- at the end there is no more
 pub HoldsFrom-end : (P : ℕ → Type 0) (begin start : ℕ) (a b n : ℕ)
     → HoldsFrom P begin start [] a b n ↔ IsInSpan begin start a b n
-HoldsFrom-end P begin start a b n = (
-  λ h. record { starts = h.starts; lasts = h.lasts; ends = h.ends },
-  λ h. record { starts = h.starts; lasts = h.lasts; ends = h.ends; throughout = tt },
-)
+HoldsFrom-end P begin start a b n = search rules

@@ -1,6 +1,5 @@
 -- What two searches for a bit say of the next run and its edges.
-use Rattle.std.proofs.Common.{◌≡◌, ℕ, ◌+◌, ◌-◌, ◌*◌, ◌<◌, ◌≤◌, ◌↔◌, ◌⊎◌, inl, inr, ⊎_elim, Bool, true, false, IsTrue, List, length, arith}
-use Rattle.std.proofs.lemmas.Bool.{cases_lt}
+use Rattle.std.proofs.Common.{◌≡◌, ℕ, ◌+◌, ◌-◌, ◌*◌, ◌<◌, ◌≤◌, ◌↔◌, ◌⊎◌, inl, inr, ⊎_elim, Bool, true, false, IsTrue, List, length, rules}
 use Rattle.tre_pairs.specs.Pairs.{Pairs, Lasting}
 use Rattle.tre_state.specs.StateTree.{StateTree, HoldsOn}
 use Rattle.tre_syntax.specs.PatternTree.{rise, fall}
@@ -14,11 +13,10 @@ use Rattle.tre_edges.specs.RunParts.{HasEdges, IsFoundPart, IsRunPart}
 use Rattle.tre_edges.specs.StateWords.{AreTruthOf}
 use Rattle.tre_edges.specs.declared.run_edges.RunEdges.{RunEdges}
 use Rattle.tre_edges.proofs.EdgesOfRuns.{rise_of_run, fall_of_run}
-use Rattle.tre_edges.proofs.Literals.{HoldsFrom-literal}
 use Rattle.tre_edges.proofs.NextTurns.{run_found}
 use Rattle.tre_edges.proofs.Places.{time_of}
 use Rattle.tre_edges.proofs.RunsOfTraces.{FromPlace}
-use Rattle.tre_edges.proofs.StateWords.{has_truth, has_other}
+use Rattle.tre_edges.proofs.StateWords.{has_truth}
 
 -- What has these edges of the stretches at the place and later.
 pub record PartFrom (edges : RunEdges) (state : StateTree) (trace : Timeline)
@@ -30,22 +28,13 @@ pub record PartFrom (edges : RunEdges) (state : StateTree) (trace : Timeline)
 -- All of them are at the first place or later.
 pub part_whole : (edges : RunEdges) (state : StateTree) (trace : Timeline) (a b n : ℕ)
     → IsRunPart edges state (whole trace) a b n ↔ PartFrom edges state trace 0 a b n
-part_whole edges state trace a b n =
-    let start = HoldsFrom-literal (HoldsOn state) trace.segments a b n in (
-      λ h. record { held = start.0 h.held; begins = h.begins; ends = h.ends },
-      λ h. record { held = start.1 h.held; begins = h.begins; ends = h.ends },
-    )
+part_whole edges state trace a b n = search rules
 
 -- What lasts so long of either.
 pub either_lasting : (D : ℕ → ℕ → Type 0) (R S T : Pairs) (a b n : ℕ)
     → R a b n ↔ (S a b n ⊎ T a b n)
     → Lasting D R a b n ↔ (Lasting D S a b n ⊎ Lasting D T a b n)
-either_lasting D R S T a b n both = (
-  λ h. ⊎_elim (λ x. inl (record { related = x; admitted = h.admitted }))
-      (λ x. inr (record { related = x; admitted = h.admitted })) (both.0 h.related),
-  λ h. ⊎_elim (λ x. record { related = both.1 (inl x.related); admitted = x.admitted })
-      (λ x. record { related = both.1 (inr x.related); admitted = x.admitted }) h,
-)
+either_lasting D R S T a b n both = search rules
 
 -- The state does not hold just before the place.
 abbrev pub IsCalmAt : StateTree → List Segment → ℕ → Type 0
@@ -60,21 +49,10 @@ module _ (edges : RunEdges) (state : StateTree) (trace : Timeline) (words : List
   P = HoldsOn state
 
   calm_before : 0 < begin → ¬ P (valuation_at trace.segments (begin - 1))
-  calm_before positive =
-      elim (cases_lt at begin) [
-        | inl less ↦
-            has_other state trace.segments words truth (begin - 1)
-            (omega (arith, positive, first.within)) true
-            (first.between (begin - 1) (omega (arith, less)) (omega (arith, positive)))
-        | inr same ↦
-            let one : at ≡ begin = omega (arith, same, first.late) in
-            rw one at calm positive
-      ]
+  calm_before positive = search rules
 
   holds_inside : (k : ℕ) → begin ≤ k → k < end → P (valuation_at trace.segments k)
-  holds_inside k late early =
-      has_other state trace.segments words truth k (omega (arith, early, last.within)) false
-      (last.between k late early)
+  holds_inside k late early = search rules
 
   fails_behind : end < length trace.segments → ¬ P (valuation_at trace.segments end)
   fails_behind early = has_truth state trace.segments words truth end early false (last.there early)
@@ -130,6 +108,4 @@ module _ (edges : RunEdges) (state : StateTree) (trace : Timeline) (words : List
 
   -- Just behind the run the state does not hold.
   pub calm_then : end < length trace.segments → IsCalmAt state trace.segments (end + 1)
-  calm_then early positive =
-      let back : end + 1 - 1 ≡ end = omega arith in
-      rw back (fails_behind early)
+  calm_then early positive = search rules

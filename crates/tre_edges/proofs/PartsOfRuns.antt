@@ -1,5 +1,5 @@
 -- The stretches of a run that begin or end at its edges, as one zone.
-use Rattle.std.proofs.Common.{◌≡◌, ℕ, ◌+◌, ◌-◌, ◌*◌, ◌<◌, ◌≤◌, ◌↔◌, Bool, true, false, Option, None, Some, List, arith, ap, inl, inr, ⊎_elim, pos, ◌-ℤ◌, neg_ℤ, refl, ℤ}
+use Rattle.std.proofs.Common.{◌≡◌, ℕ, ◌+◌, ◌-◌, ◌*◌, ◌<◌, ◌≤◌, ◌↔◌, Bool, true, false, None, List, arith, ap, ⊎_elim, pos, ◌-ℤ◌, neg_ℤ, refl, ℤ, rules}
 use Rattle.std.proofs.Math.Nat.{mul-le-mul_right}
 use Rattle.std.proofs.lemmas.Int.{ints}
 use Rattle.std.specs.Prelude.{◌&&◌, if◌then◌else◌, IsTrue}
@@ -9,7 +9,7 @@ use Rattle.tre_state.specs.StateTree.{StateTree}
 use Rattle.tre_syntax.specs.PatternTree.{literal}
 use Rattle.tre_syntax.specs.Rest.{Rest, AtomMatches}
 use Rattle.tre_zone.specs.Bound.{Meets}
-use Rattle.tre_zone.specs.Zone.{GivesZone, IsInSpan, ZoneHolds, IsCanonical, IsZoneOf}
+use Rattle.tre_zone.specs.Zone.{IsInSpan, ZoneHolds, IsCanonical, IsZoneOf}
 use Rattle.tre_zone.specs.ZoneList.{SetHolds, HoldExactly}
 use Rattle.tre_zone.specs.declared.zone_bounds.ZoneBounds.{ZoneBounds}
 use Rattle.tre_zone.proofs.CanonicalBounds.{bounds-canonical}
@@ -159,20 +159,12 @@ module _ (begin end : ℕ) (rising : begin < end) (a b n : ℕ) (some : 0 < n) w
 
 pub part-exact : (rise fall : Bool) (begin end : ℕ) → begin < end
     → IsZoneOf (part_of rise fall begin end) (IsPart (edges_of rise fall) begin end)
-part-exact rise fall begin end rising = record {
-  exact = λ a b n some le. part-holds begin end rising a b n some rise fall;
-}
+part-exact rise fall begin end rising = search (rules, part-holds)
 
 -- Without an interval, however long they last.
 pub any_length : (zone : ZoneBounds) (P : Pairs) → IsZoneOf zone P
     → IsZoneOf zone (Lasting (LastsIn None) P)
-any_length zone P is = record {
-  exact = λ a b n some le.
-      let one = is.exact a b n some le in (
-        (λ h. record { related = one.0 h; admitted = tt }),
-        (λ h. one.1 h.related),
-      );
-}
+any_length zone P is = search rules
 
 -- The next run comes behind its end.
 pub part_ended : (D : ℕ → ℕ → Type 0) (edges : RunEdges) (begin end : ℕ)
@@ -193,23 +185,12 @@ part_ended D edges begin end old new zone order ended is held = record {
 pub added : (P : Pairs) (old new : List ZoneBounds) (zone : ZoneBounds) → IsZoneOf zone P
     → HoldExactly new (Either (SetHolds old) (ZoneHolds zone))
     → HoldExactly new (Either (SetHolds old) P)
-added P old new zone is held = record {
-  exact = λ a b n some le.
-      let one = held.exact a b n some le in
-      let two = is.exact a b n some le in (
-        (λ h. ⊎_elim (λ x. inl x) (λ x. inr (two.0 x)) (one.0 h)),
-        (λ h. one.1 (⊎_elim (λ x. inl x) (λ x. inr (two.1 x)) h)),
-      );
-}
+added P old new zone is held = search rules
 
 -- Stretches that begin and end anywhere in a run.
 module _ (edges : RunEdges) (rise : ¬ IsTrue edges.rise) (fall : ¬ IsTrue edges.fall) where
   span_part : (begin end a b n : ℕ) → IsInSpan begin end a b n → IsPart edges begin end a b n
-  span_part begin end a b n span = record {
-    span = span;
-    begins = λ r. absurd (rise r);
-    ends = λ f. absurd (fall f);
-  }
+  span_part begin end a b n span = search rules
 
   pub span_zone : (begin end : ℕ) (zone : ZoneBounds)
       → ((a b n : ℕ) → 0 < n → ZoneHolds zone a b n ↔ IsInSpan begin end a b n)
@@ -220,42 +201,7 @@ module _ (edges : RunEdges) (rise : ¬ IsTrue edges.rise) (fall : ¬ IsTrue edge
         ((λ h. span_part begin end a b n (one.0 h)), (λ h. one.1 h.span));
   })
 
-  pub span_given : (D : ℕ → ℕ → Type 0) (begin end : ℕ) (found : Option ZoneBounds)
-      → GivesZone found (Lasting D (IsInSpan begin end))
-      → GivesZone found (Lasting D (IsPart edges begin end))
-  span_given D begin end None none = record {
-    never = λ a b n some le h.
-        none.never a b n some le (record { related = h.related.span; admitted = h.admitted });
-  }
-  span_given D begin end (Some zone) is = record {
-    exact = λ a b n some le.
-        let one = is.exact a b n some le in (
-          (λ h.
-              let x = one.0 h in
-              record {
-                related = span_part begin end a b n x.related;
-                admitted = x.admitted;
-              }),
-          (λ h. one.1 (record { related = h.related.span; admitted = h.admitted })),
-        );
-  }
-
   pub literal_given : (D : ℕ → ℕ → Type 0) (state : StateTree) (rest : Rest)
       (zones : List ZoneBounds) → HoldExactly zones (Lasting D (IsRunPart edges state rest))
       → HoldExactly zones (Lasting D (AtomMatches rest (literal state)))
-  literal_given D state rest zones held = record {
-    exact = λ a b n some le.
-        let one = held.exact a b n some le in (
-          (λ h.
-              let x = one.0 h in
-              record { related = x.related.held; admitted = x.admitted }),
-          (λ h. one.1 (record {
-            related = record {
-              held = h.related;
-              begins = λ r. absurd (rise r);
-              ends = λ f. absurd (fall f);
-            };
-            admitted = h.admitted;
-          })),
-        );
-  }
+  literal_given D state rest zones held = search rules

@@ -1,5 +1,5 @@
 -- One more run behind runs that have ended.
-use Rattle.std.proofs.Common.{ℕ, ◌+◌, ◌*◌, ◌<◌, ◌≤◌, List, [], ◌∷◌, ◌++◌, refl, inl, inr, arith}
+use Rattle.std.proofs.Common.{ℕ, ◌+◌, ◌*◌, ◌<◌, ◌≤◌, List, [], ◌∷◌, ◌++◌, inl, inr, arith, rules}
 use Rattle.tre_zone.specs.Zone.{ZoneHolds, span_of}
 use Rattle.tre_zone.specs.ZoneList.{SetHolds}
 use Rattle.tre_zone.specs.declared.zone_bounds.ZoneBounds.{ZoneBounds}
@@ -22,8 +22,7 @@ pub AreRuns-push : (earliest begin end : ℕ) → earliest ≤ begin → begin <
     → (zones : List ZoneBounds) → AreRuns earliest zones → EndBefore begin zones
     → AreRuns earliest (zones ++ span_of begin end ∷ [])
 unfolding AreRuns SetHolds
-AreRuns-push earliest begin end late lasts [] runs ended =
-    (begin, end, record { starts = late; lasts = lasts; span = refl }, tt)
+AreRuns-push earliest begin end late lasts [] runs ended = search rules
 AreRuns-push earliest begin end late lasts (zone ∷ zones) (from, to, run, rest) ended =
     let before : to < begin * 1 = ended.every from to 1 (omega arith) (omega (arith, run.lasts))
     (inl (run_holds earliest zone from to run)) in (

@@ -1,5 +1,5 @@
 -- Runs by the place of their first segment.
-use Rattle.std.proofs.Common.{◌≡◌, ◌≢◌, ℕ, zero, suc, ◌+◌, ◌-◌, ◌<◌, ◌≤◌, ◌==◌, ◌∙◌, List, [], ◌∷◌, ◌++◌, Option, None, Some, IfSome, false, length, get_or, refl, sym, if◌then◌else◌, Result, Ok, Err, is_ok, ap, arith, inl, inr}
+use Rattle.std.proofs.Common.{◌≡◌, ◌≢◌, ℕ, zero, suc, ◌+◌, ◌<◌, ◌≤◌, ◌==◌, ◌∙◌, List, [], ◌∷◌, ◌++◌, Option, None, Some, IfSome, false, length, get_or, refl, sym, if◌then◌else◌, Result, Ok, Err, is_ok, ap, arith, inl, inr, rules}
 use Rattle.std.proofs.lemmas.Bool.{cases_lt}
 use Rattle.std.proofs.lemmas.Bool.Decides.{nat_tests}
 use Rattle.std.proofs.lemmas.List.{get_or-map, map-append}
@@ -48,11 +48,7 @@ module _ (all : TraceWords) (from to : Start) (run : IsRunOf all from to) where
   between = record { begin = from.time; end = to.time }
 
   end_place-is : end_place all from.place ≡ to.place
-  end_place-is =
-      let count : from.place + (length all.timeline.segments - from.place)
-      ≡ length all.timeline.segments = omega (arith, run.within) in
-      first_clear-is all.words (length all.timeline.segments - from.place) from.place to.place
-      (rw count run.next)
+  end_place-is = search (rules, first_clear-is)
 
   pub run_at-is : run_at all from.place ≡ between
   run_at-is = rw (end_place-is, sym run.begin, sym run.end) refl
@@ -65,9 +61,7 @@ module _ (edges : RunEdges) (all : TraceWords) (places : List ℕ) (from to : St
     (run : IsRunOf all from to) where
   more : runs_at all (places ++ from.place ∷ [])
       ≡ runs_at all places ++ between all from to run ∷ []
-  more =
-      map-append (run_at all) places (from.place ∷ [])
-      ∙ ap (λ last. runs_at all places ++ last ∷ []) (run_at-is all from to run)
+  more = search (rules, map-append, run_at, runs_at, run_at-is)
 
   AreRunPlaces-push : AreRunPlaces all (places ++ from.place ∷ [])
   AreRunPlaces-push = record {
@@ -93,9 +87,7 @@ module _ (edges : RunEdges) (all : TraceWords) (places : List ℕ) (from to : St
 
   pub place_ended : EndBefore (to.time + 1)
       (zones_in edges (runs_at all (places ++ from.place ∷ [])))
-  place_ended =
-      rw more (ended-push edges (runs_at all places) from.time to.time placed.timed ended rising
-      limit)
+  place_ended = search (rules, more, ended-push, runs_at)
 
 -- the run at one of the places, from the first to the end
 pub run_there : (all : TraceWords) (places : List ℕ) (place first end : ℕ) (other : Run)

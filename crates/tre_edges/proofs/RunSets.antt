@@ -3,7 +3,7 @@ use Rattle.std.proofs.Common.{◌≡◌, ℕ, suc, ◌+◌, ◌*◌, ◌<◌, �
 use Rattle.std.proofs.Math.Nat.{mul-le-mul_right}
 use Rattle.std.proofs.lemmas.Int.{ints}
 use Rattle.std.proofs.lemmas.List.{get_or-map, length-map, map-append}
-use Rattle.std.proofs.lemmas.List.Elements.{All-nil, All-push, All-tail}
+use Rattle.std.proofs.lemmas.List.Elements.{All-push, All-tail}
 use Rattle.std.proofs.lemmas.List.Quantifiers.{all_pairs_push}
 use Rattle.tre_pairs.specs.Pairs.{Either, Lasting}
 use Rattle.tre_pairs.specs.declared.TheConstants.{TIME_MAX}
@@ -27,12 +27,6 @@ Lasts run = (run.begin < run.end) × (run.end ≤ TIME_MAX)
 
 abbrev EndsFirst : Run → Run → Type 0
 EndsFirst run later = run.end < later.begin
-
-pub AreInTime-none : AreInTime []
-AreInTime-none = record {
-  bounded = All-nil Lasts;
-  order = λ i j d before within. absurd (omega (arith, within));
-}
 
 AreInTime-tail : (run : Run) (runs : List Run) → AreInTime (run ∷ runs) → AreInTime runs
 AreInTime-tail run runs timed = record {

@@ -1,5 +1,5 @@
 -- The stretches on which a literal holds, from one run of places to the next.
-use Rattle.std.proofs.Common.{◌≡◌, ℕ, zero, suc, drop, length, ◌+◌, ◌-◌, ◌<◌, ◌≤◌, ◌↔◌, ◌⊎◌, inl, inr, ⊎_elim, List, [], sym, subst, arith}
+use Rattle.std.proofs.Common.{◌≡◌, ℕ, zero, suc, drop, length, ◌+◌, ◌-◌, ◌<◌, ◌≤◌, ◌↔◌, ◌⊎◌, inl, inr, ⊎_elim, List, [], sym, subst, arith, rules}
 use Rattle.std.proofs.Math.ListN.{drop_of_length-le}
 use Rattle.std.proofs.lemmas.Bool.{cases_lt}
 use Rattle.tre_pairs.specs.Pairs.{Pairs}
@@ -22,9 +22,7 @@ module _ (P : ℕ → Type 0) (segments : List Segment) (a b n : ℕ) where
   one_true : (begin place : ℕ) → place < length segments → P (valuation_at segments place)
       → FromPlace P segments begin place a b n ↔ FromPlace P segments begin (place + 1) a b n
   one_true begin place within holds =
-      rw (rest_here segments place within, time_of-next segments place within)
-      (HoldsFrom-true P begin (time_of segments place) (here segments place within)
-      (drop (place + 1) segments) a b n (subst P (valuation_here segments place within) holds))
+      search (rules, rest_here, time_of-next, HoldsFrom-true, time_of, here, valuation_here)
 
   -- one on which it doesn't ends them
   one_false : (begin place : ℕ) → place < length segments → begin ≤ time_of segments place
@@ -41,10 +39,7 @@ module _ (P : ℕ → Type 0) (segments : List Segment) (a b n : ℕ) where
   run_true : (begin place count : ℕ) → place + count ≤ length segments
       → ((k : ℕ) → place ≤ k → k < place + count → P (valuation_at segments k))
       → FromPlace P segments begin place a b n ↔ FromPlace P segments begin (place + count) a b n
-  run_true begin place zero within holds =
-      subst
-      (λ to. FromPlace P segments begin place a b n ↔ FromPlace P segments begin to a b n)
-      (omega arith) ((λ h. h), (λ h. h))
+  run_true begin place zero within holds = search rules
   run_true begin place (suc count) within holds =
       let first = one_true begin place (omega (arith, within))
       (holds place (omega arith) (omega arith)) in
@@ -62,12 +57,7 @@ module _ (P : ℕ → Type 0) (segments : List Segment) (a b n : ℕ) where
       → ((k : ℕ) → place ≤ k → k < place + count → ¬ P (valuation_at segments k))
       → FromPlace P segments (time_of segments place) place a b n
       ↔ FromPlace P segments (time_of segments (place + count)) (place + count) a b n
-  skip_false place zero within fails =
-      subst
-      (λ to.
-      FromPlace P segments (time_of segments place) place a b n
-      ↔ FromPlace P segments (time_of segments to) to a b n)
-      (omega arith) ((λ h. h), (λ h. h))
+  skip_false place zero within fails = search rules
   skip_false place (suc count) within fails =
       let first =
       one_false (time_of segments place) place (omega (arith, within)) (omega arith)
@@ -90,10 +80,7 @@ module _ (P : ℕ → Type 0) (segments : List Segment) (a b n : ℕ) where
   -- at the end there is no more
   pub no_more : (place : ℕ) → length segments ≤ place
       → FromPlace P segments (time_of segments place) place a b n → ⊥
-  no_more place past h =
-      let rest = drop_of_length-le segments past in
-      no_span (time_of segments place) a b n
-      ((HoldsFrom-end P (time_of segments place) (time_of segments place) a b n).0 (rw rest at h))
+  no_more place past h = search (rules, drop_of_length-le, no_span, time_of, HoldsFrom-end)
 
   -- the next run, from the place `begin` to `end`
   pub next_run : (at begin end : ℕ) → at ≤ begin → begin ≤ end → end ≤ length segments

@@ -1,5 +1,5 @@
 -- The stretches of a run that last so long, as one zone.
-use Rattle.std.proofs.Common.{◌≡◌, ℕ, ◌+◌, ◌-◌, ◌*◌, ◌<◌, ◌≤◌, ◌↔◌, arith, ℤ, pos, ◌-ℤ◌, ◌≤ℤ◌, ap}
+use Rattle.std.proofs.Common.{◌≡◌, ℕ, ◌+◌, ◌-◌, ◌*◌, ◌<◌, ◌≤◌, ◌↔◌, arith, ℤ, pos, ◌-ℤ◌, ◌≤ℤ◌, ap, rules}
 use Rattle.std.proofs.lemmas.Int.{ints}
 use Rattle.tre_pairs.specs.Pairs.{Lasting}
 use Rattle.tre_pairs.specs.declared.TheConstants.{TIME_MAX}
@@ -21,17 +21,11 @@ no_instant key is p q n Met End both =
 
 pub in_whole : (key : ℤ) (length : ℕ) → key ≡ pos (2 * length + 1) → (p q n : ℕ) → q ≤ p
     → Meets key p q n ↔ (p - q ≤ length * n)
-in_whole key length is p q n le =
-    let most = Meets-at_most key length is p q n in
-    ((λ m. let h = most.0 m in omega (arith, h, le)), (λ h. most.1 (omega (arith, h, le))))
+in_whole key length is p q n le = search (rules, Meets-at_most)
 
 pub in_whole_too : (key : ℤ) (length : ℕ) → key ≡ pos (2 * length + 1) → (p q n : ℕ) → q ≤ p
     → (Met End : Type 0) → Met ↔ (Meets key p q n × End) → Met ↔ ((p - q ≤ length * n) × End)
-in_whole_too key length is p q n le Met End both =
-    let most = in_whole key length is p q n le in (
-      (λ m. let h = both.0 m in (most.0 h.0, h.1)),
-      (λ h. both.1 (most.1 h.0, h.1)),
-    )
+in_whole_too key length is p q n le Met End both = search (rules, in_whole, both.0, both.1)
 
 -- The bounds of a run, of which the durations are bounded so.
 abbrev pub cut_of : ℤ → ℤ → ℤ → ℤ → ZoneBounds

@@ -1,5 +1,5 @@
 -- Where a state holds, by its form.
-use Rattle.std.proofs.Common.{◌≡◌, ◌≢◌, ℕ, ◌*◌, ◌/◌, ◌%◌, ◌^◌, ◌<◌, ◌↔◌, inl, inr, ⊎_elim, Bool, true, false, not, List, length, sym, ap, ◌∙◌, arith, bit_and, bit_or}
+use Rattle.std.proofs.Common.{◌≡◌, ◌≢◌, ℕ, ◌*◌, ◌/◌, ◌%◌, ◌^◌, ◌<◌, ◌↔◌, inl, inr, ⊎_elim, Bool, true, false, not, List, length, sym, ap, ◌∙◌, arith, bit_and, bit_or, rules}
 use Rattle.std.proofs.Math.Nat.{one-mul, zero-mul}
 use Rattle.std.proofs.lemmas.Bool.{cases_eq}
 use Rattle.std.proofs.lemmas.Nat.{pow_pos}
@@ -8,13 +8,13 @@ use Rattle.std.proofs.lemmas.Simd.{length-zip2}
 use Rattle.std.specs.Int.{bit_at}
 use Rattle.std.specs.Prelude.{slice_index}
 use lib.Lanes.{zip2}
-use Rattle.tre_state.specs.StateTree.{StateTree, always, proposition, negation, conjunction, disjunction}
+use Rattle.tre_state.specs.StateTree.{StateTree, proposition, negation, conjunction, disjunction}
 use Rattle.tre_trace.proofs.Bits.{valuation_at-past}
 use Rattle.tre_trace.specs.Planes.{IsPlane, bit_in, valuation_at}
 use Rattle.tre_trace.specs.declared.segment.Segment.{Segment}
 use Rattle.tre_edges.proofs.WordBits.{bit_in-and, bit_in-or}
 use Rattle.tre_edges.specs.StateWords.{AreTruthOf}
-use Rattle.tre_edges.specs.WordBits.{AreOnes, AreOpposite}
+use Rattle.tre_edges.specs.WordBits.{AreOpposite}
 use Rattle.tre_edges.specs.NextPlace.{bit_for}
 use Rattle.tre_edges.specs.Truth.{HasTruth}
 
@@ -51,30 +51,10 @@ module _ (segments : List Segment) where
     none : (k : ℕ) → bit_at 0 k ≡ 0
     none = bit_at-zero
 
-  pub of_ones : (words : List ℕ) → AreOnes (length segments) words
-      → AreTruthOf always segments words
-  of_ones words ones = record {
-    size = ones.size;
-    held = λ place early. ((λ one. tt), (λ holds. ones.set place early));
-    past = ones.past;
-  }
-
   pub of_opposite : (state : StateTree) (words opposite : List ℕ)
       → AreTruthOf state segments words → AreOpposite (length segments) words opposite
       → AreTruthOf (negation state) segments opposite
-  of_opposite state words opposite truth turned = record {
-    size = turned.size;
-    held = λ place early.
-        let inner = truth.held place early in
-        let bit = turned.flipped place early in (
-          λ one holds. omega (arith, bit, one, inner.1 holds),
-          λ fails. elim (cases_eq (bit_in words place) 1) [
-            | inl is ↦ absurd (fails (inner.0 is))
-            | inr other ↦ omega (arith, bit, other, bit_in-lt words place)
-          ],
-        );
-    past = turned.past;
-  }
+  of_opposite state words opposite truth turned = search rules
 
   module _ (left right : StateTree) (a b : List ℕ) (first : AreTruthOf left segments a)
       (second : AreTruthOf right segments b) where
@@ -131,10 +111,8 @@ module _ (state : StateTree) (segments : List Segment) (words : List ℕ)
 
   pub has_other : (value : Bool) → bit_in words place ≢ bit_for value
       → HasTruth (not value) state (valuation_at segments place)
-  has_other true other =
-      has_truth false (omega (arith, other, bit_in-lt words place))
-  has_other false other =
-      has_truth true (omega (arith, other, bit_in-lt words place))
+  has_other true other = search rules
+  has_other false other = search rules
 
 pub truth_apart : (value : Bool) (state : StateTree) (valuation : ℕ)
     → HasTruth value state valuation → HasTruth (not value) state valuation → ⊥

@@ -1,9 +1,7 @@
 -- The bits of words that are combined, turned round, or cut off.
-use Rattle.std.proofs.Common.{◌≡◌, ◌≢◌, ℕ, ◌*◌, ◌-◌, ◌/◌, ◌%◌, ◌^◌, min, max, ◌≤◌, ◌<◌, inl, inr, List, length, get_or, set, map, ap, ◌∙◌, arith, w64, bit_and, bit_or}
+use Rattle.std.proofs.Common.{◌≡◌, ◌≢◌, ℕ, ◌*◌, ◌-◌, ◌/◌, ◌%◌, ◌^◌, min, max, ◌≤◌, ◌<◌, inl, inr, List, length, get_or, set, map, ap, ◌∙◌, arith, w64, bit_and, bit_or, rules}
 use Rattle.std.proofs.lemmas.Bool.{cases_eq, cases_lt}
 use Rattle.std.proofs.lemmas.List.{get_or-set_same, get_or-set_other, get_or-map, length-set, length-map}
-use Rattle.std.proofs.Math.Nat.{mod-eq_of_lt, one-mul}
-use Rattle.std.proofs.lemmas.Nat.{pow_below}
 use Rattle.std.proofs.lemmas.Nat.Bits.{bit_at-lt, bit_at_and, bit_at_or, bit_at_ones, bit_at_ones_above, bit_at_not}
 use Rattle.std.proofs.lemmas.Simd.{length-zip2, get_or-zip2}
 use Rattle.std.specs.Int.{bit_at, bit_not}
@@ -55,20 +53,13 @@ bit_in-not words place within fits =
 -- the low bits of a word
 module _ (word low : ℕ) (small : low < 64) where
   mask_is : 1 * 2 ^ low % 2 ^ 64 - 1 ≡ 2 ^ low - 1
-  mask_is =
-      ap (λ n. n - 1) (ap (λ n. n % 2 ^ 64) (one-mul (2 ^ low))
-      ∙ mod-eq_of_lt (pow_below low 64 small))
+  mask_is = search rules
 
   below : (i : ℕ) → i < low → bit_at (bit_and word (1 * 2 ^ low % 2 ^ 64 - 1)) i ≡ bit_at word i
-  below i early =
-      rw mask_is
-      (bit_at_and word (2 ^ low - 1) i
-      ∙ omega (arith, bit_at_ones low i early, bit_at-lt word i))
+  below i early = search (rules, mask_is, bit_at_and, bit_at_ones, bit_at-lt)
 
   above : (i : ℕ) → low ≤ i → bit_at (bit_and word (1 * 2 ^ low % 2 ^ 64 - 1)) i ≡ 0
-  above i late =
-      rw mask_is
-      (bit_at_and word (2 ^ low - 1) i ∙ omega (arith, bit_at_ones_above low i late))
+  above i late = search (rules, mask_is, bit_at_and, bit_at_ones_above)
 
 -- and else the last word is cut off
 module _ (count : ℕ) (words : List ℕ) (size : length words ≡ words_for count)

@@ -1,7 +1,6 @@
 -- What was read of an input, from no bytes to its end.
-use Rattle.std.proofs.Common.{◌≡◌, ◌∙◌, ◌≢◌, ◌+◌, ◌<◌, ℕ, Bool, true, false, List, [], ◌∷◌, ◌++◌, All, length, get_or, map, take, Option, None, Some, IsTrue, Result, Err, refl, sym, subst, arith}
+use Rattle.std.proofs.Common.{◌≡◌, ◌≢◌, ◌+◌, ◌<◌, ℕ, Bool, true, false, List, [], ◌∷◌, ◌++◌, All, length, get_or, map, take, Option, None, Some, IsTrue, Result, Err, refl, sym, subst, arith, rules}
 use Rattle.std.specs.Io.KnownBytes.{Consumes, IsAtEnd}
-use Rattle.std.proofs.KnownBytes.{Consumes-whole}
 use Rattle.std.proofs.lemmas.List.{length-map}
 use Rattle.tre_trace.specs.Reading.{Recording, Stretch, Vocabulary, no_names, reading_for, segments_for}
 use Rattle.tre_trace.specs.Trace.{Timeline, IsTrace}
@@ -43,17 +42,14 @@ pub record IsCollected (were_fed : List ℕ → Type 0) (waits : List Stretch �
 pub told_start : (waits : List Stretch → Type 0) (recording : Bool → List ℕ → Recording)
     (limit : ℕ) → (recording false []).stretches ≡ [] → waits []
     → waits (recording false (take limit [])).stretches
-told_start waits recording limit nothing none =
-    subst (λ bytes. waits (recording false bytes).stretches)
-    (sym (take-over {X = ℕ} limit [] (omega arith))) (subst waits (sym nothing) none)
+told_start waits recording limit nothing none = search rules
 
 -- what is packed behind a turn before which nothing waited
 pub told_more : (packs : List Stretch → Type 0) {waits then_waits : List Stretch → Type 0}
     {before now : Recording} → TakesOn waits then_waits before now → waits []
     → ((added : List Stretch) → then_waits added → packs (before.stretches ++ added))
     → packs now.stretches
-told_more packs takes none pack =
-    subst packs (sym takes.beyond) (pack takes.added (takes.then [] none))
+told_more packs takes none pack = search rules
 
 -- a turn went on, and what it completed was packed
 pub IsCollected-more : {were_fed then_fed : List ℕ → Type 0}
@@ -65,17 +61,7 @@ pub IsCollected-more : {were_fed then_fed : List ℕ → Type 0}
     → ((fed : List ℕ) → were_fed fed → then_fed fed) → taken ≡ count
     → IsCollected then_fed packs recording limit file left found taken
 IsCollected-more recording limit file left found count taken bytes packs more none pack kept same =
-    record {
-      bytes = bytes ++ more.piece;
-      fed = record {
-        front = more.fed.front;
-        last = more.fed.last;
-        size = more.fed.size ∙ sym same;
-        few = rw same more.fed.few;
-        fed = kept (take limit (bytes ++ more.piece)) more.fed.fed;
-      };
-      told = told_more packs more.all none pack;
-    }
+    search rules
 
 -- so it is by what is asked now, which is the same
 pub IsCollected-as : (were_fed : List ℕ → Type 0) (packs : List Timeline → List Stretch → Type 0)
@@ -83,8 +69,7 @@ pub IsCollected-as : (were_fed : List ℕ → Type 0) (packs : List Timeline →
     {file left found : Option (List ℕ)} {taken : ℕ} → now ≡ said → most ≡ limit → items ≡ traces
     → IsCollected were_fed (packs traces) said limit file left found taken
     → IsCollected were_fed (packs items) now most file left found taken
-IsCollected-as were_fed packs said now limit most traces items same limited are read =
-    rw (same, limited, are) read
+IsCollected-as were_fed packs said now limit most traces items same limited are read = search rules
 
 -- however a turn ended, what was taken is at most one byte past the limit
 pub HasRead-bounded : {recording : Bool → List ℕ → Recording} {limit : ℕ}
@@ -92,30 +77,18 @@ pub HasRead-bounded : {recording : Bool → List ℕ → Recording} {limit : ℕ
     {result : Result Bool Fault}
     → HasRead recording limit file left found bytes waits then_waits result
     → TakesAtMost (limit + 1) file left
-HasRead-bounded {bytes = bytes} has = record {
-  taken = bytes ++ has.piece;
-  few = has.few;
-  front = has.front;
-}
+HasRead-bounded {bytes = bytes} has = search rules
 
 -- the bytes of an open input
 were_read : (input : InputTold) (bytes : List ℕ) → input.now.opened ≡ true
     → Consumes input.before.file input.now.left bytes → WereRead input bytes
-were_read input bytes opened front = record {
-  of_open = λ is_open. front;
-  of_closed = λ closed. cc;
-}
+were_read input bytes opened front = search rules
 
 -- of one that was read to its end
 AreAllBytes-read : (input : InputTold) (bytes : List ℕ) → input.now.opened ≡ true
     → Consumes input.before.file input.now.left bytes → IsAtEnd input.now.left → AreAllBytes input
     bytes
-AreAllBytes-read input bytes opened front all = record {
-  opened = opened;
-  read = were_read input bytes opened front;
-  all_read = all;
-  whole = Consumes-whole input.before.file input.now.left bytes _ front all refl;
-}
+AreAllBytes-read input bytes opened front all = search rules
 
 module _ (recording : Bool → List ℕ → Recording) (limit : ℕ) (name : List ℕ)
     (input : InputTold) where
@@ -129,8 +102,7 @@ module _ (recording : Bool → List ℕ → Recording) (limit : ℕ) (name : Lis
       → StopsReading recording limit name input fault
   StopsReading-turn bytes waits then_waits (Trace fault) opened cause sound none stops =
       (stops.0, record { opened = opened; cause = stops.1.cause; reads = cause })
-  StopsReading-turn bytes waits then_waits TooLong opened cause sound none stops =
-      record { opened = opened; cause = stops.cause; reads = cause }
+  StopsReading-turn bytes waits then_waits TooLong opened cause sound none stops = search rules
   StopsReading-turn bytes waits then_waits Read opened cause sound none stops = record {
     cause = cause;
     unsound = λ good. absurd (sound good refl);
@@ -153,19 +125,7 @@ module _ (recording : Bool → List ℕ → Recording) (limit : ℕ) (name : Lis
       → HasReadCause {T = Unit {0}} input.before.faults input.now.faults (Err fault)
       → (IsTrue input.before.sound → input.before.name ≡ Some name → fault ≢ Read)
       → StopsReading recording limit name input fault
-  StopsReading-unread Read is none closed cause sound = record {
-    cause = cause;
-    unsound = λ good named. sound good named refl;
-    goes_on = record {
-      bytes = [];
-      read = record {
-        of_open = λ is_open. cc;
-        of_closed = λ same. refl;
-      };
-      within = omega arith;
-      faultless = none;
-    };
-  }
+  StopsReading-unread Read is none closed cause sound = search rules
   StopsReading-unread Memory is none closed cause sound = cc
   StopsReading-unread (Trace fault) is none closed cause sound = cc
   StopsReading-unread TooLong is none closed cause sound = cc
@@ -190,13 +150,5 @@ pub IsWhole-ended : (asked : List Vocabulary) (recording : Bool → List ℕ →
     → traces ≡ map (trace_for (recording true bytes)) asked
     → ((names : Vocabulary) → IsTrace (segments_for names (recording true bytes).stretches))
     → IsWhole asked recording limit input traces
-IsWhole-ended asked recording limit input bytes traces opened reads ended are is_trace = record {
-  reads = reads;
-  bytes = bytes;
-  all = AreAllBytes-read input bytes opened ended.front ended.all_read;
-  within = ended.within;
-  faultless = ended.whole;
-  reads_as = are;
-  are_traces = subst (All (λ (trace : Timeline). IsTrace trace.segments)) (sym are)
-      (traces_each (recording true bytes) asked is_trace);
-}
+IsWhole-ended asked recording limit input bytes traces opened reads ended are is_trace =
+    search (rules, bytes, AreAllBytes-read, traces_each, ended.front)

@@ -1,10 +1,9 @@
 -- How an input stands after a call.
-use Rattle.std.proofs.Common.{◌≡◌, ◌∙◌, ℕ, ◌<◌, Bool, List, [], ◌∷◌, length, Result, Ok, Err, OnOk, IfOk, sym, subst, arith}
-use Rattle.tre_feed.specs.declared.view.View.{View}
+use Rattle.std.proofs.Common.{◌≡◌, ◌∙◌, ℕ, ◌<◌, Bool, List, [], ◌∷◌, length, Result, Ok, Err, OnOk, IfOk, sym, arith, rules}
 use Rattle.tre_trace.specs.Reading.{Recording, Stretch, Vocabulary}
 use Rattle.tre_feed.specs.Each.{RowsAre, all_asked, groups_in}
 use Rattle.tre_feed.specs.Packing.{KeepsViews}
-use Rattle.tre_feed.specs.Standing.{AreFor, IsAsked}
+use Rattle.tre_feed.specs.Standing.{IsAsked}
 use Rattle.tre_feed.specs.declared.input.Input.{Input}
 use Rattle.tre_feed.specs.declared.each.Fed.{Fed}
 use Rattle.tre_feed.proofs.Standing.{first_length, groups_same, recording_same}
@@ -15,16 +14,8 @@ pub IsAsked-same : {R Terms : Type 0} (names : R → Vocabulary) (terms : R → 
     → all_asked names terms new.each.items ≡ all_asked names terms old.each.items
     → new.views.items ≡ old.views.items → new.limit ≡ old.limit
     → IsAsked names terms recording old new
-IsAsked-same names terms recording old new same views limit = record {
-  asks = λ asked asks. record {
-    views = subst (λ (all : List View). AreFor asked (groups_in names new.each.items) all)
-        (sym views)
-        (subst (λ (groups : List Vocabulary). AreFor asked groups old.views.items)
-        (sym (groups_same names terms new.each.items old.each.items same)) asks.views);
-  };
-  said = recording_same names terms recording new.each.items old.each.items same;
-  limit = limit;
-}
+IsAsked-same names terms recording old new same views limit =
+    search (rules, groups_in, groups_same, recording_same, new.each.items, old.each.items)
 
 -- and by the same views
 pub KeepsViews-same : {R Terms : Type 0} (names : R → Vocabulary) (terms : R → Terms)

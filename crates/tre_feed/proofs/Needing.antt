@@ -1,7 +1,6 @@
 -- What a dump must declare, by the names of all patterns.
-use Rattle.std.proofs.Common.{◌≡◌, ◌∙◌, ◌&&◌, ℕ, ◌+◌, ◌<◌, ◌≤◌, Bool, true, false, List, [], ◌∷◌, ◌++◌, length, get_or, map, take, refl, sym, ap, ap₂, subst}
+use Rattle.std.proofs.Common.{◌≡◌, ◌∙◌, ◌&&◌, ℕ, ◌+◌, ◌<◌, ◌≤◌, Bool, true, false, List, [], ◌∷◌, ◌++◌, length, get_or, map, take, refl, sym, ap, ap₂, subst, rules}
 use Rattle.std.specs.List.{list_all}
-use Rattle.std.specs.Option.{is_some}
 use Rattle.std.proofs.lemmas.List.{map_more, take_all}
 use Rattle.tre_define.specs.Signals.{SignalDefined}
 use Rattle.tre_trace.specs.Reading.{Vocabulary}
@@ -9,7 +8,7 @@ use Rattle.tre_feed.specs.Dump.{NeedsAll}
 use Rattle.tre_vcd.specs.Sorted.{JoinsNames}
 use Rattle.tre_feed.specs.Dump.{dump_terms}
 use Rattle.tre_vcd.proofs.Listing.{listed-alike}
-use Rattle.tre_vcd.specs.VcdReading.{Statement, vcd_recording, are_declared, signal_of, event_asked}
+use Rattle.tre_vcd.specs.VcdReading.{Statement, vcd_recording, are_declared}
 
 crossed : (a b c d : Bool) → ((a && b) && (c && d)) ≡ ((a && c) && (b && d))
 crossed true true c d = refl
@@ -22,13 +21,7 @@ joined : (definitions : List SignalDefined) (past : List Statement) (old added n
     → JoinsNames old.names added.names new.names → JoinsNames old.events added.events new.events
     → are_declared definitions past new
     ≡ (are_declared definitions past old && are_declared definitions past added)
-joined definitions past old added new names events =
-    ap₂ (λ (a b : Bool). a && b) (names.each (λ name. is_some (signal_of definitions past name)))
-    (events.each (λ name. is_some (event_asked definitions past name)))
-    ∙ crossed (list_all (λ name. is_some (signal_of definitions past name)) old.names)
-    (list_all (λ name. is_some (signal_of definitions past name)) added.names)
-    (list_all (λ name. is_some (event_asked definitions past name)) old.events)
-    (list_all (λ name. is_some (event_asked definitions past name)) added.events)
+joined definitions past old added new names events = search rules
 
 and-true : (b : Bool) → (b && true) ≡ b
 and-true true = refl
@@ -45,9 +38,7 @@ all-push test (first ∷ xs) x =
     ap (λ b. test first && b) (all-push test xs x) ∙ and-assoc (test first) (list_all test xs) (test x)
 
 pub needs-none : (set : Vocabulary) → set ≡ record { names = []; events = [] } → NeedsAll set []
-needs-none set is = record {
-  declared = λ definitions past. ap (are_declared definitions past) is;
-}
+needs-none set is = search rules
 
 pub needs-more : {X : Type 0} (f : X → Vocabulary) (xs : List X) (i : ℕ) (x : X)
     (old added new : Vocabulary) → i < length xs → x ≡ get_or xs i x → added ≡ f x

@@ -1,5 +1,5 @@
 -- What the bytes of an input come to, and what all bytes of it say.
-use Rattle.std.proofs.Common.{◌≡◌, ◌∙◌, ◌-◌, ◌<◌, ◌≤◌, ℕ, nat_le, Bool, true, false, List, [], ◌++◌, length, take, Option, None, Some, IfSome, refl, sym, ap, subst, arith, length-append, append-nil}
+use Rattle.std.proofs.Common.{◌≡◌, ◌∙◌, ◌-◌, ◌<◌, ◌≤◌, ℕ, nat_le, Bool, true, false, List, [], ◌++◌, length, take, Option, None, Some, IfSome, refl, sym, ap, subst, arith, length-append, rules}
 use Rattle.std.proofs.lemmas.Bool.Decides.{nat_tests}
 use Rattle.std.proofs.lemmas.List.{take-append-le}
 use Rattle.std.proofs.KnownBytes.{Consumes-whole}
@@ -41,10 +41,7 @@ module _ (recording : Bool → List ℕ → Recording) (limit : ℕ) where
   fault_within : GrowsOn recording → (taken rest : List ℕ) (fault : TraceFault)
       → (recording false (take limit taken)).fault ≡ Some fault
       → recording_within recording limit (taken ++ rest) ≡ recording false (take limit taken)
-  fault_within grows taken rest fault told =
-      let grown = grows (nat_le (length (taken ++ rest)) limit) (take limit taken)
-      (take (limit - length taken) rest) in
-      rw (take_split limit taken rest) (grown.fault fault told)
+  fault_within grows taken rest fault told = search (rules, take_split)
 
   -- so do more bytes than the limit
   exceed_within : (taken rest : List ℕ) → limit < length taken
@@ -61,8 +58,7 @@ module _ (recording : Bool → List ℕ → Recording) (limit : ℕ) where
   here : (taken : List ℕ) (other : Recording)
       → recording_within recording limit (taken ++ []) ≡ other
       → recording_within recording limit taken ≡ other
-  here taken other same =
-      subst (λ bytes. recording_within recording limit bytes ≡ other) (append-nil taken) same
+  here taken other same = search rules
 
   -- all bytes, closed
   closed_within : (bytes : List ℕ) → length bytes ≤ limit
@@ -75,19 +71,14 @@ module _ (recording : Bool → List ℕ → Recording) (limit : ℕ) where
       → recording_within recording limit bytes ≡ now → now.fault ≡ Some fault
       → outcome_of recording limit bytes ≡ refuses fault
   unfolding outcome_of
-  refuses_here bytes now fault same told =
-      ap (λ (r : Recording). outcome_from (nat_le (length bytes) limit) r.fault) same
-      ∙ refused (nat_le (length bytes) limit) now fault told
+  refuses_here bytes now fault same told = search rules
 
   -- no fault, and more bytes than the limit
   exceeds_here : (bytes : List ℕ) (now : Recording)
       → recording_within recording limit bytes ≡ now → now.fault ≡ None → limit < length bytes
       → outcome_of recording limit bytes ≡ exceeds
   unfolding outcome_of
-  exceeds_here bytes now same none over =
-      ap (λ (r : Recording). outcome_from (nat_le (length bytes) limit) r.fault) same
-      ∙ (ap (λ closed. outcome_from closed now.fault) (beyond (length bytes) limit over)
-      ∙ too_long now none)
+  exceeds_here bytes now same none over = search rules
 
   module _ (file left : Option (List ℕ)) where
     -- a turn that found a fault in what it read: before it are all stretches before that of the

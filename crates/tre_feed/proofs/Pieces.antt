@@ -1,30 +1,24 @@
 -- One turn of reading an input: what it fed, and how it stopped.
-use Rattle.std.proofs.Common.{◌≡◌, ◌∙◌, ◌+◌, ◌-◌, ◌≤◌, ◌≢◌, ℕ, Bool, true, false, List, [], ◌∷◌, ◌++◌, length, take, Option, None, Some, IfSome, Result, Ok, Err, refl, sym, ap, subst, arith, length-append, append-nil}
+use Rattle.std.proofs.Common.{◌≡◌, ◌∙◌, ◌+◌, ◌-◌, ◌≤◌, ℕ, Bool, true, false, List, [], ◌∷◌, ◌++◌, length, take, Option, None, Some, IfSome, Result, Ok, Err, refl, sym, ap, subst, arith, length-append, append-nil, rules}
 use Rattle.std.specs.Io.KnownBytes.{Consumes, Keeps, IsAtEnd}
 use Rattle.std.proofs.KnownBytes.{Consumes-trans}
 use Rattle.tre_io.specs.Told.{SourceTold}
 use Rattle.tre_trace.specs.Reading.{Recording, Stretch}
 use Rattle.tre_feed.specs.Front.{IsReadOn}
-use Rattle.tre_feed.specs.Input.{HasReadCause, IsPiece, KeepsSource}
+use Rattle.tre_feed.specs.Input.{IsPiece, KeepsSource}
 use Rattle.tre_feed.specs.Stops.{IsOfReaders, IsPieceFed, StopsPiece, TakesIn}
 use Rattle.tre_feed.specs.Turn.{TurnIsFed, HasRead, TurnGoesOn, TurnIsEnded, KeepsWaiting as KeepsAll, StopsTurn, TakesOn, TakesRead}
 use Rattle.tre_feed.specs.declared.TheConstants.{PIECE}
 use Rattle.tre_feed.specs.declared.fault.Fault.{Fault}
 use Rattle.tre_feed.specs.declared.fault.Fault.TheVariants.{Trace, TooLong, TooManyZones, Read, Write, Memory}
 use Rattle.tre_feed.proofs.Cuts.{take-over}
-use Rattle.tre_feed.proofs.Sharing.{on_ok_so}
 use Rattle.tre_feed.proofs.Outcomes.{GrowsOn, TellsAll-fault, TellsAll-end, fed_more}
 
 -- nothing was read behind these bytes
 pub IsReadOn-nothing : (most : ℕ) (old : List ℕ) (before now : Option (List ℕ))
     (result : Result Bool Fault) → length old ≤ most → Consumes before now []
     → IsReadOn most old old before now result
-IsReadOn-nothing most old before now result few front = record {
-  piece = [];
-  front = front;
-  few = rw (append-nil old) few;
-  added = on_ok_so result (sym (append-nil old));
-}
+IsReadOn-nothing most old before now result few front = search rules
 
 pub Consumes-keeps : (a b c : Option (List ℕ)) (bytes : List ℕ) → Consumes a b bytes → Keeps b c
     → Consumes a c bytes
@@ -45,40 +39,23 @@ none_beyond xs ys same =
 -- a recording has nothing beyond itself
 pub TakesOn-same : {old new : List Stretch → Type 0} {before now : Recording}
     → TakesOn old new before now → before ≡ now → KeepsAll old new
-TakesOn-same {old} {new} {before} {now} takes same =
-    let none : takes.added ≡ [] = none_beyond before.stretches takes.added
-    (ap (λ (r : Recording). r.stretches) same ∙ takes.beyond) in
-    record {
-      same = λ waiting wait. subst new
-          (ap (λ added. waiting ++ added) none ∙ append-nil waiting)
-          (takes.then waiting wait);
-    }
+TakesOn-same {old} {new} {before} {now} takes same = search (rules, takes, none_beyond, takes.then)
 
 -- no stretch more
 pub TakesOn-nothing : {old new : List Stretch → Type 0} (recording : Recording)
     → KeepsAll old new → TakesOn old new recording recording
-TakesOn-nothing {old} {new} recording kept = record {
-  added = [];
-  beyond = sym (append-nil recording.stretches);
-  then = λ waiting wait. subst new (sym (append-nil waiting)) (kept.same waiting wait);
-}
+TakesOn-nothing {old} {new} recording kept = search rules
 
 pub Keeps-own : (old : List Stretch → Type 0) → KeepsAll old old
 Keeps-own old = record { same = λ waiting wait. wait }
 
 Keeps-trans : {old mid new : List Stretch → Type 0} → KeepsAll old mid → KeepsAll mid new
     → KeepsAll old new
-Keeps-trans first then = record {
-  same = λ waiting wait. then.same waiting (first.same waiting wait);
-}
+Keeps-trans first then = search rules
 
 TakesOn-after : {old mid new : List Stretch → Type 0} {before now : Recording} → KeepsAll old mid
     → TakesOn mid new before now → TakesOn old new before now
-TakesOn-after kept takes = record {
-  added = takes.added;
-  beyond = takes.beyond;
-  then = λ waiting wait. takes.then waiting (kept.same waiting wait);
-}
+TakesOn-after kept takes = search rules
 
 -- what a read finds left is what is left of what was read
 pub found_behind : (file left found : Option (List ℕ)) (bytes : List ℕ) → Consumes file left bytes
@@ -86,8 +63,7 @@ pub found_behind : (file left found : Option (List ℕ)) (bytes : List ℕ) → 
 found_behind None left found bytes front kept = tt
 found_behind (Some all) left None bytes front kept = tt
 found_behind (Some all) None (Some rest) bytes front kept = absurd front
-found_behind (Some all) (Some xs) (Some rest) bytes front kept =
-    front ∙ ap (λ ys. bytes ++ ys) kept
+found_behind (Some all) (Some xs) (Some rest) bytes front kept = search rules
 
 module _ {were_fed : List ℕ → Type 0} {limit : ℕ} {file left found : Option (List ℕ)} {count : ℕ}
     {bytes : List ℕ} (so_far : TurnIsFed were_fed limit file left found count bytes) where
@@ -284,27 +260,15 @@ pub IsAtEndOf-read : {were_fed were_fed' : List ℕ → Type 0} (limit : ℕ)
     → were_fed' (bytes ++ take (limit - taken) (take count buffer))
     → IsAtEndOf were_fed' limit file left' found' bytes
 IsAtEndOf-read {were_fed' = were_fed'} limit file left found left' found' taken count bytes buffer
-    so_far inside front finds all none fed =
-    let piece : take count buffer ≡ [] = rw none refl in
-    record {
-      front = rw (append-nil bytes) at (Consumes-trans file left left' bytes [] so_far.front
-          (rw piece at front));
-      all_read = all;
-      within = omega (arith, so_far.size, inside);
-      fed = subst were_fed' (ap (λ more. bytes ++ more)
-          (nothing_of (limit - taken) count buffer none)
-          ∙ append-nil bytes) fed;
-      behind = found_behind file left found' bytes so_far.front finds;
-    }
+    so_far inside front finds all none fed = search rules
 
 -- what such a read adds
 pub Keeps-end : (recording : Bool → List ℕ → Recording) (limit count : ℕ) (bytes buffer : List ℕ)
     {old new : List Stretch → Type 0} → count ≡ 0
     → TakesOn old new (recording false bytes)
     (recording false (bytes ++ take limit (take count buffer))) → KeepsAll old new
-Keeps-end recording limit count bytes buffer none takes = TakesOn-same takes
-    (ap (recording false) (sym (ap (λ more. bytes ++ more) (nothing_of limit count buffer none)
-    ∙ append-nil bytes)))
+Keeps-end recording limit count bytes buffer none takes =
+    search (rules, TakesOn-same, takes, nothing_of)
 
 module _ {were_fed : List ℕ → Type 0} (recording : Bool → List ℕ → Recording) {limit : ℕ}
     {file left found : Option (List ℕ)} {bytes : List ℕ}
@@ -394,15 +358,7 @@ pub StopsPiece-refused : (recording : Bool → List ℕ → Recording) (allowed 
     → TakesIn old new (recording false bytes) (recording false (bytes ++ fed)) (Err fault)
     → StopsPiece recording allowed room bytes before now old new fault
 StopsPiece-refused recording allowed room bytes piece fed before now old new (Trace fault) front
-    short is takes = record {
-      kind = takes.0;
-      piece = piece;
-      front = front;
-      short = short;
-      all = subst (λ more. TakesOn old new (recording false bytes)
-          (recording false (bytes ++ more))) is takes.1;
-      told = subst (λ more. (recording false (bytes ++ more)).fault ≡ Some fault) is takes.2;
-    }
+    short is takes = search rules
 StopsPiece-refused recording allowed room bytes piece fed before now old new TooLong front short is
     takes = absurd takes
 StopsPiece-refused recording allowed room bytes piece fed before now old new
@@ -413,82 +369,26 @@ StopsPiece-refused recording allowed room bytes piece fed before now old new Wri
 StopsPiece-refused recording allowed room bytes piece fed before now old new Read front short is
     takes = absurd takes
 StopsPiece-refused recording allowed room bytes piece fed before now old new Memory front short is
-    takes = record {
-      piece = piece;
-      front = front;
-      short = short;
-      kept = takes;
-    }
-
--- a read that failed
-pub StopsPiece-unread : (recording : Bool → List ℕ → Recording) (allowed room : ℕ)
-    (bytes : List ℕ) (before now : Option (List ℕ)) (old : List Stretch → Type 0) (fault : Fault)
-    → fault ≡ Read → Keeps before now
-    → StopsPiece recording allowed room bytes before now old old fault
-StopsPiece-unread recording allowed room bytes before now old fault is kept =
-    rw is (record { left = kept; kept = Keeps-own old })
-
--- a reader reads no input, so its faults are none of that
-cause_of : (T : Type 0) (before now : ℕ) (fault : Fault) → IsOfReaders (Err fault)
-    → now ≡ before → HasReadCause {T = T} before now (Err fault)
-cause_of T before now (Trace fault) told same = same
-cause_of T before now TooLong told same = same
-cause_of T before now (TooManyZones zones) told same = same
-cause_of T before now Write told same = same
-cause_of T before now Read told same = absurd told
-cause_of T before now Memory told same = same
-
-never_read : (fault : Fault) → IsOfReaders (Err fault) → fault ≢ Read
-never_read (Trace fault) told is = cc
-never_read TooLong told is = cc
-never_read (TooManyZones zones) told is = cc
-never_read Write told is = cc
-never_read Read told is = told
-never_read Memory told is = cc
-
--- the same fault, of a call that would tell something else
-same_cause : (T U : Type 0) (before now : ℕ) (fault : Fault)
-    → HasReadCause {T = T} before now (Err fault) → HasReadCause {T = U} before now (Err fault)
-same_cause T U before now (Trace fault) cause = cause
-same_cause T U before now TooLong cause = cause
-same_cause T U before now (TooManyZones zones) cause = cause
-same_cause T U before now Write cause = cause
-same_cause T U before now Read cause = cause
-same_cause T U before now Memory cause = cause
+    takes = search rules
 
 module _ {before now : SourceTold} {T U : Type 0} where
   -- whatever was told of a source that was read
   pub KeepsSource-ok : {value : T} {other : U}
       → KeepsSource before now (Ok value)
       → KeepsSource before now (Ok other)
-  KeepsSource-ok keeps = record {
-    cause = keeps.cause;
-    no_failure = λ good is. cc;
-    same_opened = keeps.same_opened;
-    same_sound = keeps.same_sound;
-  }
+  KeepsSource-ok keeps = search rules
 
   -- a fault that the readers had
   pub KeepsSource-readers : {value : T} (fault : Fault) → IsOfReaders (Err fault)
       → KeepsSource before now (Ok value)
       → KeepsSource {T = U} before now (Err fault)
-  KeepsSource-readers fault told keeps = record {
-    cause = cause_of U before.faults now.faults fault told keeps.cause;
-    no_failure = λ good is. let same : fault ≡ Read = cc in never_read fault told same;
-    same_opened = keeps.same_opened;
-    same_sound = keeps.same_sound;
-  }
+  KeepsSource-readers fault told keeps = search rules
 
   -- a fault that the read had
   pub KeepsSource-err : (fault : Fault)
       → KeepsSource {T = T} before now (Err fault)
       → KeepsSource {T = U} before now (Err fault)
-  KeepsSource-err fault keeps = record {
-    cause = same_cause T U before.faults now.faults fault keeps.cause;
-    no_failure = λ good is. let same : fault ≡ Read = cc in keeps.no_failure good (ap Err same);
-    same_opened = keeps.same_opened;
-    same_sound = keeps.same_sound;
-  }
+  KeepsSource-err fault keeps = search rules
 
 -- A turn whose read took no byte, and what the readers then took in at the end.
 pub record FindsEnd (were_fed : List ℕ → Type 0) (recording : Bool → List ℕ → Recording)

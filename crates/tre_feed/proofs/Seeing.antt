@@ -1,5 +1,5 @@
 -- What views show of the rows, for the names of each who asks.
-use Rattle.std.proofs.Common.{◌≡◌, ◌∙◌, ℕ, zero, suc, ◌+◌, ◌<◌, ◌≤◌, Bool, List, [], ◌∷◌, ◌++◌, All, length, map, take, get_or, refl, sym, ap, ap₂, subst, arith}
+use Rattle.std.proofs.Common.{◌≡◌, ◌∙◌, ℕ, zero, suc, ◌+◌, ◌<◌, ◌≤◌, Bool, List, [], ◌∷◌, ◌++◌, All, length, map, take, get_or, refl, sym, ap, ap₂, subst, arith, rules}
 use Rattle.std.proofs.lemmas.List.{length-map, map-append, take_all, take_more}
 use Rattle.std.proofs.lemmas.List.Elements.{All-head, All-tail}
 use Rattle.std.proofs.lemmas.Option.{get_or_from_slice_get, slice_get_within}
@@ -66,13 +66,8 @@ module _ {R : Type 0} (names : R → Vocabulary) where
       (place : ℕ) → All (λ view. group_of view < length each) views
       → RowsAre names each stretches → place < length stretches
       → All (λ view. place < length (row_seen (rows_in each) view)) views
-  rows_below each views stretches place within rows below = λ k d inside.
-      let view = get_or views k d in
-      let size : length (row_seen (rows_in each) view) ≡ length stretches =
-      ap length (row_at each (group_of view) stretches rows (within k d inside))
-      ∙ length-map stretches
-      (segment_for (get_or (groups_in names each) (group_of view) no_names)) in
-      omega (arith, size, below)
+  rows_below each views stretches place within rows below =
+      search (rules, row_seen, rows_in, row_at, group_of, length-map, segment_for)
 
 -- what a view shows of a trace is one
 IsTrace-shown : (view : View) (row : List Segment) → IsTrace row
@@ -107,16 +102,13 @@ module _ (asked all : Vocabulary) (view : View) (shows : Shows asked all view) w
 
   last_shown : (last : List ℕ → Bool)
       → shown_events view (events_for all last) ≡ events_for asked last
-  last_shown last =
-      seen-places asked.events all.events (places_of view.events) last shows.events
+  last_shown last = seen-places asked.events all.events (places_of view.events) _ shows.events
 
 module _ {R : Type 0} (names : R → Vocabulary) (each : List (Fed R)) where
   group_within : (asked : Vocabulary) (view : View) → IsViewOf (groups_in names each) asked view
       → group_of view < length each
   group_within asked view own =
-      let inside : group_of view < length (groups_in names each) =
-      slice_get_within (groups_in names each) (group_of view) own.all own.group in
-      omega (arith, inside, length-map each (λ (fed : Fed R). names fed.reader))
+      search (rules, group_of, groups_in, slice_get_within, length-map, own.all, own.group)
 
   names_at : (asked : Vocabulary) (view : View)
       → (own : IsViewOf (groups_in names each) asked view)
@@ -235,9 +227,7 @@ module _ {R : Type 0} (names : R → Vocabulary) (each : List (Fed R)) where
 pub ArePacked-kept : {R : Type 0} (names : R → Vocabulary) (old new : Input R)
     (traces : List Timeline) (stretches : List Stretch) → KeepsViews names old new
     → ArePacked names old traces stretches → ArePacked names new traces stretches
-ArePacked-kept names old new traces stretches keeps packed = record {
-  are = rw (keeps.groups, keeps.views) packed.are;
-}
+ArePacked-kept names old new traces stretches keeps packed = search rules
 
 -- no stretch is packed in traces of no segments
 pub ArePacked-none : {R : Type 0} (names : R → Vocabulary) (input : Input R)

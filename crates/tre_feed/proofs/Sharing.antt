@@ -1,5 +1,5 @@
 -- Views of groups stay right when groups grow.
-use Rattle.std.proofs.Common.{◌≡◌, ◌≢◌, ℕ, ◌+◌, ◌<◌, ◌≤◌, List, [], ◌∷◌, ◌++◌, length, get_or, set, Some, Result, Ok, Err, OnOk, inl, inr, sym, ap, subst, ◌∙◌, arith, length-append}
+use Rattle.std.proofs.Common.{◌≡◌, ◌≢◌, ℕ, ◌+◌, ◌<◌, ◌≤◌, List, [], ◌∷◌, ◌++◌, length, get_or, set, Some, Result, Ok, Err, OnOk, ap, ◌∙◌, arith, length-append, rules}
 use Rattle.std.specs.Prelude.{slice_get}
 use Rattle.std.proofs.lemmas.List.{length-set, get_or-set_same, get_or-set_other}
 use Rattle.std.proofs.lemmas.Bool.{cases_eq}
@@ -10,16 +10,13 @@ use Rattle.tre_feed.specs.Growth.{IsWider, HasWider, Keep}
 use Rattle.tre_feed.specs.Places.{places_of, ArePlaces}
 use Rattle.tre_feed.specs.Shares.{Shows, IsViewOf}
 use Rattle.tre_feed.specs.declared.view.View.{View}
-use Rattle.tre_feed.proofs.Among.{get_or-front, get_or-last, places-kept, Extends-none, Extends-trans}
+use Rattle.tre_feed.proofs.Among.{get_or-front, get_or-last, places-kept, Extends-trans}
 
 -- a view by the places of its names
 pub shows : (asked all : Vocabulary) (view : View)
     → ArePlaces asked.names all.names (places_of view.names)
     → ArePlaces asked.events all.events (places_of view.events) → Shows asked all view
-shows asked all view names events = record {
-  names = names;
-  events = events;
-}
+shows asked all view names events = search rules
 
 pub shows-kept : (asked old new : Vocabulary) (view : View) → IsWider old new
     → Shows asked old view → Shows asked new view
@@ -58,10 +55,7 @@ views-push groups (first ∷ asked) (other ∷ views) names view are is =
 -- ---- groups that keep their names
 
 pub IsWider-none : (names : Vocabulary) → IsWider names names
-IsWider-none names = record {
-  names = Extends-none names.names;
-  events = Extends-none names.events;
-}
+IsWider-none names = search rules
 
 IsWider-trans : (old mid new : Vocabulary) → IsWider old mid → IsWider mid new → IsWider old new
 IsWider-trans old mid new one two = record {
@@ -100,10 +94,7 @@ get-last xs x =
     ∙ ap Some (get_or-last xs x)
 
 pub Keep-push : (groups : List Vocabulary) (group : Vocabulary) → Keep groups (groups ++ group ∷ [])
-Keep-push groups group = record {
-  each = λ number old is.
-      there (groups ++ group ∷ []) number old (get-front groups (group ∷ []) number old is);
-}
+Keep-push groups group = search (rules, there, get-front)
 
 -- where a call succeeded, a group has begun behind those that are there
 pub Keep-begun : {T E : Type 0} (result : Result T E) (old mid items new : List Vocabulary)
@@ -143,47 +134,23 @@ set-other groups number i new group other is =
 
 set-keeps : (groups : List Vocabulary) (number : ℕ) (old new : Vocabulary)
     → slice_get groups number ≡ Some old → IsWider old new → Keep groups (set groups number new)
-set-keeps groups number old new here wider = record {
-  each = λ i group is. elim (cases_eq i number) [
-    | inl same ↦
-        let both : Some group ≡ Some old = sym is ∙ ap (slice_get groups) same ∙ here in
-        let alike : group ≡ old = cc in
-        record {
-          new = new;
-          is =
-              ap (slice_get (set groups number new)) same
-              ∙ set-here groups number new (slice_get_within groups number old here);
-          wider = subst (λ (first : Vocabulary). IsWider first new) (sym alike) wider;
-        }
-    | inr other ↦
-        there (set groups number new) i group (set-other groups number i new group other is)
-  ];
-}
+set-keeps groups number old new here wider =
+    search (rules, cases_eq, set-here, slice_get_within, there, set-other)
 
 pub Keep-set : (first groups : List Vocabulary) (number : ℕ) (any new : Vocabulary)
     → Keep first groups → number < length groups → IsWider (get_or groups number any) new
     → Keep first (set groups number new)
 Keep-set first groups number any new keep within wider =
-    Keep-trans first groups (set groups number new) keep
-    (set-keeps groups number (get_or groups number any) new
-    (slice_get-get_or groups number any within) wider)
+    search (rules, Keep-trans, set-keeps, slice_get-get_or)
 
 -- the view of a group that has just taken the names in
 pub view-here : (groups : List Vocabulary) (number : ℕ) (asked new : Vocabulary) (view : View)
     → number < length groups → view.group ≡ number → Shows asked new view
     → IsViewOf (set groups number new) asked view
-view-here groups number asked new view within group is = record {
-  all = new;
-  group = rw group (set-here groups number new within);
-  shows = is;
-}
+view-here groups number asked new view within group is = search (rules, set-here, shows)
 
 -- and of one that has just begun
 pub view-last : (groups : List Vocabulary) (asked new : Vocabulary) (view : View)
     → view.group ≡ length groups → Shows asked new view
     → IsViewOf (groups ++ new ∷ []) asked view
-view-last groups asked new view group is = record {
-  all = new;
-  group = rw group (get-last groups new);
-  shows = is;
-}
+view-last groups asked new view group is = search (rules, get-last, shows)

@@ -1,5 +1,5 @@
 -- How the readers of one input stand.
-use Rattle.std.proofs.Common.{◌≡◌, ◌≢◌, ◌∙◌, ◌+◌, ◌-◌, ◌<◌, ◌≤◌, ℕ, Bool, true, false, List, [], ◌∷◌, ◌++◌, length, take, Option, None, Some, Result, Ok, Err, OnOk, refl, sym, ap, ap₂, subst, arith, append-nil}
+use Rattle.std.proofs.Common.{◌≡◌, ◌≢◌, ◌∙◌, ◌+◌, ◌-◌, ◌<◌, ◌≤◌, ℕ, Bool, true, false, List, [], ◌∷◌, ◌++◌, length, take, Option, None, Some, Result, Ok, Err, OnOk, refl, sym, ap, ap₂, subst, arith, append-nil, rules}
 use Rattle.std.proofs.lemmas.List.{append_cancel_left, length-map, map-append, take_all, take-append-le}
 use Rattle.std.specs.List.{AllByRecursion}
 use Rattle.tre_trace.specs.Reading.{Recording, Stretch, Vocabulary, Adds, Grows, IsRefused, segment_for, segments_for}
@@ -22,21 +22,13 @@ each_so P Q so (x ∷ xs) all = (so x all.0, each_so P Q so xs all.1)
 
 -- what a reader is asked is two lists of names and terms
 module _ {R Terms : Type 0} (names : R → Vocabulary) (terms : R → Terms) where
-  pub count_same : (new old : List (Fed R)) → all_asked names terms new ≡ all_asked names terms old
-      → length new ≡ length old
-  count_same new old same =
-      sym (length-map new (λ (fed : Fed R). asked_by names terms fed.reader))
-      ∙ (ap length same ∙ length-map old (λ (fed : Fed R). asked_by names terms fed.reader))
-
   pub recording_same : (recording : Terms → Bool → List ℕ → Recording) (new old : List (Fed R))
       → all_asked names terms new ≡ all_asked names terms old
       → recording_by recording terms new ≡ recording_by recording terms old
   recording_same recording [] [] same = refl
   recording_same recording [] (o ∷ old) same = absurd (omega (arith, ap length same))
   recording_same recording (n ∷ new) [] same = absurd (omega (arith, ap length same))
-  recording_same recording (n ∷ new) (o ∷ old) same =
-      let first : asked_by names terms n.reader ≡ asked_by names terms o.reader = cc same in
-      ap (λ (asked : Asked Terms). recording asked.terms) first
+  recording_same recording (n ∷ new) (o ∷ old) same = search rules
 
   pub groups_same : (new old : List (Fed R))
       → all_asked names terms new ≡ all_asked names terms old
@@ -86,35 +78,18 @@ pub asked_again : {R Terms : Type 0} (names : R → Vocabulary) (terms : R → T
     → asked_by names terms one.reader ≡ asked_by names terms first.reader
     → all_asked names terms new ≡ all_asked names terms old
     → all_asked names terms (one ∷ new) ≡ all_asked names terms each
-asked_again {Terms = Terms} names terms each new old first one is same others =
-    rw is (ap₂ (λ (asked : Asked Terms) rest. asked ∷ rest) same others)
+asked_again {Terms = Terms} names terms each new old first one is same others = search rules
 
 -- readers that were fed at most this much
 pub room_each : {R : Type 0} (fed_of : R → ℕ) (each : List (Fed R)) (taken limit most : ℕ)
     → AllByRecursion (λ fed. fed_of fed.reader ≤ taken) each → taken ≤ limit → limit ≤ most
     → AllByRecursion (λ fed. fed_of fed.reader + (limit - taken) ≤ most) each
-room_each fed_of each taken limit most few inside fits =
-    each_so (λ fed. fed_of fed.reader ≤ taken)
-    (λ fed. fed_of fed.reader + (limit - taken) ≤ most)
-    (λ fed own. omega (arith, own, inside, fits)) each few
+room_each fed_of each taken limit most few inside fits = search (rules, each_so)
 
 pub room_less : {R : Type 0} (fed_of : R → ℕ) (each : List (Fed R)) (more less most : ℕ)
     → AllByRecursion (λ fed. fed_of fed.reader + more ≤ most) each → less ≤ more
     → AllByRecursion (λ fed. fed_of fed.reader + less ≤ most) each
-room_less fed_of each more less most room within =
-    each_so (λ fed. fed_of fed.reader + more ≤ most) (λ fed. fed_of fed.reader + less ≤ most)
-    (λ fed own. omega (arith, own, within)) each room
-
-pub fed_at_most : {R Terms : Type 0} (terms : R → Terms) (represents : R → List ℕ → Type 0)
-    (fed_of : R → ℕ)
-    → ((reader : R) (bytes : List ℕ) → represents reader bytes → fed_of reader ≡ length bytes)
-    → (each : List (Fed R)) (bytes : List ℕ) (count : ℕ) → length bytes ≤ count
-    → AllWereFed terms represents each bytes
-    → AllByRecursion (λ fed. fed_of fed.reader ≤ count) each
-fed_at_most terms represents fed_of counts each bytes count few were =
-    each_so (λ fed. (terms fed.reader ≡ were.all) × represents fed.reader bytes)
-    (λ fed. fed_of fed.reader ≤ count)
-    (λ fed own. omega (arith, counts fed.reader bytes own.1, few)) each were.stand
+room_less fed_of each more less most room within = search (rules, each_so)
 
 pub segments_more : (asked : Vocabulary) (waiting added : List Stretch)
     → segments_for asked waiting ++ segments_for asked added
@@ -127,23 +102,14 @@ pub row_more : (asked : Vocabulary) (old new : List Segment) (before now : Recor
     → now.stretches ≡ before.stretches ++ added → old ≡ segments_for asked waiting
     → new ≡ segments_for asked (waiting ++ added)
 row_more asked old new before now adds waiting added beyond are =
-    let same : adds.added ≡ added = append_cancel_left before.stretches adds.added added
-    (sym adds.beyond ∙ beyond) in
-    adds.new_is
-    ∙ (ap₂ (λ (row rest : List Segment). row ++ rest) are
-    (ap (segments_for asked) same) ∙ segments_more asked waiting added)
+    search (rules, append_cancel_left, segments_for, segments_more, adds.added, before.stretches)
 
 -- a row in front of which what waited stands
 row_front : (asked : Vocabulary) (old new more : List Segment) (waiting : List Stretch)
     → new ≡ old ++ more → old ≡ segments_for asked waiting
     → take (length waiting) new ≡ segments_for asked waiting
 row_front asked old new more waiting is are =
-    let size : length waiting ≡ length old =
-    sym (ap length are ∙ length-map waiting (segment_for asked)) in
-    let front : take (length old) (old ++ more) ≡ old =
-    take-append-le (length old) old more (omega arith)
-    ∙ take_all (length old) old (omega arith) in
-    rw (is, size) (front ∙ are)
+    search (rules, length-map, segment_for, take-append-le, take_all)
 
 pub row_begins : (asked : Vocabulary) (old new : List Segment) (before now : Recording)
     (found : Option TraceFault) (ok : Bool) → TakesOne asked old new before now found ok
@@ -197,21 +163,14 @@ pub takes_refused : (asked : Vocabulary) (old new : List Segment) (before now : 
     (fault : TraceFault) (more : Bool) → IsRefused asked old new before now fault
     → (more ≡ true → fault.kind ≢ NoMemory)
     → TakesOne asked old new before now (Some fault) more
-takes_refused asked old new before now fault true refused kind = (
-  refused.adds (kind refl),
-  record {
-    told = refused.told (kind refl);
-    kind = record { never_memory = kind refl; never_spent = refused.never_spent };
-  },
-)
+takes_refused asked old new before now fault true refused kind = search rules
 takes_refused asked old new before now fault false refused kind = refused.adds_some
 
 -- then there is a fault
 pub refused_faulty : (asked : Vocabulary) (old new : List Segment) (before now : Recording)
     (fault : TraceFault) → IsRefused asked old new before now fault
     → fault.kind ≢ NoMemory → now.fault ≡ None → ⊥
-refused_faulty asked old new before now fault refused kind none =
-    let told = refused.told kind in cc
+refused_faulty asked old new before now fault refused kind none = search rules
 
 -- no test says both
 pub no_both : (test : Bool) → test ≡ false → test ≡ true → ⊥

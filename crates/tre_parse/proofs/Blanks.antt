@@ -1,17 +1,15 @@
 -- A blank parts tokens and says nothing.
-use Rattle.std.proofs.Common.{◌≡◌, ℕ, ◌+◌, ◌-◌, ◌≤◌, zero, suc, true, Option, Some, None, List, [], ◌∷◌, ◌++◌, length, take, map, refl, sym, ◌∙◌, ap, subst, arith, append-nil}
-use Rattle.std.specs.Prelude.{if◌then◌else◌, is_none}
+use Rattle.std.proofs.Common.{◌≡◌, ℕ, ◌+◌, ◌-◌, ◌≤◌, zero, suc, true, Option, Some, None, List, [], ◌∷◌, ◌++◌, length, take, map, refl, sym, ◌∙◌, ap, subst, arith, rules}
+use Rattle.std.specs.Prelude.{is_none}
 use Rattle.std.specs.Option.{option_map}
-use Rattle.std.specs.Char.{is_ascii_digit}
-use Rattle.tre_state.specs.Name.{starts_name}
 use Rattle.tre_trace.specs.Reading.{Vocabulary}
 use Rattle.tre_syntax.specs.PatternTree.{PatternTree}
 use Rattle.tre_parse.specs.declared.lexeme.Lexeme.{Lexeme}
 use Rattle.tre_parse.specs.declared.lexeme.Lexeme.TheVariants.{Blank, Wrong, Name, Number, Sign}
-use Rattle.tre_parse.specs.Lexeme.{word_lexeme, number_lexeme, sign_lexeme, lexeme_of, FitsIn}
+use Rattle.tre_parse.specs.Lexeme.{lexeme_of, FitsIn}
 use Rattle.tre_parse.specs.Written.{is_white_space}
 use Rattle.tre_syntax.specs.declared.name_kind.NameKind.TheVariants.{Proposition, Event as EventKind}
-use Rattle.tre_parse.specs.Tokens.{RawToken, name, number, sign, RawTokenAt, with_events, names_in, token_of}
+use Rattle.tre_parse.specs.Tokens.{RawToken, name, number, RawTokenAt, with_events, names_in, token_of}
 use Rattle.tre_parse.specs.Scanned.{RawTokens, raw_tokens_from, scanned, with_raw_token, raw_tokens_of, bad_byte, words_of, names_of}
 use Rattle.tre_parse.specs.TokenGrammar.{expr, Spells}
 use Rattle.tre_parse.specs.ScannedOutcome.{IsScannedSpelling}
@@ -53,16 +51,11 @@ joined_scan (Number len) at xs rest long short second some h go =
     ∙ ap (with_raw_token at (number (take len xs))) (go (len - 1) (omega (arith, h.0, h.1)))
     ∙ joined_word at (number (take len xs)) (short (len - 1)).raw_tokens (short (len - 1)).bad
     second
-joined_scan (Sign token len) at xs rest long short second some h go =
-    ap (with_raw_token at (sign token)) (go (len - 1) (omega (arith, h.0, h.1)))
-    ∙ joined_word at (sign token) (short (len - 1)).raw_tokens (short (len - 1)).bad second
+joined_scan (Sign token len) at xs rest long short second some h go = search rules
 
 lexed_blank : (at : ℕ) (c : ℕ) (ys : List ℕ) → is_white_space c ≡ true → raw_tokens_from 0 at (c ∷ ys)
     ≡ raw_tokens_from 0 (at + 1) ys
-lexed_blank at c ys h =
-    ap (λ t. scanned (if t then Blank else (if starts_name c then word_lexeme (c ∷ ys) else
-    (if is_ascii_digit c then number_lexeme (c ∷ ys) else sign_lexeme (c ∷ ys)))) at (c ∷ ys)
-    (λ skip. raw_tokens_from skip (at + 1) ys)) h
+lexed_blank at c ys h = search rules
 
 -- The words before a blank, and then those after it.
 lexed_parts : (skip at : ℕ) (xs : List ℕ) (c : ℕ) (ys : List ℕ) → is_white_space c ≡ true
@@ -100,12 +93,9 @@ further_scan : (lexeme : Lexeme) (at n : ℕ) (bytes : List ℕ) (moved here : �
     scanned lexeme (at + n) bytes moved ≡ further n (scanned lexeme at bytes here)
 further_scan Blank at n bytes moved here go = go 0
 further_scan Wrong at n bytes moved here go = refl
-further_scan (Name len) at n bytes moved here go =
-    ap (with_raw_token (at + n) (name (take len bytes))) (go (len - 1))
-further_scan (Number len) at n bytes moved here go =
-    ap (with_raw_token (at + n) (number (take len bytes))) (go (len - 1))
-further_scan (Sign token len) at n bytes moved here go =
-    ap (with_raw_token (at + n) (sign token)) (go (len - 1))
+further_scan (Name len) at n bytes moved here go = search rules
+further_scan (Number len) at n bytes moved here go = search rules
+further_scan (Sign token len) at n bytes moved here go = search rules
 
 lexed_further : (skip at n : ℕ) (bytes : List ℕ) → raw_tokens_from skip (at + n) bytes
     ≡ further n (raw_tokens_from skip at bytes)
@@ -122,18 +112,13 @@ lexed_further zero at n (b ∷ bs) =
 text_parts : (front rest : List ℕ) (blank : ℕ) → is_white_space blank ≡ true →
     raw_tokens_from 0 0 (front ++ blank ∷ rest) ≡ joined (raw_tokens_from 0 0 front)
     (further (length front + 1) (raw_tokens_from 0 0 rest))
-text_parts front rest blank h =
-    lexed_parts 0 0 front blank rest h (omega arith)
-    ∙ ap (joined (raw_tokens_from 0 0 front)) (lexed_further 0 0 (length front + 1) rest)
+text_parts front rest blank h = search (rules, lexed_parts, raw_tokens_from, lexed_further)
 
 pub words_after : (front rest : List ℕ) (blank : ℕ) → is_white_space blank ≡ true → bad_byte front ≡ None
     →
     raw_tokens_of (front ++ blank ∷ rest) ≡ raw_tokens_of front ++ counted_on (length front + 1)
     (raw_tokens_of rest)
-words_after front rest blank h good =
-    ap (λ (l : RawTokens). l.raw_tokens) (text_parts front rest blank h)
-    ∙ ap (λ b. (joined_at (raw_tokens_of front) b (further (length front + 1)
-    (raw_tokens_from 0 0 rest))).raw_tokens) good
+words_after front rest blank h good = search (rules, text_parts, raw_tokens_of, raw_tokens_from)
 
 pub bad_after : (front rest : List ℕ) (blank : ℕ) → is_white_space blank ≡ true → bad_byte front ≡ None →
     bad_byte (front ++ blank ∷ rest) ≡ option_map (λ at. at + (length front + 1)) (bad_byte rest)
@@ -145,9 +130,7 @@ bad_after front rest blank h good =
 pub bad_before : (front rest : List ℕ) (blank at : ℕ) → is_white_space blank ≡ true → bad_byte front
     ≡ Some at → bad_byte (front ++ blank ∷ rest) ≡ Some at
 bad_before front rest blank at h bad =
-    ap (λ (l : RawTokens). l.bad) (text_parts front rest blank h)
-    ∙ ap (λ b. (joined_at (raw_tokens_of front) b (further (length front + 1)
-    (raw_tokens_from 0 0 rest))).bad) bad
+    search (rules, bad, text_parts, raw_tokens_of, raw_tokens_from)
 
 -- What raw tokens say, wherever they stand.
 abbrev said : RawTokens → List RawToken
@@ -211,8 +194,7 @@ joined_none : (front : List RawTokenAt) (bad : Option ℕ)
     → joined_at front bad (record { raw_tokens = []; bad = None })
     ≡ record { raw_tokens = front; bad = bad }
 joined_none front (Some at) = refl
-joined_none front None = ap (λ (raw_tokens : List RawTokenAt). record
-    { raw_tokens = raw_tokens; bad = None }) (append-nil front)
+joined_none front None = search rules
 
 pub another : (front rest : List ℕ) (blank other : ℕ) → is_white_space blank ≡ true → is_white_space other
     ≡ true → SaysAs (front ++ other ∷ rest) (front ++ blank ∷ rest)

@@ -1,8 +1,6 @@
 -- How many nodes joined trees have.
-use Rattle.std.proofs.Common.{◌≡◌, ℕ, ◌+◌, Bool, true, false, Option, Some, None, inl, inr, refl, sym, ◌∙◌, add-one, subst}
-use Rattle.std.specs.Prelude.{IfSome, IsSome}
-use Rattle.std.proofs.lemmas.Bool.{cases_lt}
-use Rattle.tre_syntax.specs.declared.pattern.TheConstants.{NODES_MAX}
+use Rattle.std.proofs.Common.{◌≡◌, ℕ, ◌+◌, Bool, true, false, Option, Some, refl, add-one, subst, rules}
+use Rattle.std.specs.Prelude.{IfSome}
 use Rattle.tre_state.specs.StateTree as state
 use Rattle.tre_state.specs.StateTree.{StateTree, negation}
 use Rattle.tre_syntax.specs.PatternTree.{PatternTree, node_count}
@@ -18,12 +16,7 @@ use Rattle.tre_parse.specs.Joins.{connected, joined_by, Keeps}
 -- A tree of one node.
 pub leaf_counts : {T : Type 0} {P : T → Type 0} {F : Type 0} (counted : Counted T) (x : T)
     → counted.nodes ≡ 1 → counted.tree ≡ Some x → P x → Counts counted 1 P F
-leaf_counts {P = P} counted x n t h = record {
-  nodes = n;
-  same =
-      subst (λ o. IfSome o P) (sym t) h;
-  built = λ small fine. subst IsSome (sym t) refl;
-}
+leaf_counts {P = P} counted x n t h = search rules
 
 pub connected_count : (how : Connective) (s t : StateTree) → state.node_count (connected how s t)
     ≡ 1 + state.node_count s + state.node_count t
@@ -50,11 +43,4 @@ whole_is {T = T} whole x IsIt e h = let P = λ (o : Option T). IfSome o IsIt in 
 
 pub kept_is : {T : Type 0} (nodes : ℕ) (whole kept : Option T) (x : T) (IsIt : T → Type 0)
     → Keeps nodes whole kept → kept ≡ Some x → IfSome whole IsIt → IsIt x
-kept_is {T = T} nodes whole kept x IsIt k e h =
-    elim (cases_lt NODES_MAX nodes) [
-      | inl lt ↦ (let none = k.large lt in absurd (no_some (sym none ∙ e)))
-      | inr le ↦ whole_is whole x IsIt (sym (k.small le) ∙ e) h
-    ]
-  where
-    no_some : {y : T} → None ≡ Some y → ⊥
-    no_some q = cc
+kept_is {T = T} nodes whole kept x IsIt k e h = search rules

@@ -1,5 +1,5 @@
 -- Open brackets, said of the fronts of the tokens.
-use Rattle.std.proofs.Common.{◌≡◌, ℕ, ◌+◌, ◌<◌, ◌≤◌, zero, suc, Bool, true, false, Option, Some, None, List, [], ◌∷◌, length, take, refl, subst, arith, add-one}
+use Rattle.std.proofs.Common.{◌≡◌, ℕ, ◌+◌, ◌<◌, ◌≤◌, zero, suc, Bool, true, false, Option, Some, None, List, [], ◌∷◌, length, take, refl, arith, rules}
 use Rattle.std.specs.Prelude.{nat_lt, if◌then◌else◌, MatchOption}
 use Rattle.std.proofs.lemmas.Bool.Decides.{nat_tests}
 use Rattle.tre_parse.specs.declared.limits.TheConstants.{DEPTH_MAX}
@@ -52,28 +52,13 @@ told_past depth base token tokens (Some place) le h =
       };
     }
 
-first_only : (depth : ℕ) (tokens : List Token) (n : ℕ) → depth ≤ DEPTH_MAX → n ≤ 0
-    → open_from depth (take n tokens) ≤ DEPTH_MAX
-first_only depth tokens zero le b = le
-first_only depth tokens (suc n) le b = absurd (omega arith)
-
 told_step : (depth base : ℕ) (token : Token) (tokens : List Token) (is : Bool)
     → nat_lt DEPTH_MAX (open_after depth token) ≡ is → depth ≤ DEPTH_MAX →
     (open_after depth token ≤ DEPTH_MAX → Told (open_after depth token) (base + 1) tokens
     (deep_place (open_after depth token) (base + 1) tokens)) →
     Told depth base (token ∷ tokens) (if is then Some base else deep_place (open_after depth token)
     (base + 1) tokens)
-told_step depth base token tokens true e le go =
-    record {
-      k = 0;
-      here = omega arith;
-      is = record {
-        within = omega arith;
-        deep =
-            grind (arith, nat_tests);
-        first = λ n b. first_only depth (token ∷ tokens) n le b;
-      };
-    }
+told_step depth base token tokens true e le go = search rules
 told_step depth base token tokens false e le go = told_past depth base token tokens _ le
     (go (grind (arith, nat_tests)))
 
@@ -91,10 +76,7 @@ told (token ∷ tokens) depth base le =
 at_place : (tokens : List Token) (found : Option ℕ) → Told 0 0 tokens found
     → MatchOption found ((n : ℕ) → open_from 0 (take n tokens) ≤ DEPTH_MAX) (IsDeepAt tokens)
 at_place tokens None h = h
-at_place tokens (Some place) h =
-    let same : h.k ≡ place = omega (arith, h.here) in
-    let P = λ (n : ℕ). IsDeepAt tokens n in
-    subst P same (record { within = h.is.within; deep = rw add-one h.is.deep; first = h.is.first })
+at_place tokens (Some place) h = search rules
 
 pub deep_law : (tokens : List Token) → MatchOption (deep_place 0 0 tokens)
     ((n : ℕ) → open_from 0 (take n tokens) ≤ DEPTH_MAX) (IsDeepAt tokens)

@@ -1,5 +1,5 @@
 -- Where intervals stand among tokens.
-use Rattle.std.proofs.Common.{◌≡◌, ℕ, ◌+◌, ◌<◌, ◌≤◌, Option, Some, None, List, ◌∷◌, ◌++◌, length, take, drop, get_or, sym, ◌∙◌, ap, subst, arith, add-one, drop-cons, length-append}
+use Rattle.std.proofs.Common.{◌≡◌, ℕ, ◌+◌, ◌<◌, ◌≤◌, Option, Some, None, List, ◌∷◌, ◌++◌, length, take, drop, get_or, sym, ◌∙◌, ap, subst, arith, add-one, drop-cons, length-append, rules}
 use Rattle.std.proofs.Math.Seq.{drop-append_seam}
 use Rattle.std.proofs.lemmas.List.{take-append-drop, length-take-le}
 use Rattle.tre_pairs.specs.declared.TheConstants.{TIME_MAX}
@@ -54,27 +54,11 @@ fronts tokens ends e = let s = task_says of_interval tokens in
 -- An empty interval is an interval that is empty.
 pub stands : (tokens : List Token) (place : ℕ) (h : HasEmptyAt tokens place)
     → IsIntervalAt tokens place h.ends
-stands tokens place h = record {
-  front = h.front;
-  body = h.body;
-  rest = h.rest;
-  split = h.split;
-  spelt = h.spelt;
-  here = h.here;
-}
+stands tokens place h = search rules
 
 pub stands_empty : (tokens : List Token) (place : ℕ) (ends : IntervalEnds)
     → IsIntervalAt tokens place ends → HasNoDuration ends → HasEmptyAt tokens place
-stands_empty tokens place ends s empty = record {
-  front = s.front;
-  body = s.body;
-  rest = s.rest;
-  ends = ends;
-  split = s.split;
-  here = s.here;
-  spelt = s.spelt;
-  empty = empty;
-}
+stands_empty tokens place ends s empty = search rules
 
 -- An interval stands right after a `%` exactly where it is read there.
 pub stands_read : (tokens : List Token) (place : ℕ) (ends : IntervalEnds) (d : Token)
@@ -122,11 +106,7 @@ none_before_one tokens = λ k lt h. omega (arith, (place_within tokens k h).0)
 
 pub none_before_more : (tokens : List Token) (place : ℕ) → NoneEmptyBefore tokens (place + 1)
     → (HasEmptyAt tokens (place + 1) → ⊥) → NoneEmptyBefore tokens (place + 1 + 1)
-none_before_more tokens place none here = λ k lt h.
-    let P = λ (n : ℕ). HasEmptyAt tokens n in
-    let same : (k < place + 1 → ⊥) → k ≡ place + 1 = λ no. omega (arith, no) in
-    let no : k < place + 1 → ⊥ = λ below. none k below h in
-    here (subst P (same no) h)
+none_before_more tokens place none here = search rules
 
 pub none_empty : (tokens : List Token) (place : ℕ) → length tokens ≤ place
     → NoneEmptyBefore tokens (place + 1) → NoneEmpty tokens
@@ -136,13 +116,9 @@ none_empty tokens place le none = λ k h. none k (omega (arith, (place_within to
 pub unkept_empty : (ends : IntervalEnds) → IsIntervalWithin TIME_MAX ends
     → (IsFineInterval ends → ⊥)
     → HasNoDuration ends
-unkept_empty ends w h = λ d n some within. h (record
-    { lasts = λ empty. empty d n some within; within = w })
+unkept_empty ends w h = search rules
 
 -- An interval at the front has its ends alone.
 pub same_ends : (tokens xs ys rest other : List Token) (a b : IntervalEnds) → tokens ≡ xs ++ rest
     → tokens ≡ ys ++ other → SpellsInterval xs a → SpellsInterval ys b → a ≡ b
-same_ends tokens xs ys rest other a b e f h k =
-    let one = ap (λ ts. interval_from ts) e ∙ interval_read xs a h rest in
-    let two = ap (λ ts. interval_from ts) f ∙ interval_read ys b k other in
-    cc
+same_ends tokens xs ys rest other a b e f h k = search rules

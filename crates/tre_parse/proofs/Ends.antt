@@ -1,6 +1,6 @@
 -- A word has as many bytes as can stand in a name, and a number as many digits as there are, before
 -- a point and behind it.
-use Rattle.std.proofs.Common.{◌≡◌, ℕ, ◌+◌, suc, Bool, true, false, cond, ◌&&◌, inl, inr, Option, Some, None, List, [], ◌∷◌, drop, refl, sym, ◌∙◌, ap, subst, arith}
+use Rattle.std.proofs.Common.{◌≡◌, ℕ, ◌+◌, suc, Bool, true, false, cond, ◌&&◌, inl, inr, Option, Some, None, List, [], ◌∷◌, drop, refl, sym, ◌∙◌, ap, subst, arith, rules}
 use Rattle.std.specs.Prelude.{if◌then◌else◌, nat_lt}
 use Rattle.std.specs.List.{prefix_len, take_while}
 use Rattle.std.specs.Char.{is_ascii_digit}
@@ -34,14 +34,7 @@ prefix_stops p (x ∷ xs) byte rest e = by (p x) refl
 
 none_passes : (p : ℕ → Bool) (xs : List ℕ) (byte : ℕ) (rest : List ℕ) → xs ≡ byte ∷ rest
     → nat_lt 0 (prefix_len p xs) ≡ false → p byte ≡ false
-none_passes p xs byte rest e none = by (p byte) refl
-  where
-    by : (is : Bool) → p byte ≡ is → is ≡ false
-    by false q = refl
-    by true q =
-        let one = ap (λ (t : Bool). cond t (1 + prefix_len p rest) 0) q in
-        let len = ap (prefix_len p) e in
-        absurd (grind (arith, nat_tests))
+none_passes p xs byte rest e none = search rules
 
 run_ends : (p : ℕ → Bool) (x : ℕ) (xs : List ℕ) → p x ≡ true
     → EndsRun p (x ∷ xs) (prefix_len p (x ∷ xs))
@@ -85,12 +78,7 @@ word_ends b bs h =
 -- A number ends behind its digits, or behind those that follow the point.
 decimals_end : (bytes : List ℕ) (len : ℕ) (rest : List ℕ) → EndsRun is_ascii_digit bytes len
     → drop len bytes ≡ rest → EndsNumber bytes (len + decimals_len rest)
-decimals_end bytes len [] run e =
-    let same : len ≡ len + 0 = omega arith in
-    subst (EndsNumber bytes) same (inl (record {
-      digits = run;
-      no_decimals = λ point digit rest q is. absurd (cc);
-    }))
+decimals_end bytes len [] run e = search rules
 decimals_end bytes len (x ∷ more) run e =
     by (is_point x) (nat_lt 0 (prefix_len is_ascii_digit more)) refl refl
   where

@@ -1,20 +1,20 @@
 -- The equations of the tasks, each with the task that it calls. What a function of the parser does
 -- is read off them.
-use Rattle.std.proofs.Common.{◌≡◌, ◌≢◌, ℕ, zero, suc, Bool, true, false, Option, Some, None, List, ◌∷◌, ◌++◌, length, replicate, refl, sym, ◌∙◌, ap}
-use Rattle.std.specs.Prelude.{if◌then◌else◌, is_some}
+use Rattle.std.proofs.Common.{◌≡◌, ◌≢◌, ℕ, zero, suc, Bool, true, false, Option, Some, None, List, ◌∷◌, ◌++◌, length, replicate, refl, sym, ◌∙◌, ap, rules}
+use Rattle.std.specs.Prelude.{if◌then◌else◌}
 use Rattle.tre_state.specs.StateTree.{StateTree, negation}
 use Rattle.tre_syntax.specs.PatternTree.{PatternTree, sequence, alternation, atom, empty, repetition, restriction}
 use Rattle.tre_parse.specs.declared.token.Token.{Token}
-use Rattle.tre_parse.specs.declared.token.Token.TheVariants.{Name, True, LeftParen, RightParen, LeftBrace, RightBrace, Comma, Semicolon, Bar, DoubleBar, Ampersand, DoubleAmpersand, Bang, Star, Plus, Question, Percent, Begins, Ends, Eps, Rise, Fall, Event, EndOfText}
+use Rattle.tre_parse.specs.declared.token.Token.TheVariants.{Name, True, LeftParen, RightParen, Bang, Star, Plus, Question, Percent, Begins, Ends, Eps, Rise, Fall, Event, EndOfText}
 use Rattle.tre_parse.specs.declared.connective.Connective.{Connective}
-use Rattle.tre_parse.specs.declared.connective.Connective.TheVariants.{And, Or}
+use Rattle.tre_parse.specs.declared.connective.Connective.TheVariants.{Or}
 use Rattle.tre_parse.specs.declared.connective.Join.{Join}
 use Rattle.tre_parse.specs.declared.connective.Join.TheVariants.{Sequence, Intersection, Alternation}
 use Rattle.tre_parse.specs.declared.cursor.Stop.{Stop}
 use Rattle.tre_parse.specs.declared.cursor.Stop.TheVariants.{Syntax}
 use Rattle.tre_parse.specs.Front.{front, tail}
 use Rattle.tre_parse.specs.Joins.{negated, connected, connective_sign, joined_by, join_sign, brackets_of, edge_of, edge_sign, edged_literal}
-use Rattle.tre_parse.specs.Reader.{Reading, got, stop, and_then, state_by, state_after, state_operand, expression_by, expression_after, operand, operand_after, unsigned, of_state, of_pattern, of_interval, Program, give, halt, call, is_sign, accept, expect, said, part, leaf_of, state_part, expression_part, edge_program, event_program, literal_program, unsigned_program, is_before, sign_program, is_behind, past, run, read, read_state, read_pattern}
+use Rattle.tre_parse.specs.Reader.{Reading, got, stop, and_then, state_by, state_after, state_operand, expression_by, expression_after, operand, operand_after, unsigned, of_state, of_pattern, of_interval, Program, give, halt, call, is_sign, accept, expect, part, leaf_of, state_part, expression_part, edge_program, event_program, literal_program, unsigned_program, is_before, sign_program, is_behind, past, run, read, read_state, read_pattern}
 use Rattle.tre_parse.specs.Reading.{BeginsLiteral, Accepts}
 use Rattle.tre_parse.proofs.Fixpoint.{state_fixed, pattern_fixed}
 
@@ -35,45 +35,19 @@ then_given (stop rest) next = refl
 
 -- ---- a sign that is asked for
 
-untrue : {A : Type 0} → false ≡ true → A
-untrue e = absurd (cc)
-
-pub sign_is : (sign token : Token) → is_sign sign token ≡ true → token ≡ sign
-sign_is LeftParen LeftParen e = refl
-sign_is RightParen RightParen e = refl
-sign_is LeftBrace LeftBrace e = refl
-sign_is RightBrace RightBrace e = refl
-sign_is Comma Comma e = refl
-sign_is Semicolon Semicolon e = refl
-sign_is Bar Bar e = refl
-sign_is DoubleBar DoubleBar e = refl
-sign_is Ampersand Ampersand e = refl
-sign_is DoubleAmpersand DoubleAmpersand e = refl
-sign_is Bang Bang e = refl
-sign_is Ends Ends e = refl
-sign_is _ _ e = untrue e
-
 pub not_sign : (sign token : Token) → token ≢ sign → is_sign sign token ≡ false
-not_sign sign token n = by (is_sign sign token) (λ e. n (sign_is sign token e))
-  where
-    by : (is : Bool) → (is ≡ true → ⊥) → is ≡ false
-    by true h = absurd (h refl)
-    by false h = refl
+not_sign sign token n = search rules
 
 -- A sign that may be next is passed or not.
 pub accepted : {A : Type 0} (sign : Token) (there other : Program A) (is : Bool)
     (old new : List Token) → is_sign sign sign ≡ true → Accepts sign is old new →
     run read (accept sign there other) old ≡ run read (if is then there else other) new
-accepted sign there other true old new e k = ap (λ ts. run read (accept sign there other) ts) k
-    ∙ ap (λ (is : Bool). run read (if is then there else other) (past is (sign ∷ new))) e
-accepted sign there other false old new e k =
-    ap (λ (is : Bool). run read (if is then there else other) (past is old))
-    (not_sign sign (front old) k.1) ∙ ap (λ ts. run read other ts) (sym k.0)
+accepted sign there other true old new e k = search rules
+accepted sign there other false old new e k = search rules
 
 pub unaccepted : {A : Type 0} (sign : Token) (there other : Program A) (ts : List Token)
     → is_sign sign (front ts) ≡ false → run read (accept sign there other) ts ≡ run read other ts
-unaccepted sign there other ts e =
-    ap (λ (is : Bool). run read (if is then there else other) (past is ts)) e
+unaccepted sign there other ts e = search rules
 
 -- ---- a token that is expected, or that says something
 
@@ -85,34 +59,20 @@ passed sign next old new e h = accepted sign next halt true old new e h
 pub unpassed : {A : Type 0} (sign : Token) (next : Program A) (fault : Stop) (old new : List Token)
     → (fault ≡ Syntax (length old)) × (new ≡ old) × (front old ≢ sign) →
     (fault ≡ Syntax (length new)) × (run read (expect sign next) old ≡ stop new)
-unpassed sign next fault old new h = (
-  h.0 ∙ ap (λ ts. Syntax (length ts)) (sym h.1),
-  ap (λ (is : Bool). run read (if is then next else halt) (past is old))
-      (not_sign sign (front old) h.2) ∙ ap (λ ts. stop ts) (sym h.1),
-)
+unpassed sign next fault old new h = search rules
 
 pub part_said : {A B : Type 0} (says : Token → Option A) (next : A → Program B) (x : A)
     (old new : List Token) → (says (front old) ≡ Some x) × (new ≡ tail old) →
     run read (part says next) old ≡ run read (next x) new
-part_said {A = A} says next x old new h =
-    ap (λ (o : Option A). run read (said o next) (past (is_some o) old)) h.0
-    ∙ ap (λ ts. run read (next x) ts) (sym h.1)
+part_said {A = A} says next x old new h = search rules
 
 pub part_unsaid : {A B : Type 0} (says : Token → Option A) (next : A → Program B) (fault : Stop)
     (old new : List Token) → (says (front old) ≡ None) × (new ≡ old)
     × (fault ≡ Syntax (length old)) →
     (fault ≡ Syntax (length new)) × (run read (part says next) old ≡ stop new)
-part_unsaid {A = A} says next fault old new h = (
-  h.2 ∙ ap (λ ts. Syntax (length ts)) (sym h.1),
-  ap (λ (o : Option A). run read (said o next) (past (is_some o) old)) h.0
-      ∙ ap (λ ts. stop ts) (sym h.1),
-)
+part_unsaid {A = A} says next fault old new h = search rules
 
 -- ---- states
-
-connective_same : (how : Connective) → is_sign (connective_sign how) (connective_sign how) ≡ true
-connective_same And = refl
-connective_same Or = refl
 
 pub state_begins : (how : Connective) (ts : List Token) → read_state (state_by how) ts
     ≡ and_then (read_state (state_part how) ts) (λ s us. read_state (state_after how s) us)
@@ -124,11 +84,7 @@ pub state_goes_on : (how : Connective) (s : StateTree) (ts : List Token)
     ≡ and_then (read_state (state_part how) ts)
     (λ t us. read_state (state_after how (connected how s t)) us)
 state_goes_on how s ts =
-    state_fixed _ _ ∙ accepted (connective_sign how) (call (of_state (state_part how))
-    (λ t. call (of_state (state_after how (connected how s t))) (λ u. give u))) (give s) true
-    (connective_sign how ∷ ts) ts (connective_same how) refl
-    ∙ then_given (read_state (state_part how) ts)
-    (λ t us. read_state (state_after how (connected how s t)) us)
+    search (rules, state_fixed, accepted, connective_sign, call, of_state, state_part, state_after)
 
 pub state_ends : (how : Connective) (s : StateTree) (ts : List Token)
     → is_sign (connective_sign how) (front ts) ≡ false
@@ -151,47 +107,27 @@ bangs_read braces (suc n) ts =
     twice (got s us) = refl
     twice (stop us) = refl
 
-bracket_same : (braces : Bool) → is_sign (brackets_of braces).0 (brackets_of braces).0 ≡ true
-bracket_same true = refl
-bracket_same false = refl
-
 pub closing_same : (braces : Bool) → is_sign (brackets_of braces).1 (brackets_of braces).1 ≡ true
 closing_same true = refl
 closing_same false = refl
-
-no_bang : (braces : Bool) → is_sign Bang (brackets_of braces).0 ≡ false
-no_bang true = refl
-no_bang false = refl
 
 -- An operand that begins with no `!`: behind its bracket, or a leaf.
 abbrev in_brackets : Bool → Program StateTree
 in_brackets braces =
     call (of_state (state_by Or)) (λ s. expect (brackets_of braces).1 (give s))
 
-abbrev unbanged : Bool → Program StateTree
-unbanged braces = accept (brackets_of braces).0 (in_brackets braces) (part leaf_of (λ s. give s))
-
 pub bracket_read : (braces : Bool) (ts : List Token)
     → read_state (state_operand braces) ((brackets_of braces).0 ∷ ts)
     ≡ and_then (read_state (state_by Or) ts)
     (λ s us. run read (expect (brackets_of braces).1 (give s)) us)
 bracket_read braces ts =
-    let first = (brackets_of braces).0 in
-    state_fixed (state_operand braces) (first ∷ ts)
-    ∙ unaccepted Bang (call (of_state (state_operand braces)) (λ s. give (negation s)))
-    (unbanged braces) (first ∷ ts) (no_bang braces)
-    ∙ accepted first (in_brackets braces) (part leaf_of (λ s. give s)) true (first ∷ ts) ts
-    (bracket_same braces) refl
+    search (rules, brackets_of, state_fixed, state_operand, unaccepted, call, of_state, give)
 
 pub leaf_read : (braces : Bool) (ts : List Token) → front ts ≢ Bang
     → front ts ≢ (brackets_of braces).0 → read_state (state_operand braces) ts
     ≡ run read (part leaf_of (λ s. give s)) ts
 leaf_read braces ts n m =
-    state_fixed (state_operand braces) ts
-    ∙ unaccepted Bang (call (of_state (state_operand braces)) (λ s. give (negation s)))
-    (unbanged braces) ts (not_sign Bang (front ts) n)
-    ∙ unaccepted (brackets_of braces).0 (in_brackets braces) (part leaf_of (λ s. give s)) ts
-    (not_sign (brackets_of braces).0 (front ts) m)
+    search (rules, state_fixed, state_operand, unaccepted, call, of_state, give, negation, not_sign)
 
 pub no_leaf : (token : Token) → ((i : ℕ) → token ≢ Name i) → token ≢ True → leaf_of token ≡ None
 no_leaf (Name i) h k = absurd (h i refl)
@@ -208,9 +144,8 @@ join_same Alternation = refl
 pub expression_begins : (how : Join) (ts : List Token) → read_pattern (expression_by how) ts
     ≡ and_then (read_pattern (expression_part how) ts)
     (λ e us. read_pattern (expression_after how e) us)
-expression_begins how ts = pattern_fixed _ _
-    ∙ then_given (read_pattern (expression_part how) ts)
-    (λ e us. read_pattern (expression_after how e) us)
+expression_begins how ts =
+    search (rules, pattern_fixed, then_given, read_pattern, expression_part, expression_after)
 
 pub expression_goes_on : (how : Join) (e : PatternTree) (ts : List Token)
     → read_pattern (expression_after how e) (join_sign how ∷ ts)
@@ -304,10 +239,8 @@ pub literal_ends : (begins ends : Bool) (s : StateTree) (old new : List Token)
     → Accepts Ends ends old new →
     run read (accept Ends (give (edged_literal begins true s))
     (give (edged_literal begins false s))) old ≡ got (edged_literal begins ends s) new
-literal_ends begins true s old new h = accepted Ends (give (edged_literal begins true s))
-    (give (edged_literal begins false s)) true old new refl h
-literal_ends begins false s old new h = accepted Ends (give (edged_literal begins true s))
-    (give (edged_literal begins false s)) false old new refl h
+literal_ends begins true s old new h = search rules
+literal_ends begins false s old new h = search rules
 
 pub eps_read : (ts : List Token) → read_pattern unsigned (Eps ∷ ts) ≡ got (atom empty) ts
 eps_read ts = pattern_fixed _ _
@@ -327,9 +260,7 @@ pub opened_edge : (rises : Bool) (old us new : List Token) → old ≡ edge_sign
     ≡ and_then (read_state (state_by Or) new)
     (λ s vs. run read (expect RightParen (give (edge_of rises s))) vs)
 opened_edge rises old us new e f =
-    ap (λ ts. read_pattern unsigned ts) e ∙ edge_read rises us
-    ∙ passed LeftParen (call (of_state (state_by Or))
-    (λ s. expect RightParen (give (edge_of rises s)))) us new refl f
+    search (rules, read_pattern, unsigned, edge_read, passed, call, of_state, state_by, expect)
 
 pub event_read : (ts : List Token) → read_pattern unsigned (Event ∷ ts)
     ≡ run read event_program ts

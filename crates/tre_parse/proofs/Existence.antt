@@ -63,8 +63,7 @@ ends_or : (low : ℕ) (low_weak : Bool) (high : Option ℕ) (high_weak : Bool)
           high_weak;
     }))
 ends_or low low_weak None high_weak = lasting _ (no_end low low_weak high_weak)
-ends_or low low_weak (Some high) high_weak = with_room low low_weak high high_weak
-    (room_or low low_weak high high_weak)
+ends_or low low_weak (Some high) high_weak = with_room _ _ high _ (room_or _ _ high _)
 
 empty_or : (ends : IntervalEnds) → Decided (HasNoDuration ends)
 empty_or ends = ends_or ends.low ends.low_weak ends.high ends.high_weak

@@ -1,17 +1,13 @@
 -- What a task reads is what its program reads: as many calls inside one another as there are tokens
 -- and ranks are enough.
-use Rattle.std.proofs.Common.{◌≡◌, ℕ, ◌+◌, ◌*◌, ◌<◌, ◌≤◌, zero, suc, Bool, true, false, Option, Some, None, List, [], ◌∷◌, length, refl, ap, subst, arith}
-use Rattle.std.specs.Prelude.{if◌then◌else◌, is_some}
+use Rattle.std.proofs.Common.{◌≡◌, ℕ, ◌+◌, ◌*◌, ◌<◌, ◌≤◌, zero, suc, Bool, true, false, Option, Some, None, List, [], ◌∷◌, length, refl, arith, rules}
+use Rattle.std.specs.Prelude.{if◌then◌else◌}
 use Rattle.tre_syntax.specs.PatternTree.{PatternTree}
 use Rattle.tre_parse.specs.declared.token.Token.{Token}
 use Rattle.tre_parse.specs.declared.token.Token.TheVariants.{LeftParen, RightParen, Comma, Bang, Star, Plus, Question, Percent, Begins, Ends, Eps, Rise, Fall, Event, EndOfText}
-use Rattle.tre_parse.specs.declared.connective.Connective.{Connective}
-use Rattle.tre_parse.specs.declared.connective.Connective.TheVariants.{And, Or}
-use Rattle.tre_parse.specs.declared.connective.Join.{Join}
-use Rattle.tre_parse.specs.declared.connective.Join.TheVariants.{Sequence, Intersection, Alternation}
 use Rattle.tre_parse.specs.Front.{front, tail}
-use Rattle.tre_parse.specs.Joins.{connective_sign, join_sign, brackets_of}
-use Rattle.tre_parse.specs.Reader.{Reading, got, stop, and_then, StateTask, state_by, state_after, state_operand, PatternTask, expression_by, expression_after, operand, operand_after, unsigned, Task, of_state, of_pattern, of_interval, Made, Program, give, halt, look, call, is_sign, accept, said, part, leaf_of, event_number_of, state_part, expression_part, opened_by, number_of, high_end_of, closed_by, sign_program, is_behind, edge_program, event_program, literal_program, unsigned_program, is_before, interval_program, state_program, pattern_program, program, past, run, deep, rank, read, read_state, read_pattern}
+use Rattle.tre_parse.specs.Joins.{brackets_of}
+use Rattle.tre_parse.specs.Reader.{Reading, got, stop, and_then, StateTask, state_by, state_after, state_operand, PatternTask, expression_by, expression_after, operand, operand_after, unsigned, Task, of_state, of_pattern, of_interval, Made, Program, give, halt, look, call, accept, part, leaf_of, opened_by, number_of, high_end_of, closed_by, sign_program, is_behind, edge_program, event_program, literal_program, unsigned_program, is_before, interval_program, state_program, pattern_program, program, past, run, deep, rank, read, read_state, read_pattern}
 
 -- The tokens that a reading leaves.
 abbrev pub left : {A : Type 0} → Reading A → List Token
@@ -33,37 +29,14 @@ IsGuarded bound (call task next) = (rank task < bound)
 
 -- ---- each program is guarded
 
-sign_end : (sign : Token) → is_sign sign EndOfText ≡ false
-sign_end LeftParen = refl
-sign_end _ = refl
-
 accept_guarded : {A : Type 0} (sign : Token) (there other : Program A) (bound : ℕ)
     → IsGuarded 8 there
     → IsGuarded bound other → IsGuarded bound (accept sign there other)
-accept_guarded sign there other bound h k = (sign_end sign, λ token. by (is_sign sign token))
-  where
-    by : (is : Bool) → IsGuarded (if is then 8 else bound) (if is then there else other)
-    by true = h
-    by false = k
+accept_guarded sign there other bound h k = search rules
 
 part_guarded : {A B : Type 0} (says : Token → Option A) (next : A → Program B) (bound : ℕ)
     → says EndOfText ≡ None → ((x : A) → IsGuarded 8 (next x)) → IsGuarded bound (part says next)
-part_guarded {A = A} says next bound e h = (ap is_some e, λ token. by (says token))
-  where
-    by : (o : Option A) → IsGuarded (if is_some o then 8 else bound) (said o next)
-    by None = tt
-    by (Some x) = h x
-
-state_part_lower : (how : Connective)
-    → rank (of_state (state_part how)) < rank (of_state (state_by how))
-state_part_lower And = omega arith
-state_part_lower Or = omega arith
-
-part_lower : (how : Join) → rank (of_pattern (expression_part how))
-    < rank (of_pattern (expression_by how))
-part_lower Sequence = omega arith
-part_lower Intersection = omega arith
-part_lower Alternation = omega arith
+part_guarded {A = A} says next bound e h = search rules
 
 sign_guarded : (e : PatternTree) (token : Token)
     → IsGuarded (if is_behind token then 8 else 0) (sign_program e token)
@@ -78,12 +51,10 @@ literal_guarded : (begins : Bool) (bound : ℕ) → 1 < bound
 literal_guarded begins bound more = (more, λ s. accept_guarded Ends _ _ bound tt tt)
 
 edge_guarded : (rises : Bool) → IsGuarded 8 (edge_program rises)
-edge_guarded rises = accept_guarded LeftParen _ halt 8
-    (omega arith, λ s. accept_guarded RightParen _ halt 8 tt tt) tt
+edge_guarded rises = search rules
 
 event_guarded : IsGuarded 8 event_program
-event_guarded = accept_guarded LeftParen _ halt 8
-    (part_guarded event_number_of _ 8 refl (λ i. accept_guarded RightParen _ halt 8 tt tt)) tt
+event_guarded = search rules
 
 unsigned_guarded : (token : Token)
     → IsGuarded (if is_before token then 8 else 2) (unsigned_program token)
@@ -95,39 +66,20 @@ unsigned_guarded Event = event_guarded
 unsigned_guarded Begins = literal_guarded true 8 (omega arith)
 unsigned_guarded _ = literal_guarded false 2 (omega arith)
 
-state_part_rank : (how : Connective) → rank (of_state (state_part how)) < 8
-state_part_rank And = omega arith
-state_part_rank Or = omega arith
-
-part_rank : (how : Join) → rank (of_pattern (expression_part how)) < 8
-part_rank Sequence = omega arith
-part_rank Intersection = omega arith
-part_rank Alternation = omega arith
-
 no_close : (high : Option ℕ) → closed_by high EndOfText ≡ None
 no_close None = refl
 no_close (Some high) = refl
 
 pub guarded : (task : Task) → IsGuarded (rank task) (program task)
-guarded (of_state (state_by how)) = (
-  state_part_lower how,
-  λ s. (omega (arith, state_part_lower how), λ t. tt),
-)
-guarded (of_state (state_after how s)) =
-    accept_guarded (connective_sign how) _ _ 0
-    (state_part_rank how, λ t. (omega arith, λ u. tt)) tt
+guarded (of_state (state_by how)) = search rules
+guarded (of_state (state_after how s)) = search rules
 guarded (of_state (state_operand braces)) =
     accept_guarded Bang _ _ 1 (omega arith, λ s. tt)
     (accept_guarded (brackets_of braces).0 _ _ 1
     (omega arith, λ s. accept_guarded (brackets_of braces).1 _ halt 8 tt tt)
     (part_guarded leaf_of _ 1 refl (λ s. tt)))
-guarded (of_pattern (expression_by how)) = (
-  part_lower how,
-  λ e. (omega (arith, part_lower how), λ f. tt),
-)
-guarded (of_pattern (expression_after how e)) =
-    accept_guarded (join_sign how) _ _ 0
-    (part_rank how, λ f. (omega arith, λ g. tt)) tt
+guarded (of_pattern (expression_by how)) = search rules
+guarded (of_pattern (expression_after how e)) = search rules
 guarded (of_pattern operand) = (omega arith, λ e. (omega arith, λ f. tt))
 guarded (of_pattern (operand_after e)) = (refl, sign_guarded e)
 guarded (of_pattern unsigned) = (refl, unsigned_guarded)
@@ -163,25 +115,13 @@ look_agrees : {A : Type 0} (f g : Reads) (m : ℕ) (q : Program A) (bound : ℕ)
     → Agree ts (run f q ts) (run g q ts)) →
     Agree tokens (run f q (past is tokens)) (run g q (past is tokens))
 look_agrees f g m q bound false tokens some k le go = go bound k tokens le
-look_agrees f g m q bound true tokens some k le go =
-    let n = ap length (some refl) in
-    let a = go 8 k (tail tokens) (omega (arith, n)) in
-    record { same = a.same; shorter = omega (arith, n, a.shorter) }
+look_agrees f g m q bound true tokens some k le go = search rules
 
 then_agrees : {A B : Type 0} (next other : A → List Token → Reading B) (tokens : List Token)
     (o q : Reading A) → o ≡ q → length (left o) ≤ length tokens →
     ((x : A) (rest : List Token) → length rest ≤ length tokens
     → Agree rest (next x rest) (other x rest)) → Agree tokens (and_then o next) (and_then q other)
-then_agrees {A = A} {B = B} next other tokens o q e le go =
-    let P = λ (r : Reading A). Agree tokens (and_then o next) (and_then r other) in
-    subst P e (by o le)
-  where
-    by : (r : Reading A) → length (left r) ≤ length tokens
-        → Agree tokens (and_then r next) (and_then r other)
-    by (stop rest) le = record { same = refl; shorter = le }
-    by (got x rest) le =
-        let a = go x rest le in
-        record { same = a.same; shorter = omega (arith, le, a.shorter) }
+then_agrees {A = A} {B = B} next other tokens o q e le go = search rules
 
 run_agrees : {A : Type 0} (f g : Reads) (m : ℕ) → AgreeBelow m f g → (p : Program A) (bound : ℕ)
     → IsGuarded bound p → (tokens : List Token) → 8 * length tokens + bound ≤ m →

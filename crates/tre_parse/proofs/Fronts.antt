@@ -1,5 +1,5 @@
 -- A token that begins before a blank ends before it, and doesn't depend on what follows.
-use Rattle.std.proofs.Common.{◌≡◌, ℕ, ◌+◌, ◌≤◌, ◌<◌, zero, suc, Bool, true, false, cond, ◌&&◌, Option, Some, None, List, [], ◌∷◌, ◌++◌, length, take, drop, refl, sym, ◌∙◌, ap, arith}
+use Rattle.std.proofs.Common.{◌≡◌, ℕ, ◌+◌, ◌≤◌, ◌<◌, zero, suc, Bool, true, false, cond, ◌&&◌, Option, Some, None, List, [], ◌∷◌, ◌++◌, length, take, drop, refl, sym, ◌∙◌, ap, arith, rules}
 use Rattle.std.specs.Prelude.{if◌then◌else◌, nat_eq, nat_lt}
 use Rattle.std.specs.List.{prefix_len, take_while, starts_with}
 use Rattle.std.specs.Char.{is_ascii_digit}
@@ -10,10 +10,9 @@ use Rattle.tre_decimal.specs.Decimal.{is_point}
 use Rattle.tre_state.specs.Name.{starts_name, continues_name}
 use Rattle.tre_parse.specs.declared.token.Token.{Token}
 use Rattle.tre_parse.specs.declared.lexeme.Lexeme.{Lexeme}
-use Rattle.tre_parse.specs.declared.lexeme.Lexeme.TheVariants.{Blank, Number, Sign}
+use Rattle.tre_parse.specs.declared.lexeme.Lexeme.TheVariants.{Blank, Sign}
 use Rattle.tre_parse.specs.Lexeme.{lexeme_named, first_sign, word_lexeme, decimals_len, number_lexeme, sign_lexeme, lexeme_of, FitsIn}
 use Rattle.tre_parse.specs.Written.{is_white_space, reserved}
-use Rattle.tre_parse.specs.declared.lexeme.TheConstants.{SIGNS}
 use Rattle.tre_parse.proofs.Table.{Each}
 
 -- No word and no number goes on with a blank, and no sign of two bytes has one.
@@ -22,9 +21,6 @@ blank_ends_word c h = grind (arith, nat_tests)
 
 blank_ends_number : (c : ℕ) → is_white_space c ≡ true → is_ascii_digit c ≡ false
 blank_ends_number c h = grind (arith, nat_tests)
-
-blank_no_point : (c : ℕ) → is_white_space c ≡ true → is_point c ≡ false
-blank_no_point c h = grind (arith, nat_tests)
 
 -- What begins before a blank doesn't depend on what follows.
 prefix_ends : (p : ℕ → Bool) (xs : List ℕ) (c : ℕ) (ys : List ℕ) → p c ≡ false
@@ -44,9 +40,7 @@ drop_front (suc n) (x ∷ xs) ys h = drop_front n xs ys (omega arith)
 
 take_while_ends : (p : ℕ → Bool) (xs : List ℕ) (c : ℕ) (ys : List ℕ) → p c ≡ false
     → take_while p (xs ++ c ∷ ys) ≡ take_while p xs
-take_while_ends p xs c ys h =
-    ap (λ n. take n (xs ++ c ∷ ys)) (prefix_ends p xs c ys h)
-    ∙ take_front (prefix_len p xs) xs (c ∷ ys) (prefix_len-le-length p xs)
+take_while_ends p xs c ys h = search (rules, prefix_ends, take_front, prefix_len-le-length)
 
 word_front : (xs : List ℕ) (c : ℕ) (ys : List ℕ) → is_white_space c ≡ true → word_lexeme (xs ++ c ∷ ys)
     ≡ word_lexeme xs
@@ -57,24 +51,10 @@ word_front xs c ys h =
     ∙ ap (λ w. lexeme_named (prefix_len continues_name xs) (reserved w))
     (take_while_ends continues_name xs c ys ends)
 
-decimals_front : (xs : List ℕ) (c : ℕ) (ys : List ℕ) → is_white_space c ≡ true
-    → decimals_len (xs ++ c ∷ ys) ≡ decimals_len xs
-decimals_front [] c ys h =
-    ap (λ t. if t && nat_lt 0 (prefix_len is_ascii_digit ys)
-    then 1 + prefix_len is_ascii_digit ys else 0) (blank_no_point c h)
-decimals_front (x ∷ xs) c ys h =
-    ap (λ n. if is_point x && nat_lt 0 n then 1 + n else 0)
-    (prefix_ends is_ascii_digit xs c ys (blank_ends_number c h))
-
 number_front : (xs : List ℕ) (c : ℕ) (ys : List ℕ) → is_white_space c ≡ true
     → number_lexeme (xs ++ c ∷ ys) ≡ number_lexeme xs
 number_front xs c ys h =
-    let len = prefix_len is_ascii_digit xs in
-    ap (λ n. Number (n + decimals_len (drop n (xs ++ c ∷ ys))))
-    (prefix_ends is_ascii_digit xs c ys (blank_ends_number c h))
-    ∙ ap (λ rest. Number (len + decimals_len rest))
-    (drop_front len xs (c ∷ ys) (prefix_len-le-length is_ascii_digit xs))
-    ∙ ap (λ n. Number (len + n)) (decimals_front (drop len xs) c ys h)
+    search (rules, decimals_len, prefix_ends, blank_ends_number, drop_front, prefix_len-le-length)
 
 -- The text of a sign has no blank.
 abbrev no_blank : List ℕ → Bool
@@ -84,78 +64,9 @@ no_blank (b ∷ bs) = cond (is_white_space b) false (no_blank bs)
 other_byte : (b c : ℕ) → is_white_space b ≡ false → is_white_space c ≡ true → nat_eq b c ≡ false
 other_byte b c h k = grind (arith, nat_tests)
 
-past_blank : (b : ℕ) (more : Bool) → cond (is_white_space b) false more ≡ true → (is_white_space b ≡ false)
-    × (more ≡ true)
-past_blank b more e = by (is_white_space b) more refl e
-  where
-    by : (is more : Bool) → is ≡ is_white_space b → cond is false more ≡ true → (is_white_space b ≡ false)
-        × (more ≡ true)
-    by true more q e = absurd (cc)
-    by false more q e = (sym q, e)
-
-text_front : (sign xs : List ℕ) (c : ℕ) (ys : List ℕ) → is_white_space c ≡ true → no_blank sign ≡ true
-    → starts_with nat_eq (xs ++ c ∷ ys) sign ≡ starts_with nat_eq xs sign
-text_front [] xs c ys h e = refl
-text_front (b ∷ bs) [] c ys h e = ap (λ t. t && starts_with nat_eq ys bs)
-    (other_byte b c (past_blank b (no_blank bs) e).0 h)
-text_front (b ∷ bs) (x ∷ xs) c ys h e = ap (λ t. nat_eq b x && t)
-    (text_front bs xs c ys h (past_blank b (no_blank bs) e).1)
-
-sign_front : {A : Type 0} (text : A → List ℕ) (token : A → Token) (signs : List A) (xs : List ℕ)
-    (c : ℕ) (ys : List ℕ) → is_white_space c ≡ true → Each (λ s. no_blank (text s) ≡ true) signs →
-    first_sign text token signs (xs ++ c ∷ ys) ≡ first_sign text token signs xs
-sign_front text token [] xs c ys h e = refl
-sign_front text token (s ∷ more) xs c ys h e =
-    ap (λ t. cond t (Sign (token s) (length (text s))) (first_sign text token more (xs ++ c ∷ ys)))
-    (text_front (text s) xs c ys h e.0)
-    ∙ ap (λ l. cond (starts_with nat_eq xs (text s)) (Sign (token s) (length (text s))) l)
-    (sign_front text token more xs c ys h e.1)
-
 signs_front : (xs : List ℕ) (c : ℕ) (ys : List ℕ) → is_white_space c ≡ true → sign_lexeme (xs ++ c ∷ ys)
     ≡ sign_lexeme xs
-signs_front xs c ys h = sign_front (λ sign. sign.0.now) (λ sign. sign.1) SIGNS xs c ys h (
-  refl,
-  (
-    refl,
-    (
-      refl,
-      (
-        refl,
-        (
-          refl,
-          (
-            refl,
-            (
-              refl,
-              (
-                refl,
-                (
-                  refl,
-                  (
-                    refl,
-                    (
-                      refl,
-                      (
-                        refl,
-                        (
-                          refl,
-                          (
-                            refl,
-                            (refl, (refl, (refl, (refl, (refl, tt))))),
-                          ),
-                        ),
-                      ),
-                    ),
-                  ),
-                ),
-              ),
-            ),
-          ),
-        ),
-      ),
-    ),
-  ),
-)
+signs_front xs c ys h = search rules
 
 pub lexeme_front : (z : ℕ) (xs : List ℕ) (c : ℕ) (ys : List ℕ) → is_white_space c ≡ true
     → lexeme_of (z ∷ (xs ++ c ∷ ys)) ≡ lexeme_of (z ∷ xs)
@@ -199,56 +110,7 @@ first_fits text token (s ∷ more) xs some h = by (first_fits text token more xs
     by next false q = next
 
 pub sign_fits : (xs : List ℕ) → 1 ≤ length xs → FitsIn (length xs) (sign_lexeme xs)
-sign_fits xs some = first_fits (λ sign. sign.0.now) (λ sign. sign.1) SIGNS xs some
-    ((
-      omega arith,
-      (
-        omega arith,
-        (
-          omega arith,
-          (
-            omega arith,
-            (
-              omega arith,
-              (
-                omega arith,
-                (
-                  omega arith,
-                  (
-                    omega arith,
-                    (
-                      omega arith,
-                      (
-                        omega arith,
-                        (
-                          omega arith,
-                          (
-                            omega arith,
-                            (
-                              omega arith,
-                              (
-                                omega arith,
-                                (
-                                  omega arith,
-                                  (
-                                    omega arith,
-                                    (omega arith, (omega arith, (omega arith, tt))),
-                                  ),
-                                ),
-                              ),
-                            ),
-                          ),
-                        ),
-                      ),
-                    ),
-                  ),
-                ),
-              ),
-            ),
-          ),
-        ),
-      ),
-    ))
+sign_fits xs some = search rules
 
 first_passes : (p : ℕ → Bool) (x : ℕ) (xs : List ℕ) → p x ≡ true → 0 < prefix_len p (x ∷ xs)
 first_passes p x xs h = let n = ap (λ t. cond t (1 + prefix_len p xs) 0) h in omega (arith, n)
@@ -263,12 +125,7 @@ decimals_within (x ∷ xs) = by (is_point x && nat_lt 0 (prefix_len is_ascii_dig
 
 pub number_fits : (xs : List ℕ) → 0 < prefix_len is_ascii_digit xs
     → FitsIn (length xs) (number_lexeme xs)
-number_fits xs some =
-    let len = prefix_len is_ascii_digit xs in
-    let within = prefix_len-le-length is_ascii_digit xs in
-    let behind = decimals_within (drop len xs) in
-    let size = length-drop len xs in
-    (omega (arith, some), omega (arith, within, behind, size))
+number_fits xs some = search (rules, prefix_len-le-length, decimals_within, length-drop)
 
 fits_by : (available : ℕ) (blank starts digit : Bool) (word number other : Lexeme) → 1 ≤ available
     → (starts ≡ true → FitsIn available word) → (digit ≡ true → FitsIn available number) →

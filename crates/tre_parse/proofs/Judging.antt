@@ -1,6 +1,6 @@
 -- Which outcome each step of parsing comes to.
-use Rattle.std.proofs.Common.{◌≡◌, ℕ, ◌<◌, ◌≤◌, ◌-◌, Bool, true, false, Option, Some, None, Ok, Err, List, [], ◌∷◌, length, ◌⊎◌, inl, inr, refl, sym, ◌∙◌, ap, subst, arith}
-use Rattle.std.specs.Prelude.{IsSome, Result, MatchOption, position, nat_lt, min, if◌then◌else◌}
+use Rattle.std.proofs.Common.{◌≡◌, ℕ, ◌<◌, ◌≤◌, ◌-◌, Bool, true, false, Option, Some, None, Ok, Err, List, [], ◌∷◌, length, ◌⊎◌, inl, inr, refl, sym, ◌∙◌, ap, subst, arith, rules}
+use Rattle.std.specs.Prelude.{Result, MatchOption, position, nat_lt, min, if◌then◌else◌}
 use Rattle.std.specs.Option.{option_map, option_or}
 use Rattle.std.proofs.lemmas.Bool.Decides.{nat_tests}
 use Rattle.tre_trace.specs.Reading.{Vocabulary}
@@ -12,7 +12,7 @@ use Rattle.tre_parse.specs.declared.limits.TheConstants.{TEXT_MAX, COUNT_MAX}
 use Rattle.tre_syntax.specs.Pattern.{pattern_tree, names_of}
 use Rattle.tre_syntax.specs.PatternTree.{PatternTree, node_count, IsNumbered}
 use Rattle.tre_parse.specs.declared.fault.ParseFault.{ParseFault}
-use Rattle.tre_parse.specs.declared.fault.ParseFault.TheVariants.{TooLong, BadByte, TooDeep, Number, EmptyInterval, TooManyNames, TooLarge, Syntax as Mistaken, Memory}
+use Rattle.tre_parse.specs.declared.fault.ParseFault.TheVariants.{TooLong, Number, EmptyInterval, TooManyNames, TooLarge, Syntax as Mistaken, Memory}
 use Rattle.tre_parse.specs.Operands.{Operand, Represents, HasFineIntervals}
 use Rattle.tre_parse.specs.declared.token.Token.{Token}
 use Rattle.tre_parse.specs.declared.scan.Scan.{Scan}
@@ -29,12 +29,11 @@ use Rattle.tre_parse.specs.Known.{names_of_kind, Known, nothing_known, next_toke
 use Rattle.tre_syntax.specs.Expr.{tree_of}
 use Rattle.tre_syntax.specs.declared.expr.Expr.{Expr}
 use Rattle.tre_parse.specs.Joins.{Keeps}
-use Rattle.tre_parse.proofs.Counts.{kept_is}
 use Rattle.tre_parse.specs.Scan.{placed_from, IsBadByte, IsScan}
 use Rattle.tre_parse.specs.Front.{tokens_in, offsets_in}
 use Rattle.tre_parse.specs.Numbering.{IsNumberedByUse}
 use Rattle.tre_parse.specs.Outcome.{Outcome, spelt, refused}
-use Rattle.tre_parse.specs.TokenOutcome.{TextTokens, offset_of, is_big, is_past, deep_place, limit_fault, size_fault, IsSyntaxFaultAt, IsFirstEmpty, IsOutcomeOfTokens}
+use Rattle.tre_parse.specs.TokenOutcome.{TextTokens, offset_of, is_big, is_past, deep_place, limit_fault, size_fault, IsFirstEmpty, IsOutcomeOfTokens}
 use Rattle.tre_parse.specs.ScannedOutcome.{text_tokens_of, byte_fault, IsScannedOutcome}
 use Rattle.tre_parse.specs.Answers.{Answers, text_tokens_in, IsFaultOf, IsOutcomeWithin}
 use Rattle.tre_parse.proofs.Numbers.{counts_alike}
@@ -65,18 +64,13 @@ cut_outcome : (words : TextTokens) (fault : ParseFault) (rest : List Token) → 
     fault ≡ Mistaken (offset_of words (length words.tokens - length rest)) →
     IsOutcomeWithin words (refused fault)
 cut_outcome words fault rest e h same f =
-    let P = λ (g : ParseFault). IsOutcomeWithin words (refused g) in
-    let Q = λ (ts : List Token). IsSyntaxFaultAt words.tokens (length words.tokens - length ts) in
-    subst P (sym f) (read_outcome words _ e (inl
-    (length words.tokens - length rest, subst Q same (fault_at words.tokens h), refl)))
+    search (rules, refused, read_outcome, fault_at, words.tokens)
 
 pub stop_outcome : (words : TextTokens) (stopped : Stop) (fault : ParseFault) (rest : List Token)
     → limit_fault words ≡ None → Stops (read_whole words.tokens) stopped rest
     → IsFaultOf words stopped fault → (fault ≡ Memory) ⊎ IsOutcomeWithin words (refused fault)
 stop_outcome words Lacking fault rest e h f = inl f
-stop_outcome words (Stuck n) fault rest e h f =
-    inr (cut_outcome words fault rest e (subst IsCut (sym h.1) tt) (ap left h.1)
-    (f ∙ ap (λ m. Mistaken (offset_of words (length words.tokens - m))) h.0))
+stop_outcome words (Stuck n) fault rest e h f = search (rules, cut_outcome, left, offset_of)
 
 -- So have those that are an expression with more behind it.
 pub rest_outcome : (words : TextTokens) (stopped : Stop) (fault : ParseFault) (operand : Operand)
@@ -84,10 +78,7 @@ pub rest_outcome : (words : TextTokens) (stopped : Stop) (fault : ParseFault) (o
     ReadingGoes Represents operand (read_whole words.tokens) (λ e. got e rest) → (rest ≡ [] → ⊥) →
     stopped ≡ Stuck (length rest) → IsFaultOf words stopped fault →
     (fault ≡ Memory) ⊎ IsOutcomeWithin words (refused fault)
-rest_outcome words stopped fault operand rest e h some q f =
-    let P = λ (s : Stop). IsFaultOf words s fault in
-    inr (cut_outcome words fault rest e (subst IsCut (sym h.goes) some) (ap left h.goes)
-    (subst P q f))
+rest_outcome words stopped fault operand rest e h some q f = search (rules, cut_outcome, left)
 
 pub is_whole : (words : TextTokens) (operand : Operand)
     → ReadingGoes Represents operand (read_whole words.tokens) (λ e. got e [])
@@ -124,44 +115,34 @@ judged : (words : TextTokens) (operand : Operand) (outcome : Outcome) → limit_
     → (w : IsRepresented words operand) → NoneEmpty words.tokens →
     MatchOption (size_fault words w.tree) (outcome ≡ spelt w.tree words.names)
     (λ fault. outcome ≡ refused fault) → IsOutcomeWithin words outcome
-judged words operand outcome e w h q = read_outcome words outcome e
-    (inr (w.tree, w.spells, inr (h, q)))
+judged words operand outcome e w h q = search rules
 
 pub empty_outcome : (words : TextTokens) (operand : Operand) (place at : ℕ) → limit_fault words
     ≡ None → IsRepresented words operand → IsFirstEmpty words.tokens place → at
     ≡ offset_of words place → IsOutcomeWithin words (refused (EmptyInterval at))
-empty_outcome words operand place at e w h q = read_outcome words _ e
-    (inr (w.tree, w.spells, inl (place, h, ap (λ n. refused (EmptyInterval n)) q)))
+empty_outcome words operand place at e w h q = search rules
 
 -- A name too many, where one is.
 past_first : (words : TextTokens) (tree : PatternTree) (place : ℕ)
     → position is_past words.tokens ≡ Some place
     → size_fault words tree ≡ Some (TooManyNames (offset_of words place))
-past_first words tree place e = ap (λ past. option_or
-    (option_map (λ at. TooManyNames (offset_of words at)) past) (if nat_lt NODES_MAX
-    (node_count tree) then Some (TooLarge (min (node_count tree) COUNT_MAX)) else None)) e
+past_first words tree place e = search rules
 
 -- Without one, the nodes.
 nodes_next : (words : TextTokens) (tree : PatternTree) → position is_past words.tokens ≡ None
     → size_fault words tree ≡ (if nat_lt NODES_MAX (node_count tree) then Some (TooLarge (min
     (node_count tree) COUNT_MAX)) else None)
-nodes_next words tree e = ap (λ past. option_or
-    (option_map (λ at. TooManyNames (offset_of words at)) past) (if nat_lt NODES_MAX
-    (node_count tree) then Some (TooLarge (min (node_count tree) COUNT_MAX)) else None)) e
+nodes_next words tree e = search rules
 
 along_some : (made : Option ParseFault) (P : Type 0) (Q : ParseFault → Type 0)
     (fault : ParseFault) → made ≡ Some fault → Q fault → MatchOption made P Q
-along_some made P Q fault e h = let R = λ (m : Option ParseFault). MatchOption m P Q in
-    subst R (sym e) h
+along_some made P Q fault e h = search rules
 
 pub past_outcome : (words : TextTokens) (operand : Operand) (place at : ℕ) → limit_fault words
     ≡ None → IsRepresented words operand → NoneEmpty words.tokens
     → position is_past words.tokens ≡ Some place → at ≡ offset_of words place →
     IsOutcomeWithin words (refused (TooManyNames at))
-past_outcome words operand place at e w h q same =
-    judged words operand (refused (TooManyNames at)) e w h
-    (along_some (size_fault words w.tree) _ _ (TooManyNames (offset_of words place))
-    (past_first words w.tree place q) (ap (λ n. refused (TooManyNames n)) same))
+past_outcome words operand place at e w h q same = search rules
 
 size_large : (is : Bool) (n : ℕ) → nat_lt NODES_MAX n ≡ is → NODES_MAX < n
     → (if is then Some (TooLarge (min n COUNT_MAX)) else None)
@@ -212,28 +193,19 @@ is_buildable words operand e w h q le n =
 pub expr_is : (names : Vocabulary) (operand : Operand) (tree : PatternTree) (kept : Option Expr)
     (built : Expr) → IsBuildable names operand tree → Keeps operand.nodes operand.tree kept →
     kept ≡ Some built → tree_of built ≡ tree
-expr_is names operand tree kept built b k e = kept_is operand.nodes operand.tree kept built
-    (λ x. tree_of x ≡ tree) k e b.represents.same
+expr_is names operand tree kept built b k e = search rules
 
 pub expr_some : (names : Vocabulary) (operand : Operand) (tree : PatternTree)
     (kept : Option Expr) → IsBuildable names operand tree → Keeps operand.nodes operand.tree kept →
     operand.nodes ≤ NODES_MAX → kept ≡ None → ⊥
-expr_some names operand tree kept b k le e = no_none operand.tree
-    (b.represents.built b.small b.fine) (sym (k.small le) ∙ e)
-  where
-    no_none : (whole : Option Expr) → IsSome whole → whole ≡ None → ⊥
-    no_none None h e = cc
-    no_none (Some x) h e = cc
+expr_some names operand tree kept b k le e = search rules
 
 pub pattern_some : (names : Vocabulary) (operand : Operand) (tree : PatternTree) (built : Expr)
     → IsBuildable names operand tree → tree_of built ≡ tree →
     (node_count (tree_of built) ≤ NODES_MAX)
     × IsNumbered Proposition (tree_of built) (length names.names)
     × IsNumbered EventKind (tree_of built) (length names.events)
-pattern_some names operand tree built b e =
-    let P = λ (t : PatternTree). (node_count t ≤ NODES_MAX)
-    × IsNumbered Proposition t (length names.names) × IsNumbered EventKind t (length names.events) in
-    subst P (sym e) (b.small, b.numbered Proposition, b.numbered EventKind)
+pattern_some names operand tree built b e = search rules
 
 pub spelt_outcome : (words : TextTokens) (operand : Operand) (tree : PatternTree)
     (names : Vocabulary) → limit_fault words ≡ None → (w : IsRepresented words operand)
@@ -251,21 +223,11 @@ spelt_outcome words operand tree names e w h q le same kept =
 -- The text as a whole.
 pub words_outcome : (scale : ℕ) (text : List ℕ) (outcome : Outcome) → byte_fault text ≡ None
     → IsOutcomeWithin (text_tokens_of scale text) outcome → IsScannedOutcome scale text outcome
-words_outcome scale text outcome e h =
-    let words = text_tokens_of scale text in
-    let R = λ (m : Option ParseFault). MatchOption (option_or m (limit_fault words))
-    (IsOutcomeOfTokens words outcome) (λ fault. outcome ≡ refused fault) in
-    subst R (sym e) h
-
-short_by : (is : Bool) (n : ℕ) (first later : Option ParseFault) → nat_lt TEXT_MAX n ≡ is
-    → n ≤ TEXT_MAX → (if is then first else later) ≡ later
-short_by true n first later t le = absurd (grind (arith, nat_tests))
-short_by false n first later t le = refl
+words_outcome scale text outcome e h = search rules
 
 pub good_bytes : (text : List ℕ) → length text ≤ TEXT_MAX → bad_byte text ≡ None → byte_fault text
     ≡ None
-good_bytes text le e = short_by (nat_lt TEXT_MAX (length text)) (length text) (Some TooLong) _ refl
-    le ∙ ap (option_map (λ at. BadByte at)) e
+good_bytes text le e = search rules
 
 -- The tokens and the offsets of words that are listed together.
 placed_tokens : (scale : ℕ) (known : Known) (raw_tokens : List RawTokenAt)
@@ -324,34 +286,13 @@ answered scale text outcome (Err fault) (inr h) k = inr (scanned_once scale text
 -- A text that is too long, and one that has a byte at which no token begins.
 pub long_outcome : (scale : ℕ) (text : List ℕ) → TEXT_MAX < length text
     → IsScannedOutcome scale text (refused TooLong)
-long_outcome scale text long =
-    let is : nat_lt TEXT_MAX (length text) ≡ true = grind (arith, nat_tests) in
-    let words = text_tokens_of scale text in
-    let P = λ (long : Bool). MatchOption (option_or (if long then Some TooLong
-    else option_map (λ at. BadByte at) (bad_byte text)) (limit_fault words))
-    (IsOutcomeOfTokens words (refused TooLong)) (λ fault. refused TooLong ≡ refused fault) in
-    subst P (sym is) refl
-
-bad_refused : (scale : ℕ) (text : List ℕ) (at : ℕ) → length text ≤ TEXT_MAX
-    → bad_byte text ≡ Some at → IsScannedOutcome scale text (refused (BadByte at))
-bad_refused scale text at few bad =
-    let is : nat_lt TEXT_MAX (length text) ≡ false = grind (arith, nat_tests) in
-    let words = text_tokens_of scale text in
-    let P = λ (long : Bool) (bad : Option ℕ). MatchOption (option_or (if long then Some TooLong
-    else option_map (λ at. BadByte at) bad) (limit_fault words))
-    (IsOutcomeOfTokens words (refused (BadByte at)))
-    (λ fault. refused (BadByte at) ≡ refused fault) in
-    subst (λ long. P long (bad_byte text)) (sym is) (subst (P false) (sym bad) refl)
+long_outcome scale text long = search rules
 
 pub bad_outcome : (scale : ℕ) (text : List ℕ) (fault : ParseFault) → length text ≤ TEXT_MAX
     → IsBadByte text 0 fault → (fault ≡ Memory) ⊎ IsScannedOutcome scale text (refused fault)
 bad_outcome scale text fault few (inl memory) = inl memory
-bad_outcome scale text fault few (inr bad) =
-    let P = λ (fault : ParseFault). IsScannedOutcome scale text (refused fault) in
-    inr (subst P (sym bad.1) (bad_refused scale text bad.0 few bad.2))
+bad_outcome scale text fault few (inr bad) = search rules
 
 pub limits_met : (words : TextTokens) → position is_big words.tokens ≡ None
     → deep_place 0 0 words.tokens ≡ None → limit_fault words ≡ None
-limits_met words p q = ap (λ big. option_or (option_map (λ at. Number (offset_of words at)) big)
-    (option_map (λ at. TooDeep (offset_of words at)) (deep_place 0 0 words.tokens))) p
-    ∙ ap (λ deep. option_or None (option_map (λ at. TooDeep (offset_of words at)) deep)) q
+limits_met words p q = search rules

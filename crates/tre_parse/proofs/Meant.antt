@@ -1,5 +1,5 @@
 -- The raw tokens as they are written are those that are scanned.
-use Rattle.std.proofs.Common.{◌≡◌, ℕ, ◌+◌, ◌-◌, ◌<◌, ◌≤◌, zero, suc, Bool, true, false, cond, ◌⊎◌, inl, inr, ⊎_elim, ◌&&◌, Option, Some, None, List, [], ◌∷◌, ◌++◌, take, drop, length, refl, sym, ◌∙◌, ap, subst, arith}
+use Rattle.std.proofs.Common.{◌≡◌, ℕ, ◌+◌, ◌-◌, ◌<◌, ◌≤◌, zero, suc, Bool, true, false, cond, ◌⊎◌, inl, inr, ⊎_elim, ◌&&◌, Option, Some, None, List, [], ◌∷◌, ◌++◌, take, drop, length, refl, sym, ◌∙◌, ap, subst, arith, rules}
 use Rattle.std.specs.Prelude.{if◌then◌else◌, nat_eq, nat_lt, Contains}
 use Rattle.std.specs.List.{prefix_len, take_while, AllPass, list_all, starts_with}
 use Rattle.std.specs.Char.{is_ascii_digit}
@@ -62,22 +62,11 @@ named_bytes n (Some token) = refl
 
 lexeme_word : (b : ℕ) (bs : List ℕ) → starts_name b ≡ true
     → lexeme_of (b ∷ bs) ≡ word_lexeme (b ∷ bs)
-lexeme_word b bs h =
-    ap (λ (t : Bool). if t then Blank else (if starts_name b then word_lexeme (b ∷ bs) else
-    (if is_ascii_digit b then number_lexeme (b ∷ bs) else sign_lexeme (b ∷ bs))))
-    (starts_no_blank b h)
-    ∙ ap (λ (t : Bool). if t then word_lexeme (b ∷ bs) else (if is_ascii_digit b
-    then number_lexeme (b ∷ bs) else sign_lexeme (b ∷ bs))) h
+lexeme_word b bs h = search rules
 
 lexeme_number : (b : ℕ) (bs : List ℕ) → is_ascii_digit b ≡ true
     → lexeme_of (b ∷ bs) ≡ number_lexeme (b ∷ bs)
-lexeme_number b bs h =
-    ap (λ (t : Bool). if t then Blank else (if starts_name b then word_lexeme (b ∷ bs) else
-    (if is_ascii_digit b then number_lexeme (b ∷ bs) else sign_lexeme (b ∷ bs))))
-    (digit_no_blank b h)
-    ∙ ap (λ (t : Bool). if t then word_lexeme (b ∷ bs) else (if is_ascii_digit b
-    then number_lexeme (b ∷ bs) else sign_lexeme (b ∷ bs))) (digit_starts_none b h)
-    ∙ ap (λ (t : Bool). if t then number_lexeme (b ∷ bs) else sign_lexeme (b ∷ bs)) h
+lexeme_number b bs h = search rules
 
 -- a word is no longer than the one that is taken
 most_word : (bytes : List ℕ) (n : ℕ) → n ≤ length bytes → IsWord (take n bytes)
@@ -111,18 +100,10 @@ digits_end p (w ∷ whole) x rest all stops =
     by go false q more = absurd (cc)
 
 numeral_digits : (bytes : List ℕ) → is_numeral bytes ≡ true → list_all is_ascii_digit bytes ≡ true
-numeral_digits bytes h = by (nat_lt 0 (length bytes)) (list_all is_ascii_digit bytes) h
-  where
-    by : (some all : Bool) → (some && all) ≡ true → all ≡ true
-    by true all h = h
-    by false all h = absurd (cc)
+numeral_digits bytes h = search rules
 
 first_digit : (b : ℕ) (bs : List ℕ) → is_numeral (b ∷ bs) ≡ true → is_ascii_digit b ≡ true
-first_digit b bs h = by (is_ascii_digit b) (list_all is_ascii_digit bs) (numeral_digits (b ∷ bs) h)
-  where
-    by : (is all : Bool) → (is && all) ≡ true → is ≡ true
-    by true all h = refl
-    by false all h = absurd (cc)
+first_digit b bs h = search rules
 
 most_numeral : (bytes : List ℕ) (n : ℕ) → n ≤ length bytes → is_numeral (take n bytes) ≡ true
     → n ≤ bytes_in (lexeme_of bytes)
@@ -229,27 +210,16 @@ word_by len bytes None is e = record { taken = tt; writes = (refl, is, e) }
 word_by len bytes (Some token) is e = record { taken = tt; writes = inr (is, e) }
 
 word_stands : (b : ℕ) (bs : List ℕ) → starts_name b ≡ true → Stands (b ∷ bs) (lexeme_of (b ∷ bs))
-word_stands b bs h =
-    let bytes = b ∷ bs in
-    let len = prefix_len continues_name bytes in
-    subst (Stands bytes) (sym (lexeme_word b bs h))
-    (word_by len bytes (reserved (take_while continues_name bytes)) (word_from b bs len h refl)
-    refl)
+word_stands b bs h = search (rules, continues_name, lexeme_word, word_by, reserved, word_from)
 
 digits_numeral : (bytes : List ℕ) → 0 < length bytes → list_all is_ascii_digit bytes ≡ true
     → is_numeral bytes ≡ true
-digits_numeral bytes some all =
-    let any : nat_lt 0 (length bytes) ≡ true = grind (arith, nat_tests) in
-    ap (λ (t : Bool). t && list_all is_ascii_digit bytes) any ∙ all
+digits_numeral bytes some all = search rules
 
 run_numeral : (bytes : List ℕ) → 0 < prefix_len is_ascii_digit bytes
     → is_numeral (take (prefix_len is_ascii_digit bytes) bytes) ≡ true
 run_numeral bytes some =
-    let len = prefix_len is_ascii_digit bytes in
-    let size = length-prefix_len is_ascii_digit bytes in
-    digits_numeral (take len bytes) (omega (arith, size, some))
-    (list_all-from_AllPass is_ascii_digit (take len bytes)
-    (prefix_passes is_ascii_digit bytes len refl))
+    search (rules, length-prefix_len, digits_numeral, list_all-from_AllPass, prefix_passes)
 
 point_byte : (x : ℕ) → is_point x ≡ true → x ≡ 46
 point_byte x h = grind (arith, nat_tests)
@@ -258,9 +228,7 @@ decimal_front : (bytes : List ℕ) (len : ℕ) (rest : List ℕ) → is_numeral 
     → drop len bytes ≡ rest → len ≤ length bytes
     → (is_numeral (take (len + decimals_len rest) bytes) ≡ true)
     ⊎ HasDecimals (take (len + decimals_len rest) bytes)
-decimal_front bytes len [] is e fits =
-    let same : len ≡ len + 0 = omega arith in
-    inl (ap (λ n. is_numeral (take n bytes)) (sym same) ∙ is)
+decimal_front bytes len [] is e fits = search rules
 decimal_front bytes len (x ∷ more) is e fits =
     by (is_point x) (nat_lt 0 (prefix_len is_ascii_digit more)) refl refl
   where
@@ -408,10 +376,7 @@ writes_no_blank b bs (sign token) (inr kept) = starts_no_blank b (word_starts b 
 -- no word is a sign or a number
 not_sign : (bytes : List ℕ) (token : Token) → IsWord bytes → Contains signs (bytes, token) → ⊥
 not_sign [] token is has = is
-not_sign (b ∷ bs) token is has =
-    let yes = word_starts b bs is in
-    let absent : starts_name b ≡ false = (sign_no_word (b ∷ bs) token has).0 in
-    cc
+not_sign (b ∷ bs) token is has = search rules
 
 not_number : (bytes : List ℕ) → IsWord bytes → (is_numeral bytes ≡ true) ⊎ HasDecimals bytes → ⊥
 not_number [] is digits = is
@@ -447,21 +412,15 @@ same_raw bytes (name text) (number text') h h' = absurd (not_number bytes h.1 h'
 same_raw bytes (number text) (name text') h h' = absurd (not_number bytes h'.1 h.1)
 same_raw bytes (sign token) (sign token') (inl has) (inl has') = ap (λ (t : Token). sign t)
     (same_sign bytes token token' (sign_known bytes token has) (sign_known bytes token' has'))
-same_raw bytes (sign token) (sign token') (inr kept) (inr kept') =
-    let same = sym kept.1 ∙ kept'.1 in
-    (cc)
+same_raw bytes (sign token) (sign token') (inr kept) (inr kept') = search rules
 same_raw bytes (sign token) (sign token') (inl has) (inr kept) =
     absurd (not_sign bytes token kept.0 has)
 same_raw bytes (sign token) (sign token') (inr kept) (inl has) =
     absurd (not_sign bytes token' kept.0 has)
 same_raw bytes (name text) (sign token) h (inl has) = absurd (not_sign bytes token h.1 has)
-same_raw bytes (name text) (sign token) h (inr kept) =
-    let same = sym h.2 ∙ kept.1 in
-    absurd (cc)
+same_raw bytes (name text) (sign token) h (inr kept) = search rules
 same_raw bytes (sign token) (name text) (inl has) h = absurd (not_sign bytes token h.1 has)
-same_raw bytes (sign token) (name text) (inr kept) h =
-    let same = sym h.2 ∙ kept.1 in
-    absurd (cc)
+same_raw bytes (sign token) (name text) (inr kept) h = search rules
 same_raw bytes (number text) (sign token) h (inl has) = absurd (sign_no_number bytes token has h.1)
 same_raw bytes (number text) (sign token) h (inr kept) = absurd (not_number bytes kept.0 h.1)
 same_raw bytes (sign token) (number text) (inl has) h = absurd (sign_no_number bytes token has h.1)
@@ -499,12 +458,7 @@ begun bytes some st = record {
 after_token : (at len : ℕ) (b : ℕ) (bs : List ℕ) → 0 < len → len ≤ length (b ∷ bs)
     → raw_tokens_from (len - 1) (at + 1) bs ≡ raw_tokens_from 0 (at + len) (drop len (b ∷ bs))
 after_token at zero b bs some fits = absurd (omega (arith, some))
-after_token at (suc m) b bs some fits =
-    let e : at + 1 + m ≡ at + suc m = omega arith in
-    let less : suc m - 1 ≡ m = omega arith in
-    ap (λ n. raw_tokens_from n (at + 1) bs) less
-    ∙ raw_tokens_skip m (at + 1) bs (omega (arith, fits))
-    ∙ ap (λ n. raw_tokens_from 0 n (drop m bs)) e
+after_token at (suc m) b bs some fits = search (rules, raw_tokens_from, raw_tokens_skip)
 
 next_raw : (at len b : ℕ) (bs : List ℕ) (token : RawToken) → BeginsWith (b ∷ bs) token len
     → raw_tokens_from 0 at (b ∷ bs)
@@ -535,9 +489,7 @@ next_raw at (suc m) b bs token is = by (stands b bs (writes_no_blank b (take m b
         ∙ ap (with_raw_token at token) (after_token at (suc m) b bs (omega arith) is.within)
 
 blank_lexeme : (b : ℕ) (bs : List ℕ) → is_white_space b ≡ true → lexeme_of (b ∷ bs) ≡ Blank
-blank_lexeme b bs h =
-    ap (λ (t : Bool). if t then Blank else (if starts_name b then word_lexeme (b ∷ bs) else
-    (if is_ascii_digit b then number_lexeme (b ∷ bs) else sign_lexeme (b ∷ bs)))) h
+blank_lexeme b bs h = search rules
 
 pub one_list : (at : ℕ) (bytes : List ℕ) (tokens : List RawTokenAt) (bad : Option ℕ)
     → AreTokens at bytes tokens bad

@@ -1,5 +1,5 @@
 -- The number of a name in the text is its place in the list of names.
-use Rattle.std.proofs.Common.{◌≡◌, ℕ, ◌+◌, ◌<◌, suc, Bool, true, false, cond, ◌&&◌, ◌⊎◌, inl, inr, Option, Some, None, List, [], ◌∷◌, ◌++◌, length, refl, sym, ◌∙◌, ap, subst, arith, length-append}
+use Rattle.std.proofs.Common.{◌≡◌, ℕ, ◌+◌, ◌<◌, suc, Bool, true, false, cond, ◌&&◌, ◌⊎◌, inl, inr, Option, Some, None, List, [], ◌∷◌, ◌++◌, length, refl, sym, ◌∙◌, ap, subst, arith, length-append, rules}
 use Rattle.std.specs.Prelude.{nat_lt, if◌then◌else◌, is_none, unwrap_or}
 use Rattle.std.specs.List.{position_or_len}
 use Rattle.std.specs.Str.{bytes_eq}
@@ -60,10 +60,7 @@ name_on : (known : List (List ℕ)) (bytes other : List ℕ) → HasPlace known 
 name_on known bytes other (inl s) =
     let e = some_kept known bytes other s.0 (is_none (place_of known other) && nat_lt (length known)
     NAMES_MAX) s.1 in (inl (s.0, e), e ∙ sym s.1)
-name_on known bytes other (inr full) =
-    let same = no_room known other (is_none (place_of known other))
-    (nat_lt (length known) NAMES_MAX) full in
-    (inr (ap (λ k. nat_lt (length k) NAMES_MAX) same ∙ full), ap (λ k. place_of k bytes) same)
+name_on known bytes other (inr full) = search rules
 
 -- ---- the names of each kind
 
@@ -91,10 +88,7 @@ word_on kind known (number digits) bytes h = (h, refl)
 word_on kind known (sign token) bytes h = (h, refl)
 word_on kind known (event_name other) bytes h = (h, refl)
 word_on kind known (name other) bytes h =
-    let P = λ (names : List (List ℕ)). HasPlace names bytes
-    × (place_of names bytes ≡ place_of (names_of_kind kind known.vocabulary) bytes) in
-    kind_by P kind (kind_behind known.before) known.vocabulary other (h, refl)
-    (name_on (names_of_kind kind known.vocabulary) bytes other h)
+    search (rules, place_of, names_of_kind, kind_by, kind_behind, name_on, known.vocabulary)
 
 pub for_good : (kind : NameKind) (known : Known) (raw_tokens : List RawTokenAt) (bytes : List ℕ)
     → HasPlace (names_of_kind kind known.vocabulary) bytes

@@ -1,5 +1,5 @@
 -- The words, names and tokens of a text are those that are found while it is read from the left.
-use Rattle.std.proofs.Common.{◌≡◌, ℕ, ◌+◌, ◌-◌, ◌<◌, ◌≤◌, suc, Bool, true, false, cond, not, ◌&&◌, ◌||◌, Option, Some, None, List, [], ◌∷◌, ◌++◌, length, map, take, refl, sym, ◌∙◌, ap, subst, arith, append_assoc, length-append}
+use Rattle.std.proofs.Common.{◌≡◌, ℕ, ◌+◌, ◌-◌, ◌<◌, ◌≤◌, suc, Bool, true, false, cond, not, ◌&&◌, ◌||◌, Option, Some, None, List, [], ◌∷◌, ◌++◌, length, map, take, refl, sym, ◌∙◌, ap, subst, arith, append_assoc, length-append, rules}
 use Rattle.std.specs.Prelude.{nat_lt, if◌then◌else◌, is_none, unwrap_or, position, filter, filter_map, slice_index_or}
 use Rattle.std.specs.Option.{option_map}
 use Rattle.std.specs.List.{list_any, position_or_len}
@@ -9,7 +9,6 @@ use Rattle.std.proofs.lemmas.Bool.Decides.{nat_tests}
 use Rattle.std.proofs.lemmas.List.{append-nil}
 use Rattle.std.proofs.lemmas.List.Folds.{list_any-append}
 use Rattle.std.proofs.lemmas.List.Quantifiers.{position-Some}
-use Rattle.std.proofs.lemmas.Slice.Eq.{bytes_eq-Decides}
 use Rattle.tre_state.specs.declared.names.TheConstants.{NAMES_MAX}
 use Rattle.tre_state.specs.Names.{place_of}
 use Rattle.tre_trace.specs.Reading.{Vocabulary}
@@ -21,7 +20,7 @@ use Rattle.tre_parse.specs.declared.before.Before.{Before}
 use Rattle.tre_parse.specs.declared.before.Before.TheVariants.{EventWord, EventParen, Other}
 use Rattle.tre_parse.specs.Tokens.{RawToken, name, event_name, number, sign, RawTokenAt, with_events, name_of, first_uses, names_in, token_of}
 use Rattle.tre_parse.specs.Scanned.{raw_tokens_of, words_of, names_of, tokens_of}
-use Rattle.tre_parse.specs.Known.{before_next, kind_behind, names_of_kind, names_with, vocabulary_with, Known, nothing_known, numbered, next_token, vocabulary_after, known_after, tokens_from, names_from, word_is_past, past_from, offsets_of}
+use Rattle.tre_parse.specs.Known.{before_next, kind_behind, names_of_kind, names_with, Known, nothing_known, numbered, next_token, vocabulary_after, known_after, tokens_from, names_from, word_is_past, past_from, offsets_of}
 use Rattle.tre_parse.specs.TokenOutcome.{is_past}
 use Rattle.tre_parse.specs.ScannedOutcome.{text_tokens_of}
 use Rattle.tre_parse.specs.Past.{kind_after}
@@ -47,36 +46,12 @@ pub record Told (words : List RawToken) : Type 0 where
       ≡ sign Event ∷ sign LeftParen ∷ apart_from EventParen words
 
 told_word : (word : RawToken) (rest : List RawToken) → Told rest → Told (word ∷ rest)
-told_word (name bytes) rest h = record {
-  other = ap (λ l. name bytes ∷ l) h.other;
-  event = ap (λ l. sign Event ∷ name bytes ∷ l) h.other;
-  paren = ap (λ l. sign Event ∷ sign LeftParen ∷ event_name bytes ∷ l) h.other;
-}
-told_word (event_name bytes) rest h = record {
-  other = ap (λ l. event_name bytes ∷ l) h.other;
-  event = ap (λ l. sign Event ∷ event_name bytes ∷ l) h.other;
-  paren = ap (λ l. sign Event ∷ sign LeftParen ∷ event_name bytes ∷ l) h.other;
-}
-told_word (number bytes) rest h = record {
-  other = ap (λ l. number bytes ∷ l) h.other;
-  event = ap (λ l. sign Event ∷ number bytes ∷ l) h.other;
-  paren = ap (λ l. sign Event ∷ sign LeftParen ∷ number bytes ∷ l) h.other;
-}
-told_word (sign Event) rest h = record {
-  other = h.event;
-  event = ap (λ l. sign Event ∷ l) h.event;
-  paren = ap (λ l. sign Event ∷ sign LeftParen ∷ l) h.event;
-}
-told_word (sign LeftParen) rest h = record {
-  other = ap (λ l. sign LeftParen ∷ l) h.other;
-  event = h.paren;
-  paren = ap (λ l. sign Event ∷ sign LeftParen ∷ sign LeftParen ∷ l) h.other;
-}
-told_word (sign token) rest h = record {
-  other = ap (λ l. sign token ∷ l) h.other;
-  event = ap (λ l. sign Event ∷ sign token ∷ l) h.other;
-  paren = ap (λ l. sign Event ∷ sign LeftParen ∷ sign token ∷ l) h.other;
-}
+told_word (name bytes) rest h = search rules
+told_word (event_name bytes) rest h = search rules
+told_word (number bytes) rest h = search rules
+told_word (sign Event) rest h = search rules
+told_word (sign LeftParen) rest h = search rules
+told_word (sign token) rest h = search rules
 
 pub told : (words : List RawToken) → Told words
 told [] = record { other = refl; event = refl; paren = refl }
@@ -91,50 +66,15 @@ abbrev extend : List (List ℕ) → List (List ℕ) → List (List ℕ)
 extend known [] = known
 extend known (bytes ∷ rest) = extend (names_with known bytes) rest
 
-name_extends : (kind : NameKind) (before : Before) (known : Vocabulary) (bytes : List ℕ)
-    (rest : List RawToken) →
-    extend (names_of_kind kind (vocabulary_with (kind_behind before) known bytes))
-    (filter_map (name_of kind) rest)
-    ≡ extend (names_of_kind kind known) (filter_map (name_of kind) (apart before (name bytes) ∷ rest))
-name_extends Proposition EventWord known bytes rest = refl
-name_extends Proposition EventParen known bytes rest = refl
-name_extends Proposition Other known bytes rest = refl
-name_extends EventKind EventWord known bytes rest = refl
-name_extends EventKind EventParen known bytes rest = refl
-name_extends EventKind Other known bytes rest = refl
-
-number_extends : (kind : NameKind) (before : Before) (known : List (List ℕ)) (bytes : List ℕ)
-    (rest : List RawToken) → extend known (filter_map (name_of kind) rest)
-    ≡ extend known (filter_map (name_of kind) (apart before (number bytes) ∷ rest))
-number_extends Proposition EventWord known bytes rest = refl
-number_extends Proposition EventParen known bytes rest = refl
-number_extends Proposition Other known bytes rest = refl
-number_extends EventKind EventWord known bytes rest = refl
-number_extends EventKind EventParen known bytes rest = refl
-number_extends EventKind Other known bytes rest = refl
-
-sign_extends : (kind : NameKind) (before : Before) (known : List (List ℕ)) (token : Token)
-    (rest : List RawToken) → extend known (filter_map (name_of kind) rest)
-    ≡ extend known (filter_map (name_of kind) (apart before (sign token) ∷ rest))
-sign_extends Proposition EventWord known token rest = refl
-sign_extends Proposition EventParen known token rest = refl
-sign_extends Proposition Other known token rest = refl
-sign_extends EventKind EventWord known token rest = refl
-sign_extends EventKind EventParen known token rest = refl
-sign_extends EventKind Other known token rest = refl
-
 word_extends : (kind : NameKind) (known : Known) (word : RawToken) (rest : List RawToken)
     → IsPlain word →
     extend (names_of_kind kind (vocabulary_after known word)) (filter_map (name_of kind) rest)
     ≡ extend (names_of_kind kind known.vocabulary)
     (filter_map (name_of kind) (apart known.before word ∷ rest))
-word_extends kind known (name bytes) rest h =
-    name_extends kind known.before known.vocabulary bytes rest
+word_extends kind known (name bytes) rest h = search rules
 word_extends kind known (event_name bytes) rest h = absurd h
-word_extends kind known (number bytes) rest h =
-    number_extends kind known.before (names_of_kind kind known.vocabulary) bytes rest
-word_extends kind known (sign token) rest h =
-    sign_extends kind known.before (names_of_kind kind known.vocabulary) token rest
+word_extends kind known (number bytes) rest h = search rules
+word_extends kind known (sign token) rest h = search rules
 
 names_extend : (kind : NameKind) (raw_tokens : List RawTokenAt) (known : Known)
     → ArePlain raw_tokens → names_of_kind kind (names_from known raw_tokens)
@@ -193,12 +133,7 @@ fresh_with known bytes other = ap not (list_any-append (bytes_eq other) known (b
 
 fresh_same : (known : List (List ℕ)) (bytes other : List ℕ) → fresh known bytes ≡ false
     → fresh known other ≡ (not (bytes_eq other bytes) && fresh known other)
-fresh_same known bytes other e = by (bytes_eq other bytes) refl
-  where
-    by : (is : Bool) → bytes_eq other bytes ≡ is → fresh known other
-        ≡ (not is && fresh known other)
-    by true q = ap (fresh known) ((bytes_eq-Decides other bytes).0 q) ∙ e
-    by false q = refl
+fresh_same known bytes other e = search rules
 
 filter_both : {X : Type 0} (p q r : X → Bool) → ((x : X) → r x ≡ (q x && p x)) → (xs : List X)
     → filter p (filter q xs) ≡ filter r xs
@@ -250,14 +185,7 @@ takes_one bytes uses known true true le go e f =
     (λ other. fresh_with known bytes other) (first_uses uses)))
     ∙ append_assoc known (bytes ∷ []) (take (NAMES_MAX - length more) others)
     ∙ ap (λ n. known ++ take n (bytes ∷ others)) left
-takes_one bytes uses known true false le go e f =
-    let most : NAMES_MAX ≤ length known = grind (arith, nat_tests) in
-    let full : NAMES_MAX - length known ≡ 0 = omega (arith, most) in
-    let others = filter (fresh known) (filter (λ other. not (bytes_eq other bytes))
-    (first_uses uses)) in
-    go known le
-    ∙ ap (λ n. known ++ take n (filter (fresh known) (first_uses uses))) full
-    ∙ ap (λ n. known ++ take n (bytes ∷ others)) (sym full)
+takes_one bytes uses known true false le go e f = search rules
 
 extend_takes : (uses known : List (List ℕ)) → length known ≤ NAMES_MAX → Takes known uses
 extend_takes [] known le = sym (append-nil known)
@@ -287,11 +215,7 @@ kind_run kind text =
 
 pub names_run : (text : List ℕ) → names_of text ≡ names_from nothing_known (raw_tokens_of text)
 names_run text =
-    let names = names_from nothing_known (raw_tokens_of text) in
-    ap (λ (l : List (List ℕ)). record { names = l; events = names_in EventKind (words_of text) })
-    (kind_run Proposition text)
-    ∙ ap (λ (l : List (List ℕ)). record { names = names.names; events = l })
-    (kind_run EventKind text)
+    search (rules, names_from, nothing_known, raw_tokens_of, names_in, words_of, kind_run)
 
 -- ---- the tokens of a text
 
@@ -301,12 +225,6 @@ apart_token : (scale : ℕ) (before : Before) (names : Vocabulary) (bytes : List
 apart_token scale EventWord names bytes = refl
 apart_token scale EventParen names bytes = refl
 apart_token scale Other names bytes = refl
-
-number_token : (scale : ℕ) (before : Before) (names : Vocabulary) (bytes : List ℕ)
-    → token_of scale names (number bytes) ≡ token_of scale names (apart before (number bytes))
-number_token scale EventWord names bytes = refl
-number_token scale EventParen names bytes = refl
-number_token scale Other names bytes = refl
 
 sign_token : (scale : ℕ) (before : Before) (names : Vocabulary) (token : Token)
     → token ≡ token_of scale names (apart before (sign token))
@@ -328,10 +246,8 @@ word_token scale known (name bytes) rest h =
     (sym (for_good kind next rest bytes has ∙ ap (λ l. place_of l bytes) own))
     ∙ sym (apart_token scale known.before (names_from next rest) bytes)
 word_token scale known (event_name bytes) rest h = absurd h
-word_token scale known (number bytes) rest h = number_token scale known.before
-    (names_from (known_after known (number bytes)) rest) bytes
-word_token scale known (sign token) rest h = sign_token scale known.before
-    (names_from (known_after known (sign token)) rest) token
+word_token scale known (number bytes) rest h = search rules
+word_token scale known (sign token) rest h = search rules
 
 tokens_apart : (scale : ℕ) (raw_tokens : List RawTokenAt) (known : Known) → ArePlain raw_tokens
     → tokens_from scale known raw_tokens ≡ map (token_of scale (names_from known raw_tokens))
@@ -392,11 +308,7 @@ sign_past _ h = refl
 word_past : (scale : ℕ) (known : Known) (word : RawToken) → AreFew known → IsPlain word
     → is_past (next_token scale known word) ≡ word_is_past known word
 word_past scale known (name bytes) few h =
-    let kind = kind_behind known.before in
-    let names = names_with (names_of_kind kind known.vocabulary) bytes in
-    let fits = few_with (names_of_kind kind known.vocabulary) bytes (few kind) in
-    number_past kind (place_of names bytes)
-    (λ i e. omega (arith, (position-Some (bytes_eq bytes) names i [] e).0, fits))
+    search (rules, kind_behind, names_with, names_of_kind, few_with, number_past, position-Some)
 word_past scale known (event_name bytes) few h = absurd h
 word_past scale known (number bytes) few h = refl
 word_past scale known (sign token) few h = sign_past token h

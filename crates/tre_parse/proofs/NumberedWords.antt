@@ -1,33 +1,24 @@
 -- The words of a text number its names by first use from the left.
-use Rattle.std.proofs.Common.{◌≡◌, ℕ, ◌+◌, Bool, true, false, ◌&&◌, Option, Some, None, List, [], ◌∷◌, ◌++◌, length, refl, sym, ◌∙◌, ap, subst, length-append}
+use Rattle.std.proofs.Common.{◌≡◌, ℕ, ◌+◌, Bool, true, false, ◌&&◌, Option, Some, None, List, [], ◌∷◌, ◌++◌, length, refl, sym, ◌∙◌, ap, subst, length-append, rules}
 use Rattle.std.specs.Prelude.{nat_lt, if◌then◌else◌, is_none, unwrap_or}
 use Rattle.std.specs.Option.{option_map}
-use Rattle.std.specs.Str.{bytes_eq}
-use Rattle.std.proofs.lemmas.List.Quantifiers.{position-Some}
 use Rattle.tre_state.specs.declared.names.TheConstants.{NAMES_MAX}
 use Rattle.tre_state.specs.Names.{place_of}
 use Rattle.tre_state.proofs.Places.{place_of-push}
 use Rattle.tre_syntax.specs.PatternTree.{seen_after}
-use Rattle.tre_syntax.proofs.FirstUses.{seen_old, seen_new}
+use Rattle.tre_syntax.proofs.FirstUses.{seen_new}
 use Rattle.tre_trace.specs.Reading.{Vocabulary}
 use Rattle.tre_syntax.specs.declared.name_kind.NameKind.{NameKind}
 use Rattle.tre_syntax.specs.declared.name_kind.NameKind.TheVariants.{Proposition, Event as EventKind}
 use Rattle.tre_parse.specs.declared.token.Token.{Token}
-use Rattle.tre_parse.specs.declared.token.Token.TheVariants.{Name as Numbered, EventName, Number as Units}
-use Rattle.tre_parse.specs.Tokens.{RawToken, name, event_name, number, sign, RawTokenAt, units_within}
+use Rattle.tre_parse.specs.Tokens.{RawToken, name, event_name, number, sign, RawTokenAt}
 use Rattle.tre_parse.specs.Scanned.{raw_tokens_of}
 use Rattle.tre_parse.specs.Known.{kind_behind, names_of_kind, names_with, vocabulary_with, Known, nothing_known, numbered, next_token, vocabulary_after, known_after, tokens_from, names_from, past_from, word_is_past}
 use Rattle.tre_parse.specs.Numbering.{numbers_in, IsNumberedByUse}
 use Rattle.tre_parse.specs.TokenOutcome.{offset_of}
 use Rattle.tre_parse.specs.ScannedOutcome.{text_tokens_of}
-use Rattle.tre_parse.proofs.Plain.{IsNoName, IsPlain, ArePlain, raw_tokens_plain}
+use Rattle.tre_parse.proofs.Plain.{IsPlain, ArePlain, raw_tokens_plain}
 use Rattle.tre_parse.proofs.Named.{names_run, tokens_run, past_run}
-
-no_name_numbers : (kind : NameKind) (token : Token) (rest : List Token) → IsNoName token
-    → numbers_in kind (token ∷ rest) ≡ numbers_in kind rest
-no_name_numbers kind (Numbered i) rest h = absurd h
-no_name_numbers kind (EventName i) rest h = absurd h
-no_name_numbers kind _ rest h = refl
 
 -- What the number of a name is, where it is not past the most.
 name_seen : (known : List (List ℕ)) (bytes : List ℕ) (found : Option ℕ) (room : Bool)
@@ -38,18 +29,14 @@ name_seen : (known : List (List ℕ)) (bytes : List ℕ) (found : Option ℕ) (r
     →
     seen_after (length known) (unwrap_or (place_of (if is_none found && room then known ++ bytes ∷
     [] else known) bytes) NAMES_MAX ∷ rest) ≡ Some m
-name_seen known bytes (Some i) room rest m f p e =
-    let bound = position-Some (bytes_eq bytes) known i [] f in
-    ap (λ (o : Option ℕ). seen_after (length known) (unwrap_or o NAMES_MAX ∷ rest)) f
-    ∙ seen_old (length known) i rest m bound.0 e
+name_seen known bytes (Some i) room rest m f p e = search rules
 name_seen known bytes None true rest m f p e =
     let pushed = place_of-push known bytes f in
     let size : length (known ++ bytes ∷ []) ≡ length known + 1 = length-append known (bytes ∷ []) in
     ap (λ (o : Option ℕ). seen_after (length known) (unwrap_or o NAMES_MAX ∷ rest)) pushed
     ∙ seen_new (length known) (length known) rest m refl
     (ap (λ n. seen_after n rest) (sym size) ∙ e)
-name_seen known bytes None false rest m f p e =
-    let none = ap is_none f in absurd (cc)
+name_seen known bytes None false rest m f p e = search rules
 
 past_none : (is : Bool) (at : ℕ) (later : Option ℕ) → (if is then Some at else later) ≡ None
     → (is ≡ false) × (later ≡ None)
@@ -81,15 +68,10 @@ spot_numbered : (scale : ℕ) (kind : NameKind) (word : RawToken) (at : ℕ) (kn
     seen_after (length (names_of_kind kind known.vocabulary))
     (numbers_in kind (next_token scale known word ∷ rest)) ≡ Some m
 spot_numbered scale kind (name bytes) at known rest later m h e go =
-    let split = past_none (word_is_past known (name bytes)) at later e in
-    kind_seen kind (kind_behind known.before) known.vocabulary bytes rest m split.0 (go split.1)
+    search (rules, past_none, word_is_past, name, kind_seen, kind_behind, known.vocabulary)
 spot_numbered scale kind (event_name bytes) at known rest later m h e go = absurd h
-spot_numbered scale kind (number bytes) at known rest later m h e go =
-    ap (seen_after (length (names_of_kind kind known.vocabulary)))
-    (no_name_numbers kind (Units (units_within scale bytes)) rest tt) ∙ go e
-spot_numbered scale kind (sign token) at known rest later m h e go =
-    ap (seen_after (length (names_of_kind kind known.vocabulary))) (no_name_numbers kind token rest h)
-    ∙ go e
+spot_numbered scale kind (number bytes) at known rest later m h e go = search rules
+spot_numbered scale kind (sign token) at known rest later m h e go = search rules
 
 numbered_from : (scale : ℕ) (kind : NameKind) (raw_tokens : List RawTokenAt) (known : Known)
     → ArePlain raw_tokens → past_from known raw_tokens ≡ None →
@@ -109,10 +91,8 @@ numbered_all : (scale : ℕ) (kind : NameKind) (raw_tokens : List RawTokenAt) �
     → past_from nothing_known raw_tokens ≡ None →
     seen_after 0 (numbers_in kind (tokens_from scale nothing_known raw_tokens))
     ≡ Some (length (names_of_kind kind (names_from nothing_known raw_tokens)))
-numbered_all scale Proposition raw_tokens h e =
-    numbered_from scale Proposition raw_tokens nothing_known h e
-numbered_all scale EventKind raw_tokens h e =
-    numbered_from scale EventKind raw_tokens nothing_known h e
+numbered_all scale Proposition raw_tokens h e = numbered_from _ Proposition _ nothing_known h e
+numbered_all scale EventKind raw_tokens h e = numbered_from _ EventKind _ nothing_known h e
 
 -- The words of a text are numbered by use.
 pub text_numbered : (scale : ℕ) (text : List ℕ) → IsNumberedByUse (text_tokens_of scale text)

@@ -1,15 +1,15 @@
 -- The numbers of the names in an expression come as its tokens have them.
-use Rattle.std.proofs.Common.{◌≡◌, ℕ, ◌+◌, ◌<◌, ◌≤◌, Bool, true, false, Option, Some, None, List, [], ◌∷◌, ◌++◌, refl, sym, ◌∙◌, ap, arith, append_assoc}
+use Rattle.std.proofs.Common.{◌≡◌, ℕ, ◌+◌, ◌<◌, ◌≤◌, Bool, true, false, Option, Some, None, List, [], ◌∷◌, ◌++◌, refl, sym, ◌∙◌, ap, arith, append_assoc, rules}
 use Rattle.std.specs.Prelude.{nat_lt, ◌==◌, if◌then◌else◌}
 use Rattle.std.proofs.lemmas.Bool.Decides.{nat_tests}
 use Rattle.std.proofs.lemmas.List.{append-nil}
 use Rattle.tre_state.specs.StateTree.{StateTree, always, proposition, negation}
 use Rattle.tre_syntax.specs.declared.name_kind.NameKind.{NameKind}
 use Rattle.tre_syntax.specs.declared.name_kind.NameKind.TheVariants.{Proposition, Event as EventKind}
-use Rattle.tre_syntax.specs.PatternTree.{PatternTree, numbers_of_state, numbers_of_event, numbers_of, seen_after}
+use Rattle.tre_syntax.specs.PatternTree.{PatternTree, numbers_of_state, numbers_of, seen_after}
 use Rattle.tre_zone.specs.Interval.{IntervalEnds}
 use Rattle.tre_parse.specs.declared.token.Token.{Token}
-use Rattle.tre_parse.specs.declared.token.Token.TheVariants.{Name, EventName, RightParen, RightBrace, Semicolon, Bar, Ampersand, Star, Plus, Question, Percent, Ends}
+use Rattle.tre_parse.specs.declared.token.Token.TheVariants.{Name, RightParen, RightBrace, Semicolon, Bar, Ampersand, Star, Plus, Question, Percent, Ends}
 use Rattle.tre_parse.specs.TokenGrammar.{StateRule, lit, state, conj, neg, SpellsState, lit_name, lit_true, lit_braces, lit_bang, state_conj, state_bars, conj_neg, conj_ampersands, neg_name, neg_true, neg_parens, neg_bang, SpellsInterval, with_high, without_high, Rule, expr, meet, seq, post, primary, Spells, expr_meet, expr_bar, meet_seq, meet_ampersand, seq_post, seq_semicolon, post_primary, post_star, post_plus, post_question, post_percent, primary_eps, primary_parens, primary_rise, primary_fall, primary_event, primary_lit, primary_begins, primary_ends, primary_begins_ends}
 use Rattle.tre_parse.specs.declared.connective.Connective.{Connective}
 use Rattle.tre_parse.specs.declared.connective.Connective.TheVariants.{And, Or}
@@ -34,11 +34,6 @@ name_numbers : (kind : NameKind) (i : ℕ) → numbers_of_state kind (propositio
 name_numbers Proposition i = refl
 name_numbers EventKind i = refl
 
-event_numbers : (kind : NameKind) (i : ℕ) → numbers_in kind (EventName i ∷ [])
-    ≡ numbers_of_event kind i
-event_numbers Proposition i = refl
-event_numbers EventKind i = refl
-
 -- What names nothing, or what its part does.
 always_numbers : (kind : NameKind) → numbers_of_state kind always ≡ []
 always_numbers Proposition = refl
@@ -61,9 +56,8 @@ joined_numbers : (kind : NameKind) (how : Connective) (xs ys : List Token) (s t 
     → numbers_of_state kind s ≡ numbers_in kind xs → numbers_of_state kind t ≡ numbers_in kind ys
     → numbers_in kind (connective_sign how ∷ ys) ≡ numbers_in kind ys →
     numbers_of_state kind (connected how s t) ≡ numbers_in kind (xs ++ connective_sign how ∷ ys)
-joined_numbers kind how xs ys s t h k e = both_numbers kind how s t
-    ∙ ap (λ l. l ++ numbers_of_state kind t) h ∙ ap (λ l. numbers_in kind xs ++ l) (k ∙ sym e)
-    ∙ sym (numbers_join kind xs (connective_sign how ∷ ys))
+joined_numbers kind how xs ys s t h k e =
+    search (rules, both_numbers, numbers_of_state, numbers_in, numbers_join, connective_sign)
 
 state_numbers : (kind : NameKind) (r : StateRule) (xs : List Token) (s : StateTree)
     → SpellsState r xs s → numbers_of_state kind s ≡ numbers_in kind xs
@@ -138,14 +132,8 @@ more_by : (below same : Bool) (i n m j : ℕ) (xs : List ℕ) → nat_lt i n ≡
     → (seen_after (n + 1) xs ≡ Some m → (n + 1 ≤ m) × (seen_after j xs ≡ Some j)) →
     (if below then seen_after n xs else (if same then seen_after (n + 1) xs else None)) ≡ Some m
     → (n ≤ m) × (seen_after j (i ∷ xs) ≡ Some j)
-more_by true same i n m j xs t u le go next e =
-    let r = go e in
-    let lt : i < n = grind (arith, nat_tests) in
-    (r.0, known (nat_lt i j) i j _ _ refl (omega (arith, r.0)) r.1)
-more_by false true i n m j xs t u le go next e =
-    let r = next e in
-    let same : i ≡ n = grind (arith, nat_tests) in
-    (omega (arith, r.0), known (nat_lt i j) i j _ _ refl (omega (arith, r.0)) r.1)
+more_by true same i n m j xs t u le go next e = search rules
+more_by false true i n m j xs t u le go next e = search rules
 more_by false false i n m j xs t u le go next e = absurd (cc)
 
 seen_more : (xs : List ℕ) (n m j : ℕ) → seen_after n xs ≡ Some m → m ≤ j → (n ≤ m)
@@ -249,8 +237,7 @@ counts_alike _ _ _ (primary_rise xs s h) = record
     { alike = closed_seen state xs s RightParen (λ kind. refl) h }
 counts_alike _ _ _ (primary_fall xs s h) = record
     { alike = closed_seen state xs s RightParen (λ kind. refl) h }
-counts_alike _ _ _ (primary_event i) = record
-    { alike = λ kind n m q. ap (seen_after n) (sym (event_numbers kind i)) ∙ q }
+counts_alike _ _ _ (primary_event i) = search rules
 counts_alike _ _ _ (primary_lit xs s h) = record { alike = state_seen lit xs s h }
 counts_alike _ _ _ (primary_begins xs s h) = record {
   alike = λ kind n m q. seen_again (numbers_of_state kind s) n m (state_seen lit xs s h kind n m q);

@@ -1,5 +1,5 @@
 -- The first name past the first NAMES_MAX is the first of one name too many.
-use Rattle.std.proofs.Common.{◌≡◌, ◌≢◌, ℕ, ◌<◌, ◌≤◌, Bool, true, false, ◌&&◌, inl, inr, Option, Some, None, List, [], ◌∷◌, ◌++◌, length, get_or, refl, sym, ◌∙◌, ap, subst, arith, append_assoc, length-append}
+use Rattle.std.proofs.Common.{◌≡◌, ◌≢◌, ℕ, ◌<◌, ◌≤◌, Bool, true, false, ◌&&◌, inl, inr, Option, Some, None, List, [], ◌∷◌, ◌++◌, length, get_or, refl, sym, ◌∙◌, ap, subst, arith, append_assoc, length-append, rules}
 use Rattle.std.specs.Prelude.{nat_lt, if◌then◌else◌, is_none, MatchOption}
 use Rattle.std.specs.List.{Contains}
 use Rattle.std.specs.Str.{bytes_eq}
@@ -42,10 +42,7 @@ before_last before (x ∷ xs) raw = before_last (before_next before x.word) xs r
 
 absent : (known : List (List ℕ)) (bytes : List ℕ) → place_of known bytes ≡ None
     → (k : ℕ) (d : List ℕ) → k < length known → get_or known k d ≢ bytes
-absent known bytes e k d lt same =
-    let fails = len_fails (bytes_eq bytes) known (none_len (bytes_eq bytes) known e) k d lt in
-    let equal = (bytes_eq-Decides bytes (get_or known k d)).1 (sym same) in
-    (cc)
+absent known bytes e k d lt same = search (rules, len_fails, none_len, bytes_eq-Decides)
 
 not_among : (known : List (List ℕ)) (bytes : List ℕ) → place_of known bytes ≡ None
     → Contains known bytes → ⊥
@@ -195,8 +192,7 @@ past_word : (front rest : List RawTokenAt) (raw : RawTokenAt) (known : Known) (i
     → Law ((front ++ raw ∷ []) ++ rest) (past_from (known_after known raw.word) rest)) →
     Law ((front ++ raw ∷ []) ++ rest)
     (if is then Some raw.at else past_from (known_after known raw.word) rest)
-past_word front rest raw known true q h go =
-    one_too_many front rest raw.at raw.word known h q
+past_word front rest raw known true q h go = one_too_many _ _ raw.at raw.word _ h q
 past_word front rest raw known false q h go = go (stands_on front raw known h q)
 
 past_on : (front rest : List RawTokenAt) (known : Known) → Stands front known
@@ -213,13 +209,7 @@ past_on front (raw ∷ rest) known h =
     (λ next. past_on (front ++ raw ∷ []) rest (known_after known raw.word) next))
 
 nothing_used : AreKnown [] []
-nothing_used = record {
-  are = record {
-    different = λ i j d lt within. absurd (omega arith);
-    same = λ bytes. ((λ c. c), (λ c. c));
-  };
-  few = omega arith;
-}
+nothing_used = search rules
 
 pub past_law : (text : List ℕ)
     → Law (raw_tokens_of text) (past_from nothing_known (raw_tokens_of text))

@@ -1,17 +1,12 @@
 -- The raw tokens of a text: a name is told by its bytes, and no other token is one.
-use Rattle.std.proofs.Common.{ℕ, ◌+◌, ◌-◌, zero, suc, Bool, true, false, cond, Option, Some, None, List, [], ◌∷◌, length}
-use Rattle.std.specs.Prelude.{nat_eq, if◌then◌else◌, IfSome, codes}
-use Rattle.std.specs.List.{take_while, starts_with}
-use Rattle.std.specs.Str.{bytes_eq}
-use Rattle.std.specs.Char.{is_ascii_digit}
-use Rattle.tre_state.specs.Name.{starts_name, continues_name}
+use Rattle.std.proofs.Common.{ℕ, ◌+◌, ◌-◌, zero, suc, Bool, true, false, cond, List, [], ◌∷◌, length, rules}
+use Rattle.std.specs.Prelude.{nat_eq}
+use Rattle.std.specs.List.{starts_with}
 use Rattle.tre_parse.specs.declared.token.Token.{Token}
-use Rattle.tre_parse.specs.declared.token.Token.TheVariants.{Name as Numbered, EventName, Eps, Rise, Fall, Inf, True, Event}
+use Rattle.tre_parse.specs.declared.token.Token.TheVariants.{Name as Numbered, EventName}
 use Rattle.tre_parse.specs.declared.lexeme.Lexeme.{Lexeme}
 use Rattle.tre_parse.specs.declared.lexeme.Lexeme.TheVariants.{Blank, Wrong, Name, Number, Sign}
-use Rattle.tre_parse.specs.Lexeme.{lexeme_named, first_sign, word_lexeme, number_lexeme, sign_lexeme, lexeme_of}
-use Rattle.tre_parse.specs.Written.{is_white_space, reserved}
-use Rattle.tre_parse.specs.declared.lexeme.TheConstants.{SIGNS}
+use Rattle.tre_parse.specs.Lexeme.{first_sign, sign_lexeme, lexeme_of}
 use Rattle.tre_parse.proofs.Table.{Each}
 use Rattle.tre_parse.specs.Tokens.{RawToken, name, event_name, number, sign, RawTokenAt}
 use Rattle.tre_parse.specs.Scanned.{RawTokens, raw_tokens_from, scanned}
@@ -22,31 +17,9 @@ IsNoName (Numbered i) = ⊥
 IsNoName (EventName i) = ⊥
 IsNoName _ = Unit {0}
 
-reserved_by : (a b c d e f : Bool) → IfSome (if a then Some Eps else
-    (if b then Some Rise else (if c then Some Fall else
-    (if d then Some Inf else (if e then Some True else (if f then Some Event else None))))))
-    IsNoName
-reserved_by true _ _ _ _ _ = tt
-reserved_by false true _ _ _ _ = tt
-reserved_by false false true _ _ _ = tt
-reserved_by false false false true _ _ = tt
-reserved_by false false false false true _ = tt
-reserved_by false false false false false true = tt
-reserved_by false false false false false false = tt
-
-reserved_no_name : (word : List ℕ) → IfSome (reserved word) IsNoName
-reserved_no_name word =
-    reserved_by (bytes_eq (codes "eps") word) (bytes_eq (codes "rise") word)
-    (bytes_eq (codes "fall") word) (bytes_eq (codes "inf") word) (bytes_eq (codes "true") word)
-    (bytes_eq (codes "event") word)
-
 abbrev SaysNoName : Lexeme → Type 0
 SaysNoName (Sign token len) = IsNoName token
 SaysNoName _ = Unit {0}
-
-named_no_name : (n : ℕ) (o : Option Token) → IfSome o IsNoName → SaysNoName (lexeme_named n o)
-named_no_name n None h = tt
-named_no_name n (Some t) h = h
 
 first_no_name : {A : Type 0} (text : A → List ℕ) (token : A → Token) (signs : List A) (xs : List ℕ)
     → Each (λ s. IsNoName (token s)) signs → SaysNoName (first_sign text token signs xs)
@@ -60,55 +33,11 @@ first_no_name text token (s ∷ more) xs h = by (first_no_name text token more x
     by next false = next
 
 sign_no_name : (rest : List ℕ) → SaysNoName (sign_lexeme rest)
-sign_no_name rest = first_no_name (λ sign. sign.0.now) (λ sign. sign.1) SIGNS rest
-    ((
-      tt,
-      (
-        tt,
-        (
-          tt,
-          (
-            tt,
-            (
-              tt,
-              (
-                tt,
-                (
-                  tt,
-                  (
-                    tt,
-                    (
-                      tt,
-                      (
-                        tt,
-                        (tt, (tt, (tt, (tt, (tt, (tt, (tt, (tt, (tt, tt))))))))),
-                      ),
-                    ),
-                  ),
-                ),
-              ),
-            ),
-          ),
-        ),
-      ),
-    ))
-
-lexeme_by : (blank starts digit : Bool) (word decimal other : Lexeme) → SaysNoName word
-    → SaysNoName decimal → SaysNoName other →
-    SaysNoName (if blank then Blank else (if starts then word else
-    (if digit then decimal else other)))
-lexeme_by true starts digit word decimal other h k m = tt
-lexeme_by false true digit word decimal other h k m = h
-lexeme_by false false true word decimal other h k m = k
-lexeme_by false false false word decimal other h k m = m
+sign_no_name rest = search rules
 
 lexeme_no_name : (rest : List ℕ) → SaysNoName (lexeme_of rest)
 lexeme_no_name [] = tt
-lexeme_no_name (b ∷ bs) =
-    lexeme_by (is_white_space b) (starts_name b) (is_ascii_digit b) (word_lexeme (b ∷ bs))
-    (number_lexeme (b ∷ bs)) (sign_lexeme (b ∷ bs))
-    (named_no_name _ _ (reserved_no_name (take_while continues_name (b ∷ bs)))) tt
-    (sign_no_name (b ∷ bs))
+lexeme_no_name (b ∷ bs) = search rules
 
 -- Names stand among the raw tokens by their bytes alone, and none is told to be an event's.
 abbrev pub IsPlain : RawToken → Type 0

@@ -1,5 +1,5 @@
 -- What each program takes is spelt by its rule, and where it halts the tokens begin the rule.
-use Rattle.std.proofs.Common.{◌≡◌, ℕ, Bool, true, false, Option, Some, None, List, [], ◌∷◌, ◌++◌, refl, sym, subst, append_assoc}
+use Rattle.std.proofs.Common.{ℕ, Bool, true, false, Option, Some, None, List, [], ◌∷◌, ◌++◌, sym, subst, append_assoc, rules}
 use Rattle.std.specs.Prelude.{if◌then◌else◌, is_some}
 use Rattle.std.proofs.lemmas.List.{append-nil}
 use Rattle.tre_state.specs.StateTree.{StateTree, negation}
@@ -16,8 +16,7 @@ use Rattle.tre_parse.specs.TokenGrammar.{StateRule, state, conj, neg, SpellsStat
 use Rattle.tre_parse.specs.Begins as begin
 use Rattle.tre_parse.specs.Begins.{BeginsState, BeginsInterval, Begins}
 use Rattle.tre_parse.specs.Joins.{connected, connective_sign, connected_rule, joined_by, join_sign, joined_rule, brackets_of, operand_in, edge_sign}
-use Rattle.tre_parse.specs.Reader.{state_by, state_after, state_operand, expression_by, expression_after, operand, operand_after, unsigned, Task, of_state, of_pattern, of_interval, Program, give, halt, call, is_sign, accept, expect, said, part, leaf_of, event_number_of, opened_by, number_of, high_end_of, closed_by, behind_high, behind_comma, behind_low, behind_opening, state_part, expression_part, go_on, sign_program, is_behind, edge_program, behind_event, event_program, literal_program, unsigned_program, is_before}
-use Rattle.tre_parse.proofs.Equations.{sign_is}
+use Rattle.tre_parse.specs.Reader.{state_by, state_after, state_operand, expression_by, expression_after, operand, operand_after, unsigned, Task, of_state, of_pattern, of_interval, Program, give, halt, call, accept, expect, said, part, leaf_of, event_number_of, opened_by, number_of, high_end_of, closed_by, behind_high, behind_comma, behind_low, behind_opening, state_part, expression_part, go_on, sign_program, is_behind, edge_program, behind_event, event_program, literal_program, unsigned_program, is_before}
 use Rattle.tre_parse.proofs.Says.{StateSpelt, PatternSpelt, StateBegun, PatternBegun, Holds, TaskSays, ProgramHolds, says_by}
 
 -- ---- what is whole is begun
@@ -55,14 +54,12 @@ begun _ _ _ (grammar.post_question xs e h) = begin.post_whole _ _ (grammar.post_
 begun _ _ _ (grammar.post_percent xs ys e ends h k) = begin.post_whole _ _
     (grammar.post_percent xs ys e ends h k)
 begun _ _ _ grammar.primary_eps = begin.primary_whole _ _ grammar.primary_eps
-begun _ _ _ (grammar.primary_parens xs e h) = begin.primary_whole _ _
-    (grammar.primary_parens xs e h)
+begun _ _ _ (grammar.primary_parens xs e h) = begin.primary_whole _ _ (grammar.primary_parens _ _ h)
 begun _ _ _ (grammar.primary_rise xs s h) = begin.primary_whole _ _ (grammar.primary_rise xs s h)
 begun _ _ _ (grammar.primary_fall xs s h) = begin.primary_whole _ _ (grammar.primary_fall xs s h)
 begun _ _ _ (grammar.primary_event i) = begin.primary_whole _ _ (grammar.primary_event i)
 begun _ _ _ (grammar.primary_lit xs s h) = begin.primary_whole _ _ (grammar.primary_lit xs s h)
-begun _ _ _ (grammar.primary_begins xs s h) = begin.primary_whole _ _
-    (grammar.primary_begins xs s h)
+begun _ _ _ (grammar.primary_begins xs s h) = begin.primary_whole _ _ (grammar.primary_begins _ s h)
 begun _ _ _ (grammar.primary_ends xs s h) = begin.primary_whole _ _ (grammar.primary_ends xs s h)
 begun _ _ _ (grammar.primary_begins_ends xs s h) = begin.primary_whole _ _
     (grammar.primary_begins_ends xs s h)
@@ -73,14 +70,7 @@ accepts : {A : Type 0} (Gives : List Token → A → Type 0) (Halts : List Token
     (sign : Token) (there other : Program A) (xs : List Token) →
     Holds Gives Halts there (xs ++ sign ∷ []) → Holds Gives Halts other xs →
     Holds Gives Halts (accept sign there other) xs
-accepts Gives Halts sign there other xs h k token =
-    by (is_sign sign token) (sign_is sign token)
-  where
-    by : (is : Bool) → (is ≡ true → token ≡ sign)
-        → Holds Gives Halts (if is then there else other) (if is then xs ++ token ∷ [] else xs)
-    by true q = let P = λ (t : Token). Holds Gives Halts there (xs ++ t ∷ []) in
-        subst P (sym (q refl)) h
-    by false q = k
+accepts Gives Halts sign there other xs h k token = search rules
 
 -- ---- states
 
@@ -107,13 +97,7 @@ more_state_begun And xs ys s h k = begin.conj_ampersands xs ys s h k
 more_state_begun Or xs ys s h k = begin.state_bars xs ys s h k
 
 state_by_holds : (how : Connective) → ProgramHolds (of_state (state_by how))
-state_by_holds how = (
-  (λ xs s h. (
-    (λ ys t k. k xs (first_state how xs s h)),
-    (λ ys k. k xs (first_state how xs s h)),
-  )),
-  (λ xs h. first_state_begun how xs h),
-)
+state_by_holds how = search (rules, first_state, first_state_begun)
 
 state_after_holds : (how : Connective) (s : StateTree)
     → ProgramHolds (of_state (state_after how s))
@@ -214,13 +198,7 @@ more_parts_begun Intersection xs ys e h k = begin.meet_ampersand xs ys e h k
 more_parts_begun Alternation xs ys e h k = begin.expr_bar xs ys e h k
 
 expression_by_holds : (how : Join) → ProgramHolds (of_pattern (expression_by how))
-expression_by_holds how = (
-  (λ xs e h. (
-    (λ ys f k. k xs (first_part how xs e h)),
-    (λ ys k. k xs (first_part how xs e h)),
-  )),
-  (λ xs h. first_part_begun how xs h),
-)
+expression_by_holds how = search (rules, first_part, first_part_begun)
 
 expression_after_holds : (how : Join) (e : PatternTree)
     → ProgramHolds (of_pattern (expression_after how e))
@@ -258,8 +236,7 @@ signed e f ys make = (
 )
 
 nothing_behind : (e : PatternTree) (xs : List Token) → Spells post xs e → Spells post (xs ++ []) e
-nothing_behind e xs h = let P = λ (ts : List Token). Spells post ts e in
-    subst P (sym (append-nil xs)) h
+nothing_behind e xs h = search rules
 
 sign_holds : (e : PatternTree) (token : Token)
     → Holds (PatternSpelt (operand_after e)) (PatternBegun (operand_after e))

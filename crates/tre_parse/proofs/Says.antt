@@ -1,8 +1,7 @@
 -- What is read is spelt, and where reading stops the tokens before it begin the rule: by what each
 -- program takes, whatever the tasks that it calls have taken.
-use Rattle.std.proofs.Common.{◌≡◌, ℕ, ◌+◌, ◌*◌, ◌<◌, ◌≤◌, zero, suc, Bool, true, false, List, [], ◌∷◌, ◌++◌, length, refl, sym, ◌∙◌, ap, subst, arith, append_assoc}
+use Rattle.std.proofs.Common.{◌≡◌, ℕ, ◌+◌, ◌*◌, ◌<◌, ◌≤◌, zero, suc, Bool, true, false, List, [], ◌∷◌, ◌++◌, length, refl, sym, ◌∙◌, ap, subst, arith, append_assoc, rules}
 use Rattle.std.specs.Prelude.{if◌then◌else◌}
-use Rattle.std.proofs.lemmas.List.{append-nil}
 use Rattle.tre_state.specs.StateTree.{StateTree}
 use Rattle.tre_syntax.specs.PatternTree.{PatternTree}
 use Rattle.tre_parse.specs.declared.token.Token.{Token}
@@ -105,14 +104,7 @@ here : {A : Type 0} (Gives : List Token → A → Type 0) (Halts : List Token �
     left (reads tokens) ≡ tokens → Says Gives Halts xs (reads tokens) →
     ((other : List Token) → reads other ≡ before other (reads tokens)) →
     IsSaid Gives Halts xs reads tokens
-here Gives Halts xs reads tokens e h same =
-    let P = λ (l : List Token). Says Gives Halts l (reads tokens) in
-    record {
-      taken = [];
-      split = sym e;
-      says = subst P (sym (append-nil xs)) h;
-      alike = λ other q. same other;
-    }
+here Gives Halts xs reads tokens e h same = search rules
 
 look_said : {A : Type 0} (Gives : List Token → A → Type 0) (Halts : List Token → Type 0)
     (xs : List Token) (reads : Reads) (takes : Token → Bool) (next : Token → Program A)
@@ -227,10 +219,8 @@ program_says : {A : Type 0} (Gives : List Token → A → Type 0) (Halts : List 
     (p : Program A) (bound : ℕ) → IsGuarded bound p → (xs tokens : List Token) →
     8 * length tokens + bound ≤ m → Holds Gives Halts p xs
     → IsSaid Gives Halts xs (run read p) tokens
-program_says Gives Halts m says (give x) bound g xs tokens le h =
-    here Gives Halts xs (run read (give x)) tokens refl h (λ other. refl)
-program_says Gives Halts m says halt bound g xs tokens le h =
-    here Gives Halts xs (run read halt) tokens refl h (λ other. refl)
+program_says Gives Halts m says (give x) bound g xs tokens le h = search rules
+program_says Gives Halts m says halt bound g xs tokens le h = search rules
 program_says Gives Halts m says (look takes next) bound g xs tokens le h =
     look_says Gives Halts takes next m bound xs tokens
     (takes (front tokens)) refl (some_next takes tokens g.0) (g.1 (front tokens)) le

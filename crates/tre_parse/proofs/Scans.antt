@@ -1,5 +1,5 @@
 -- Steps of a scan: what is read from an offset on, once the word there is read.
-use Rattle.std.proofs.Common.{◌≡◌, ℕ, ◌+◌, ◌-◌, ◌<◌, ◌≤◌, zero, suc, List, [], ◌∷◌, ◌++◌, length, drop, take, get_or, refl, sym, ◌∙◌, ap, subst, arith, append_assoc, add-one, drop-cons}
+use Rattle.std.proofs.Common.{◌≡◌, ℕ, ◌+◌, ◌-◌, ◌<◌, ◌≤◌, zero, suc, List, [], ◌∷◌, ◌++◌, length, drop, take, get_or, sym, ◌∙◌, ap, arith, append_assoc, add-one, drop-cons, rules}
 use Rattle.std.proofs.lemmas.List.{drop-drop, length-drop}
 use Rattle.tre_parse.specs.declared.token.Token.{Token}
 use Rattle.tre_parse.specs.declared.lexeme.Lexeme.TheVariants.{Blank, Name, Number, Sign}
@@ -13,8 +13,7 @@ use Rattle.tre_parse.specs.Scan.{rest_from, known_in, placed, placed_from, Takes
 -- The bytes of a word are passed over.
 pub raw_tokens_skip : (k at : ℕ) (bytes : List ℕ) → k ≤ length bytes → raw_tokens_from k at bytes
     ≡ raw_tokens_from 0 (at + k) (drop k bytes)
-raw_tokens_skip zero at bytes h = let e : at ≡ at + 0 = omega arith in
-    ap (λ n. raw_tokens_from 0 n bytes) e
+raw_tokens_skip zero at bytes h = search rules
 raw_tokens_skip (suc k) at [] h = absurd (omega arith)
 raw_tokens_skip (suc k) at (b ∷ bs) h =
     let e : at + 1 + k ≡ at + suc k = omega arith in
@@ -22,10 +21,7 @@ raw_tokens_skip (suc k) at (b ∷ bs) h =
 
 raw_tokens_first : (b : ℕ) (xs bs : List ℕ) (at : ℕ) → xs ≡ b ∷ bs → raw_tokens_from 0 at xs
     ≡ scanned (lexeme_of xs) at xs (λ skip. raw_tokens_from skip (at + 1) bs)
-raw_tokens_first b xs bs at e =
-    let P = λ (ys : List ℕ). raw_tokens_from 0 at ys
-    ≡ scanned (lexeme_of ys) at ys (λ skip. raw_tokens_from skip (at + 1) bs) in
-    subst P (sym e) refl
+raw_tokens_first b xs bs at e = search rules
 
 rest_first : (bytes : List ℕ) (at : ℕ) → at < length bytes → rest_from bytes at
     ≡ scanned (lexeme_of (drop at bytes)) at (drop at bytes)
@@ -38,44 +34,31 @@ rest_first bytes at h =
 rest_after : (bytes : List ℕ) (at len : ℕ) → 0 < len → len ≤ length (drop at bytes)
     → raw_tokens_from (len - 1) (at + 1) (drop (at + 1) bytes) ≡ rest_from bytes (at + len)
 rest_after bytes at len p h =
-    let size = length-drop at bytes in
-    let next = length-drop (at + 1) bytes in
-    let e : at + 1 + (len - 1) ≡ at + len = omega arith in
-    raw_tokens_skip (len - 1) (at + 1) (drop (at + 1) bytes) (omega (arith, size, next))
-    ∙ ap (λ l. raw_tokens_from 0 (at + 1 + (len - 1)) l) (drop-drop (len - 1) (at + 1) bytes)
-    ∙ ap (λ n. raw_tokens_from 0 n (drop n bytes)) e
+    search (rules, length-drop, raw_tokens_skip, raw_tokens_from, drop-drop)
 
 pub rest_blank : (bytes : List ℕ) (at : ℕ) → at < length bytes → lexeme_of (drop at bytes) ≡ Blank
     → rest_from bytes at ≡ rest_from bytes (at + 1)
-rest_blank bytes at h e = rest_first bytes at h ∙ ap
-    (λ x. scanned x at (drop at bytes) (λ skip. raw_tokens_from skip (at + 1)
-    (drop (at + 1) bytes))) e
+rest_blank bytes at h e = search (rules, rest_first, scanned, raw_tokens_from)
 
 pub rest_name : (bytes : List ℕ) (at len : ℕ) → at < length bytes → 0 < len
     → len ≤ length (drop at bytes) → lexeme_of (drop at bytes) ≡ Name len →
     rest_from bytes at ≡ with_raw_token at (name (take len (drop at bytes)))
     (rest_from bytes (at + len))
 rest_name bytes at len h p q e =
-    rest_first bytes at h ∙ ap (λ x. scanned x at (drop at bytes)
-    (λ skip. raw_tokens_from skip (at + 1) (drop (at + 1) bytes))) e
-    ∙ ap (with_raw_token at (name (take len (drop at bytes)))) (rest_after bytes at len p q)
+    search (rules, rest_first, scanned, raw_tokens_from, with_raw_token, name, rest_after)
 
 pub rest_number : (bytes : List ℕ) (at len : ℕ) → at < length bytes → 0 < len
     → len ≤ length (drop at bytes) → lexeme_of (drop at bytes) ≡ Number len →
     rest_from bytes at ≡ with_raw_token at (number (take len (drop at bytes)))
     (rest_from bytes (at + len))
 rest_number bytes at len h p q e =
-    rest_first bytes at h ∙ ap (λ x. scanned x at (drop at bytes)
-    (λ skip. raw_tokens_from skip (at + 1) (drop (at + 1) bytes))) e
-    ∙ ap (with_raw_token at (number (take len (drop at bytes)))) (rest_after bytes at len p q)
+    search (rules, rest_first, scanned, raw_tokens_from, with_raw_token, number, rest_after)
 
 pub rest_sign : (bytes : List ℕ) (at len : ℕ) (token : Token) → at < length bytes → 0 < len
     → len ≤ length (drop at bytes) → lexeme_of (drop at bytes) ≡ Sign token len →
     rest_from bytes at ≡ with_raw_token at (sign token) (rest_from bytes (at + len))
 rest_sign bytes at len token h p q e =
-    rest_first bytes at h ∙ ap (λ x. scanned x at (drop at bytes)
-    (λ skip. raw_tokens_from skip (at + 1) (drop (at + 1) bytes))) e
-    ∙ ap (with_raw_token at (sign token)) (rest_after bytes at len p q)
+    search (rules, rest_first, scanned, raw_tokens_from, with_raw_token, sign, rest_after)
 
 -- A word that the scan takes leads to what follows it.
 pub leads_word : (bytes : List ℕ) (old new : Scan) (at next : ℕ) (word : RawToken)
@@ -102,17 +85,8 @@ leads_word bytes old new at next word t e =
 
 pub same_bytes : (word : List ℕ → RawToken) (old new : Scan) (at : ℕ) (xs ys : List ℕ) → xs ≡ ys
     → TakesToken old new at (word ys) → TakesToken old new at (word xs)
-same_bytes word old new at xs ys e t = let P = λ (zs : List ℕ). TakesToken old new at (word zs) in
-    subst P (sym e) t
+same_bytes word old new at xs ys e t = search rules
 
 pub leads_same : (bytes : List ℕ) (scan : Scan) (at next : ℕ) → rest_from bytes at
     ≡ rest_from bytes next → LeadsTo bytes scan at scan next
-leads_same bytes scan at next e =
-    record {
-      tokens = ap (λ (l : RawTokens). scan.tokens.items ++ placed_from scan.scale (known_in scan)
-          l.raw_tokens) e;
-      names = ap (λ (l : RawTokens). names_from (known_in scan) l.raw_tokens) e;
-      bad = ap (λ (l : RawTokens). l.bad) e;
-      size = refl;
-      same_scale = refl;
-    }
+leads_same bytes scan at next e = search rules

@@ -1,5 +1,5 @@
 -- An outcome that is a pattern is the one that the text spells.
-use Rattle.std.proofs.Common.{◌≡◌, ℕ, Bool, true, false, Option, Some, None, Ok, Err, List, inl, inr, refl, sym, subst}
+use Rattle.std.proofs.Common.{◌≡◌, ℕ, Bool, true, false, Option, Some, None, Ok, Err, List, inl, inr, refl, rules}
 use Rattle.std.specs.Prelude.{Result, MatchOption, IfOk, if◌then◌else◌}
 use Rattle.std.specs.Option.{option_map, option_or}
 use Rattle.tre_trace.specs.Reading.{Vocabulary}
@@ -8,10 +8,9 @@ use Rattle.tre_syntax.specs.Pattern.{pattern_tree, names_of}
 use Rattle.tre_syntax.specs.PatternTree.{PatternTree}
 use Rattle.tre_parse.specs.declared.fault.ParseFault.{ParseFault}
 use Rattle.tre_parse.specs.declared.fault.ParseFault.TheVariants.{TooLong, BadByte}
-use Rattle.tre_parse.specs.TokenGrammar.{expr, Spells}
-use Rattle.tre_parse.specs.Scanned.{bad_byte, tokens_of}
+use Rattle.tre_parse.specs.Scanned.{bad_byte}
 use Rattle.tre_parse.specs.Outcome.{IsSpelling, spelt, refused}
-use Rattle.tre_parse.specs.TokenOutcome.{limit_fault, size_fault, IsOutcomeOfTree, IsOutcomeOfTokens}
+use Rattle.tre_parse.specs.TokenOutcome.{limit_fault, IsOutcomeOfTokens}
 use Rattle.tre_parse.specs.ScannedOutcome.{IsScannedSpelling, text_tokens_of, byte_fault, IsScannedOutcome}
 use Rattle.tre_parse.specs.Answers.{Answers}
 use Rattle.tre_parse.proofs.Agreement.{spelling_meant}
@@ -32,30 +31,12 @@ first_none : (first later : Option ParseFault) → option_or first later ≡ Non
 first_none None later e = refl
 first_none (Some fault) later e = absurd (cc)
 
-verdict_spells : (t tree : PatternTree) (kept names : Vocabulary)
-    → spelt tree names ≡ spelt t kept → (tree ≡ t) × (names ≡ kept)
-verdict_spells t tree kept names e = (cc, cc)
-
-judged_spells : (scale : ℕ) (text : List ℕ) (t tree : PatternTree) (names : Vocabulary)
-    → bad_byte text
-    ≡ None → Spells expr (tokens_of scale text) t → IsOutcomeOfTree (text_tokens_of scale text) t
-    (spelt tree names) → IsScannedSpelling scale text tree names
-judged_spells scale text t tree names good h (inl k) = let no = k.2 in absurd (cc)
-judged_spells scale text t tree names good h (inr k) =
-    let words = text_tokens_of scale text in
-    let small = unrefused (size_fault words t) (spelt tree names ≡ spelt t words.names) tree names
-    k.1 in
-    let same = verdict_spells t tree words.names names small.1 in
-    let P = λ (u : PatternTree). Spells expr (tokens_of scale text) u in
-    record { tokens_alone = good; spells = subst P (sym same.0) h; numbered = same.1 }
-
 read_spells : (scale : ℕ) (text : List ℕ) (tree : PatternTree) (names : Vocabulary)
     → bad_byte text ≡ None
     → IsOutcomeOfTokens (text_tokens_of scale text) (spelt tree names)
     → IsScannedSpelling scale text tree names
 read_spells scale text tree names good (inl h) = let no = h.1 in absurd (cc)
-read_spells scale text tree names good (inr h) = judged_spells scale text h.0 tree names good h.1
-    h.2
+read_spells scale text tree names good (inr h) = search rules
 
 pub outcome_spells : (scale : ℕ) (text : List ℕ) (tree : PatternTree) (names : Vocabulary)
     → IsScannedOutcome scale text (spelt tree names) → IsScannedSpelling scale text tree names
@@ -69,6 +50,5 @@ outcome_spells scale text tree names h =
 pub answer_spells : (scale : ℕ) (text : List ℕ) (result : Result Pattern ParseFault)
     → Answers (IsScannedOutcome scale text) result → IfOk result (λ pattern. IsSpelling scale text
     (pattern_tree pattern) (names_of pattern))
-answer_spells scale text (Ok pattern) h =
-    spelling_meant scale text _ _ (outcome_spells scale text _ _ h)
+answer_spells scale text (Ok pattern) h = spelling_meant _ _ _ _ (outcome_spells _ _ _ _ h)
 answer_spells scale text (Err fault) h = tt

@@ -1,7 +1,6 @@
 -- What is spelt is read: by induction on how the tokens are spelt, before any rest of the tokens
 -- that doesn't go on with it.
-use Rattle.std.proofs.Common.{◌≡◌, ℕ, ◌<◌, ◌≤◌, Bool, true, false, List, [], ◌∷◌, ◌++◌, refl, ◌∙◌, ap, arith, append_assoc}
-use Rattle.std.specs.Prelude.{if◌then◌else◌}
+use Rattle.std.proofs.Common.{◌≡◌, ℕ, ◌<◌, ◌≤◌, Bool, true, false, List, [], ◌∷◌, ◌++◌, refl, ◌∙◌, ap, arith, append_assoc, rules}
 use Rattle.tre_state.specs.StateTree.{StateTree, negation}
 use Rattle.tre_zone.specs.Interval.{IntervalEnds}
 use Rattle.tre_syntax.specs.PatternTree.{PatternTree, atom, rise, fall, sequence, alternation, restriction, repetition, empty}
@@ -243,13 +242,7 @@ literal_end begins s rest =
 
 no_ends : (begins : Bool) (s : StateTree) (rest : List Token) → binds (front rest) ≤ 4
     → literal_end begins s rest ≡ got (edged_literal begins false s) rest
-no_ends begins s rest h = by (front rest) h
-  where
-    by : (token : Token) → binds token ≤ 4 → run read (if is_sign Ends token then
-        give (edged_literal begins true s) else give (edged_literal begins false s))
-        (past (is_sign Ends token) rest) ≡ got (edged_literal begins false s) rest
-    by Ends h = absurd (omega arith)
-    by _ h = refl
+no_ends begins s rest h = search rules
 
 -- A literal is read where an operand is.
 unsigned_literal : (xs : List Token) (s : StateTree) → SpellsState lit xs s → (rest : List Token)

@@ -1,5 +1,5 @@
 -- From the readings of the functions that are called to the reading of the one that calls them.
-use Rattle.std.proofs.Common.{◌≡◌, ◌+◌, List, [], ◌∷◌, length, refl, sym, ◌∙◌, ap, subst, arith}
+use Rattle.std.proofs.Common.{◌≡◌, ◌+◌, List, [], ◌∷◌, length, refl, sym, ◌∙◌, ap, subst, arith, rules}
 use Rattle.tre_parse.specs.declared.token.Token.{Token}
 use Rattle.tre_parse.specs.declared.token.Token.TheVariants.{EndOfText}
 use Rattle.tre_parse.specs.declared.cursor.Stop.{Stop}
@@ -29,22 +29,14 @@ goes_here x t q rest e h = record { tree = t; stands = h; goes = e }
 pub goes_first : {A Tree Whole : Type 0} {R : A → Tree → Type 0} {x : A} {o : Reading Tree}
     {rest : List Token} (q : Reading Whole) (next : Tree → List Token → Reading Whole) →
     q ≡ and_then o next → ReadingGoes R x o (λ t. got t rest) → ReadingGoes R x q (λ t. next t rest)
-goes_first q next e h = record {
-  tree = h.tree;
-  stands = h.stands;
-  goes = e ∙ ap (λ r. and_then r next) h.goes;
-}
+goes_first q next e h = search rules
 
 -- What was made is turned into something else.
 pub goes_turned : {A B Tree Made Whole : Type 0} {R : A → Tree → Type 0} {S : B → Made → Type 0}
     {x : A} {q : Reading Whole} {f : Tree → Reading Whole} (y : B) (g : Made → Reading Whole)
     (make : Tree → Made) → ReadingGoes R x q f → ((t : Tree) → R x t → S y (make t)) →
     ((t : Tree) → f t ≡ g (make t)) → ReadingGoes S y q g
-goes_turned y g make h turn same = record {
-  tree = make h.tree;
-  stands = turn h.tree h.stands;
-  goes = h.goes ∙ same h.tree;
-}
+goes_turned y g make h turn same = search rules
 
 -- Nothing was made of it since.
 pub goes_on : {A Tree Whole : Type 0} {R : A → Tree → Type 0} {x : A} {q : Reading Whole}
@@ -61,11 +53,7 @@ pub goes_joined : {A B C Tree Other Made Whole : Type 0} {R : A → Tree → Typ
     ReadingGoes S y o (λ u. got u rest) → ((t : Tree) (u : Other) → R x t → S y u → T z (join t u)) →
     ((t : Tree) → f t ≡ and_then o (next t)) →
     ((t : Tree) (u : Other) → next t u rest ≡ g (join t u)) → ReadingGoes T z q g
-goes_joined z g join next h k both same then = record {
-  tree = join h.tree k.tree;
-  stands = both h.tree k.tree h.stands k.stands;
-  goes = h.goes ∙ same h.tree ∙ ap (λ r. and_then r (next h.tree)) k.goes ∙ then h.tree k.tree;
-}
+goes_joined z g join next h k both same then = search rules
 
 -- ---- readings that stop
 
@@ -83,8 +71,7 @@ pub stops_joined : {A Tree Other Whole : Type 0} {R : A → Tree → Type 0} {x 
     {q : Reading Whole} {f : Tree → Reading Whole} (o : Reading Other) (fault : Stop)
     (rest : List Token) (next : Tree → Other → List Token → Reading Whole) → ReadingGoes R x q f →
     ((t : Tree) → f t ≡ and_then o (next t)) → Stops o fault rest → Stops q fault rest
-stops_joined {q = q} o fault rest next h same k =
-    stops_first o q fault rest (next h.tree) (h.goes ∙ same h.tree) k
+stops_joined {q = q} o fault rest next h same k = search rules
 
 pub stops_at : {A Tree Whole : Type 0} {R : A → Tree → Type 0} {x : A} {q : Reading Whole}
     {f : Tree → Reading Whole} (fault : Stop) (rest : List Token) → ReadingGoes R x q f →

@@ -1,6 +1,6 @@
 -- How strongly the signs between operands bind: the one way in which the grammar spells three
 -- operands.
-use Rattle.std.proofs.Common.{◌≡◌, List, ◌∷◌, ◌++◌, subst, append_assoc}
+use Rattle.std.proofs.Common.{◌≡◌, List, ◌∷◌, ◌++◌, subst, append_assoc, rules}
 use Rattle.tre_syntax.specs.PatternTree.{PatternTree, sequence, alternation, intersection}
 use Rattle.tre_parse.specs.declared.token.Token.{Token}
 use Rattle.tre_parse.specs.declared.token.Token.TheVariants.{Semicolon, Bar, Ampersand}
@@ -49,9 +49,7 @@ ampersands xs ys zs e f g h k m =
 
 pub semicolons : Groups Semicolon Semicolon (λ e f g. sequence (sequence e f) g)
 semicolons xs ys zs e f g h k m =
-    alone _ _ (split_first xs ys zs Semicolon Semicolon _
-    (expr_meet _ _ (meet_seq _ _ (seq_semicolon (xs ++ Semicolon ∷ ys) zs (sequence e f) g
-    (two_semicolon xs ys e f h k) m))))
+    search (rules, alone, split_first, expr_meet, meet_seq, seq_semicolon, sequence, two_semicolon)
 
 pub bar_ampersand : Groups Bar Ampersand (λ e f g. alternation e (intersection f g))
 bar_ampersand xs ys zs e f g h k m =

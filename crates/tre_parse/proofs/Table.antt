@@ -1,12 +1,12 @@
 -- The table of signs as the code has it: the longest sign is taken, and nothing else.
-use Rattle.std.proofs.Common.{◌≡◌, ℕ, Bool, true, false, cond, List, [], ◌∷◌, ◌++◌, length, take, refl, sym, ap, subst, arith, codes}
-use Rattle.std.specs.Prelude.{nat_eq, ◌&&◌}
+use Rattle.std.proofs.Common.{◌≡◌, ℕ, Bool, true, false, cond, List, [], ◌∷◌, ◌++◌, length, take, refl, subst, arith, codes, rules}
+use Rattle.std.specs.Prelude.{nat_eq}
 use Rattle.std.specs.List.{starts_with}
 use Rattle.tre_parse.specs.declared.lexeme.TheConstants.{SIGNS}
 use Rattle.std.specs.Cmp.Lexicographic.{same_text}
 use Rattle.std.proofs.lemmas.Bool.Decides.{nat_tests}
 use Rattle.tre_parse.specs.declared.token.Token.{Token}
-use Rattle.tre_parse.specs.declared.token.Token.TheVariants.{Bar, DoubleBar, Ampersand, DoubleAmpersand}
+use Rattle.tre_parse.specs.declared.token.Token.TheVariants.{Bar, Ampersand}
 use Rattle.tre_parse.specs.declared.lexeme.Lexeme.TheVariants.{Sign}
 use Rattle.tre_parse.specs.Lexeme.{lexeme_of, first_sign, sign_lexeme}
 use Rattle.tre_parse.specs.Signs.{IsSign, left_paren, right_paren, left_bracket, right_bracket, left_brace, right_brace, comma, semicolon, bar, double_bar, ampersand, double_ampersand, bang, star, plus, question, percent, begins, ends, TakesSign}
@@ -15,71 +15,18 @@ use Rattle.tre_parse.specs.Signs.{IsSign, left_paren, right_paren, left_bracket,
 alone : (spelling rest : List ℕ) (token : Token) → IsSign spelling token
     → lexeme_of (spelling ++ rest) ≡ Sign token (length spelling)
     → TakesSign (spelling ++ rest) (length spelling)
-alone spelling rest token s e = record {
-  spelling = spelling;
-  token = token;
-  rest = rest;
-  is =
-      s;
-  split = refl;
-  long = omega arith;
-  taken = e;
-}
+alone spelling rest token s e = search rules
 
 same_byte : (b n : ℕ) → nat_eq n b ≡ true → b ≡ n
 same_byte b n e = grind (arith, nat_tests)
 
 bar_by : (b : ℕ) (rest : List ℕ) (is : Bool) → nat_eq 124 b ≡ is → TakesSign (124 ∷ b ∷ rest) 1
-bar_by b rest true e =
-    let P = λ (n : ℕ). TakesSign (124 ∷ n ∷ rest) 1 in
-    subst P (sym (same_byte b 124 e)) (record {
-      spelling = codes "||";
-      token = DoubleBar;
-      rest =
-          rest;
-      is = double_bar;
-      split = refl;
-      long = omega arith;
-      taken = refl;
-    })
-bar_by b rest false e =
-    record {
-      spelling = codes "|";
-      token = Bar;
-      rest = b ∷ rest;
-      is = bar;
-      split = refl;
-      long =
-          omega arith;
-      taken = ap (λ (t : Bool). cond (t && true) (Sign DoubleBar 2) (Sign Bar 1)) e;
-    }
+bar_by b rest true e = search (rules, same_byte, double_bar)
+bar_by b rest false e = search (rules, bar)
 
 ampersand_by : (b : ℕ) (rest : List ℕ) (is : Bool) → nat_eq 38 b ≡ is → TakesSign (38 ∷ b ∷ rest) 1
-ampersand_by b rest true e =
-    let P = λ (n : ℕ). TakesSign (38 ∷ n ∷ rest) 1 in
-    subst P (sym (same_byte b 38 e)) (record {
-      spelling = codes "&&";
-      token =
-          DoubleAmpersand;
-      rest = rest;
-      is = double_ampersand;
-      split = refl;
-      long =
-          omega arith;
-      taken = refl;
-    })
-ampersand_by b rest false e =
-    record {
-      spelling = codes "&";
-      token = Ampersand;
-      rest = b ∷ rest;
-      is = ampersand;
-      split =
-          refl;
-      long = omega arith;
-      taken = ap (λ (t : Bool). cond (t && true)
-          (Sign DoubleAmpersand 2) (Sign Ampersand 1)) e;
-    }
+ampersand_by b rest true e = search (rules, same_byte, double_ampersand)
+ampersand_by b rest false e = search (rules, ampersand)
 
 pub longest : (spelling rest : List ℕ) (token : Token) → IsSign spelling token
     → TakesSign (spelling ++ rest) (length spelling)

@@ -1,6 +1,6 @@
 -- The first interval that can't be kept, from the tokens that one function reads to those of
 -- another; and that where no number is too big it is the first empty one.
-use Rattle.std.proofs.Common.{◌≡◌, ◌≢◌, ℕ, ◌+◌, ◌-◌, Bool, true, false, Option, Some, None, List, [], ◌∷◌, ◌++◌, length, inl, inr, refl, sym, ◌∙◌, ap, subst, arith, append_assoc, length-append}
+use Rattle.std.proofs.Common.{◌≡◌, ◌≢◌, ℕ, ◌+◌, ◌-◌, Bool, true, false, Option, Some, None, List, [], ◌∷◌, ◌++◌, length, inl, inr, refl, sym, ◌∙◌, ap, subst, arith, append_assoc, length-append, rules}
 use Rattle.std.specs.Prelude.{MatchOption, position}
 use Rattle.std.specs.Option.{option_or}
 use Rattle.std.proofs.lemmas.List.{append-nil}
@@ -8,9 +8,7 @@ use Rattle.tre_state.specs.StateTree.{StateTree}
 use Rattle.tre_zone.specs.Interval.{IntervalEnds}
 use Rattle.tre_parse.specs.declared.token.Token.{Token}
 use Rattle.tre_parse.specs.declared.token.Token.TheVariants.{RightParen, RightBrace, DoubleBar, DoubleAmpersand, Percent}
-use Rattle.tre_parse.specs.declared.connective.Join.{Join}
-use Rattle.tre_parse.specs.declared.connective.Join.TheVariants.{Sequence, Intersection, Alternation}
-use Rattle.tre_parse.specs.Joins.{join_sign, edge_sign}
+use Rattle.tre_parse.specs.Joins.{edge_sign}
 use Rattle.tre_parse.specs.TokenGrammar.{StateRule, lit, state, conj, neg, SpellsState, lit_name, lit_true, lit_braces, lit_bang, state_conj, state_bars, conj_neg, conj_ampersands, neg_name, neg_true, neg_parens, neg_bang, SpellsInterval, with_high, without_high}
 use Rattle.tre_parse.specs.Begins.{BeginsInterval}
 use Rattle.tre_parse.specs.Parts.{IsFineInterval, IsMadeOf}
@@ -25,23 +23,9 @@ use Rattle.tre_parse.proofs.Fixpoint.{left}
 use Rattle.tre_parse.proofs.Says.{StateSpelt, StateBegun, Says}
 use Rattle.tre_parse.proofs.Rules.{task_says}
 
-finds_past : (t : Token) (rest : List Token) (found : Option ℕ) → t ≢ Percent → Finds rest found
-    → Finds (t ∷ rest) found
-finds_past Percent rest found n h = absurd (n refl)
-finds_past _ rest found n h = h
-
-or_grouped : (a b c : Option ℕ) → option_or (option_or a b) c ≡ option_or a (option_or b c)
-or_grouped None b c = refl
-or_grouped (Some n) b c = refl
-
 pub or_none : (a : Option ℕ) → option_or a None ≡ a
 or_none None = refl
 or_none (Some n) = refl
-
-pub join_no_percent : (how : Join) → join_sign how ≢ Percent
-join_no_percent Sequence q = cc
-join_no_percent Intersection q = cc
-join_no_percent Alternation q = cc
 
 pub edge_no_percent : (rises : Bool) → edge_sign rises ≢ Percent
 edge_no_percent true q = cc
@@ -51,21 +35,15 @@ edge_no_percent false q = cc
 
 pub up_to_past : (t : Token) (old us new : List Token) (found : Option ℕ) → old ≡ t ∷ us
     → t ≢ Percent → FindsUpTo us new found → FindsUpTo old new found
-up_to_past t old us new found e n k = λ later h.
-    subst (λ l. Finds l (option_or found later)) (sym e)
-    (finds_past t us (option_or found later) n (k later h))
+up_to_past t old us new found e n k = search rules
 
 pub up_to_end : (t : Token) (old ts new : List Token) (found now : Option ℕ)
     → FindsUpTo old ts found → ts ≡ t ∷ new → t ≢ Percent → now ≡ found → FindsUpTo old new now
-up_to_end t old ts new found now k e n same = λ later h.
-    subst (λ o. Finds old (option_or o later)) (sym same)
-    (k later (subst (λ l. Finds l later) (sym e) (finds_past t new later n h)))
+up_to_end t old ts new found now k e n same = search rules
 
 pub up_to_joined : (old ts new : List Token) (a b c : Option ℕ) → FindsUpTo old ts a
     → FindsUpTo ts new b → c ≡ option_or a b → FindsUpTo old new c
-up_to_joined old ts new a b c k m e = λ later h.
-    subst (λ o. Finds old o) (sym (ap (λ x. option_or x later) e ∙ or_grouped a b later))
-    (k (option_or b later) (m later h))
+up_to_joined old ts new a b c k m e = search rules
 
 pub up_to_accept : (t : Token) (is : Bool) (old us new : List Token) (found : Option ℕ)
     → Accepts t is old us → t ≢ Percent → FindsUpTo us new found → FindsUpTo old new found
@@ -75,10 +53,8 @@ up_to_accept t false old us new found a n k = subst (λ l. FindsUpTo l new found
 pub up_to_accepted : (t : Token) (is : Bool) (old ts new : List Token) (found now : Option ℕ)
     → FindsUpTo old ts found → Accepts t is ts new → t ≢ Percent → now ≡ found
     → FindsUpTo old new now
-up_to_accepted t true old ts new found now k a n same =
-    up_to_end t old ts new found now k a n same
-up_to_accepted t false old ts new found now k a n same =
-    subst (λ o. FindsUpTo old new o) (sym same) (subst (λ l. FindsUpTo old l found) (sym a.0) k)
+up_to_accepted t true old ts new found now k a n same = search rules
+up_to_accepted t false old ts new found now k a n same = search rules
 
 -- ---- states and intervals
 
@@ -174,19 +150,7 @@ IsFound tokens found = MatchOption found (NoneEmpty tokens)
 
 no_empty_at : (front rest : List Token) (t : Token) → (t ≡ Percent → BeginsUnkept rest → ⊥)
     → HasEmptyAt (front ++ t ∷ rest) (length front + 1) → ⊥
-no_empty_at front rest t never k =
-    let same = same_place front k.front (t ∷ rest) (Percent ∷ (k.body ++ k.rest)) k.split
-    (omega (arith, k.here)) in
-    let first : t ≡ Percent = cc in
-    let later : rest ≡ k.body ++ k.rest = cc in
-    never first (record {
-      ends = k.ends;
-      body = k.body;
-      rest = k.rest;
-      split = later;
-      spells = k.spelt;
-      unkept = λ fine. fine.lasts k.empty;
-    })
+no_empty_at front rest t never k = search (rules, same_place, k.front)
 
 empty_at : (front rest : List Token) → position is_big (front ++ Percent ∷ rest) ≡ None
     → NoneEmptyBefore (front ++ Percent ∷ rest) (length front + 1) → BeginsUnkept rest →

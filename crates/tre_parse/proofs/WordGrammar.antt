@@ -1,5 +1,5 @@
 -- Words spell what their tokens do, and tokens what their words do.
-use Rattle.std.proofs.Common.{◌≡◌, refl, ℕ, true, false, List, [], ◌∷◌, ◌++◌, map, ◌↔◌, sym, subst}
+use Rattle.std.proofs.Common.{◌≡◌, refl, ℕ, true, false, List, [], ◌∷◌, ◌++◌, map, ◌↔◌, sym, subst, rules}
 use Rattle.std.specs.Prelude.{codes}
 use Rattle.std.proofs.lemmas.List.{map-append}
 use Rattle.tre_state.specs.StateTree.{StateTree}
@@ -264,18 +264,10 @@ state_rule_back tokens.neg = refl
 
 pub patterns_agree : (rule : tokens.Rule) (ts : List Token) (tree : PatternTree)
     → tokens.Spells rule ts tree ↔ words.Spells (rule_word rule) (map word_of ts) tree
-patterns_agree rule ts tree = (
-  pattern_word rule ts tree,
-  λ h. subst (λ r. tokens.Spells r ts tree) (rule_back rule)
-      (subst (λ xs. tokens.Spells (rule_token (rule_word rule)) xs tree) (all_back ts)
-      (pattern_token (rule_word rule) (map word_of ts) tree h)),
-)
+patterns_agree rule ts tree =
+    search (rules, pattern_word, rule_back, rule_word, all_back, pattern_token, word_of)
 
 pub states_agree : (rule : tokens.StateRule) (ts : List Token) (tree : StateTree)
     → tokens.SpellsState rule ts tree ↔ words.SpellsState (state_rule_word rule) (map word_of ts) tree
-states_agree rule ts tree = (
-  state_word rule ts tree,
-  λ h. subst (λ r. tokens.SpellsState r ts tree) (state_rule_back rule)
-      (subst (λ xs. tokens.SpellsState (state_rule_token (state_rule_word rule)) xs tree)
-      (all_back ts) (state_token (state_rule_word rule) (map word_of ts) tree h)),
-)
+states_agree rule ts tree =
+    search (rules, state_word, state_rule_back, state_rule_word, all_back, state_token, word_of)

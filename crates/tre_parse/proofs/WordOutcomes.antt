@@ -1,17 +1,16 @@
 -- What becomes of words is what becomes of their tokens.
-use Rattle.std.proofs.Common.{◌≡◌, ℕ, ◌+◌, Bool, cond, not, inl, inr, Option, Some, None, List, [], ◌∷◌, ◌++◌, map, take, length, refl, sym, ◌∙◌, ap, subst}
-use Rattle.std.specs.Prelude.{if◌then◌else◌, nat_lt, min, MatchOption, position, slice_index_or, codes}
+use Rattle.std.proofs.Common.{◌≡◌, ℕ, ◌+◌, Bool, cond, not, inl, inr, Option, Some, None, List, [], ◌∷◌, ◌++◌, map, take, length, refl, sym, ◌∙◌, ap, subst, rules}
+use Rattle.std.specs.Prelude.{if◌then◌else◌, nat_lt, MatchOption, position, slice_index_or, codes}
 use Rattle.std.specs.List.{position_or_len}
 use Rattle.std.specs.Option.{option_map, option_or}
 use Rattle.std.proofs.lemmas.List.{length-map, map-append, take-map}
 use Rattle.tre_trace.specs.Reading.{Vocabulary}
 use Rattle.tre_syntax.specs.PatternTree.{PatternTree, node_count}
-use Rattle.tre_syntax.specs.declared.pattern.TheConstants.{NODES_MAX}
 use Rattle.tre_parse.specs.declared.token.Token.{Token}
 use Rattle.tre_parse.specs.declared.token.Token.TheVariants.{Name, EventName, Number, Percent}
-use Rattle.tre_parse.specs.declared.limits.TheConstants.{DEPTH_MAX, COUNT_MAX}
+use Rattle.tre_parse.specs.declared.limits.TheConstants.{DEPTH_MAX}
 use Rattle.tre_parse.specs.declared.fault.ParseFault.{ParseFault}
-use Rattle.tre_parse.specs.declared.fault.ParseFault.TheVariants.{Number as TooBig, TooDeep, TooManyNames, TooLarge}
+use Rattle.tre_parse.specs.declared.fault.ParseFault.TheVariants.{Number as TooBig, TooDeep}
 use Rattle.tre_parse.specs.Tokens.{RawTokenAt, names_among as token_names, tokens_among}
 use Rattle.tre_parse.specs.Words.{Word, sign, names_among, numbered_words}
 use Rattle.tre_parse.specs.Grammar as words_grammar
@@ -78,36 +77,18 @@ limit_same : (text : by_tokens.TextTokens) (before : Option ParseFault)
     (option_map (λ place. TooDeep (by_tokens.offset_of text place))
     (by_words.deep_place 0 0 (map word_of text.tokens))))
     ≡ option_or before (by_tokens.limit_fault text)
-limit_same text before =
-    let big = λ (o : Option ℕ). option_map (λ place. TooBig (by_tokens.offset_of text place)) o in
-    let deep = λ (o : Option ℕ). option_map (λ place. TooDeep (by_tokens.offset_of text place)) o in
-    ap (λ (o : Option ℕ). option_or before (option_or (big o)
-    (deep (by_words.deep_place 0 0 (map word_of text.tokens)))))
-    (place_same by_words.is_big by_tokens.is_big big_same text.tokens)
-    ∙ ap (λ (o : Option ℕ). option_or before (option_or
-    (big (position by_tokens.is_big text.tokens)) (deep o))) (deep_same 0 0 text.tokens)
+limit_same text before = search (rules, word_of, place_same, big_same, deep_same)
 
 size_same : (text : by_tokens.TextTokens) (tree : PatternTree)
     → by_words.size_fault (by_tokens.offset_of text) (map word_of text.tokens) tree
     ≡ by_tokens.size_fault text tree
-size_same text tree =
-    ap (λ (o : Option ℕ). option_or
-    (option_map (λ place. TooManyNames (by_tokens.offset_of text place)) o)
-    (if nat_lt NODES_MAX (node_count tree)
-    then Some (TooLarge (min (node_count tree) COUNT_MAX)) else None))
-    (place_same by_words.is_past by_tokens.is_past past_same text.tokens)
+size_same text tree = search (rules, node_count, place_same, past_same)
 
 -- ---- no expression
 
 begins_word : (tokens : List Token) → by_tokens.BeginsExpression tokens
     → by_words.BeginsExpression (map word_of tokens)
-begins_word tokens h = record {
-  more = map word_of h.more;
-  tree = h.tree;
-  spells = subst (λ (ws : List (Word ℕ)). words_grammar.Spells words_grammar.expr ws h.tree)
-      (map-append word_of tokens h.more)
-      (pattern_word tokens_grammar.expr (tokens ++ h.more) h.tree h.spells);
-}
+begins_word tokens h = search (rules, word_of, map-append, pattern_word, h.tree)
 
 begins_token : (tokens : List Token) → by_words.BeginsExpression (map word_of tokens)
     → by_tokens.BeginsExpression tokens
@@ -123,15 +104,12 @@ begins_token tokens h = record {
 spells_token : (tokens : List Token) (tree : PatternTree)
     → words_grammar.Spells words_grammar.expr (map word_of tokens) tree
     → tokens_grammar.Spells tokens_grammar.expr tokens tree
-spells_token tokens tree h =
-    subst (λ (ts : List Token). tokens_grammar.Spells tokens_grammar.expr ts tree) (all_back tokens)
-    (pattern_token words_grammar.expr (map word_of tokens) tree h)
+spells_token tokens tree h = search (rules, all_back, pattern_token, word_of)
 
 begins_taken : (tokens : List Token) (n : ℕ) → by_tokens.BeginsExpression (take n tokens)
     → by_words.BeginsExpression (take n (map word_of tokens))
 begins_taken tokens n h =
-    subst by_words.BeginsExpression (sym (take-map word_of n tokens))
-    (begins_word (take n tokens) h)
+    subst by_words.BeginsExpression (sym (take-map word_of _ _)) (begins_word (take _ _) h)
 
 begins_left : (tokens : List Token) (n : ℕ) → by_words.BeginsExpression
     (take n (map word_of tokens))
@@ -141,37 +119,21 @@ begins_left tokens n h =
 
 syntax_word : (tokens : List Token) (place : ℕ) → by_tokens.IsSyntaxFaultAt tokens place
     → by_words.IsSyntaxFaultAt (map word_of tokens) place
-syntax_word tokens place h = record {
-  none = λ tree spells. h.none tree (spells_token tokens tree spells);
-  begins = begins_taken tokens place h.begins;
-  wrong = λ more. h.wrong (begins_left tokens (place + 1) more) ∙ sym (length-map tokens word_of);
-}
+syntax_word tokens place h =
+    search (rules, spells_token, begins_taken, begins_left, length-map, word_of, h.none, h.wrong)
 
 syntax_token : (tokens : List Token) (place : ℕ) → by_words.IsSyntaxFaultAt
     (map word_of tokens) place
     → by_tokens.IsSyntaxFaultAt tokens place
-syntax_token tokens place h = record {
-  none = λ tree spells. h.none tree (pattern_word tokens_grammar.expr tokens tree spells);
-  begins = begins_left tokens place h.begins;
-  wrong = λ more. h.wrong (begins_taken tokens (place + 1) more) ∙ length-map tokens word_of;
-}
+syntax_token tokens place h =
+    search (rules, pattern_word, begins_left, begins_taken, length-map, word_of, h.none, h.wrong)
 
 -- ---- empty intervals
 
 empty_word : (tokens : List Token) (place : ℕ) → by_tokens.HasEmptyAt tokens place
     → by_words.HasEmptyAt (map word_of tokens) place
-empty_word tokens place h = record {
-  front = map word_of h.front;
-  body = map word_of h.body;
-  rest = map word_of h.rest;
-  ends = h.ends;
-  split = ap (map word_of) h.split ∙ map-append word_of h.front (Percent ∷ (h.body ++ h.rest))
-      ∙ ap (λ (ws : List (Word ℕ)). map word_of h.front ++ sign (codes "%") ∷ ws)
-      (map-append word_of h.body h.rest);
-  here = h.here ∙ ap (λ n. n + 1) (sym (length-map h.front word_of));
-  spelt = interval_word h.body h.ends h.spelt;
-  empty = h.empty;
-}
+empty_word tokens place h =
+    search (rules, word_of, map-append, sign, length-map, spelt, interval_word)
 
 empty_token : (tokens : List Token) (place : ℕ) → by_words.HasEmptyAt (map word_of tokens) place
     → by_tokens.HasEmptyAt tokens place

@@ -1,5 +1,5 @@
 -- Tokens and words: the word of a token, the token of a word, and which bytes write both.
-use Rattle.std.proofs.Common.{◌≡◌, ◌≢◌, ℕ, ◌+◌, ◌<◌, Bool, true, false, ◌⊎◌, inl, inr, ⊎_elim, Some, None, List, [], ◌∷◌, ◌++◌, map, take, drop, length, get_or, ◌&&◌, refl, sym, ◌∙◌, ap, subst, arith}
+use Rattle.std.proofs.Common.{◌≡◌, ◌≢◌, ℕ, ◌+◌, ◌<◌, Bool, true, false, ◌⊎◌, inl, inr, ⊎_elim, Some, None, List, [], ◌∷◌, ◌++◌, map, take, drop, length, get_or, ◌&&◌, refl, sym, ◌∙◌, ap, subst, arith, rules}
 use Rattle.std.specs.Prelude.{if◌then◌else◌, ◌||◌, unwrap_or, codes, Contains, IsTrue}
 use Rattle.std.specs.Map.{lookup}
 use Rattle.std.specs.Str.{bytes_eq}
@@ -159,13 +159,7 @@ same text bytes kept e = subst Kept ((bytes_eq-Decides text bytes).0 e) kept
 
 says_kept : (text : List ℕ) (token : Token) → reserved text ≡ Some token → text_of token ≡ text
     → word_of token ≡ sign (text_of token) → is_reserved text ≡ true → IsWord text → Kept text
-says_kept text token found is fixed kept word = record {
-  token = token;
-  found = found;
-  says = record { text = is; fixed = fixed };
-  is = kept;
-  word = word;
-}
+says_kept text token found is fixed kept word = search rules
 
 kept_or : (bytes : List ℕ) → Kept bytes ⊎ Free bytes
 kept_or bytes =
@@ -231,12 +225,7 @@ parts false true false zeros one other h = absurd (h refl)
 parts false false back zeros one other h = absurd (h refl)
 
 numeral_written : (bytes : List ℕ) → is_numeral bytes ≡ true → IsDecimal bytes
-numeral_written bytes numeral = (
-  0,
-  made (is_numeral bytes) (is_numeral (before_first is_point bytes))
-      (is_numeral (after_first is_point bytes))
-      (list_all is_zero (drop 0 (after_first is_point bytes))) _ _ (inl numeral),
-)
+numeral_written bytes numeral = search rules
 
 no_point : (byte : ℕ) → is_ascii_digit byte ≡ true → is_point byte ≡ false
 no_point byte digit = grind (arith, nat_tests)
@@ -303,11 +292,7 @@ parted bytes before behind =
 
 decimal_written : (bytes : List ℕ) (scale : ℕ) → units_of scale bytes ≢ None
     → (is_numeral bytes ≡ true) ⊎ HasDecimals bytes
-decimal_written bytes scale some =
-    ⊎_elim (λ numeral. inl numeral) (λ both. inr (parted bytes both.0 both.1))
-    (parts (is_numeral bytes) (is_numeral (before_first is_point bytes))
-    (is_numeral (after_first is_point bytes))
-    (list_all is_zero (drop scale (after_first is_point bytes))) _ _ some)
+decimal_written bytes scale some = search (rules, parted, parts, is_numeral, is_point, is_zero)
 
 -- ---- both write alike
 
@@ -316,12 +301,7 @@ pub record IsWordOf (bytes : List ℕ) (raw : RawToken) : Type 0 where
   pub fixed : IsFixed raw
 
 pub writes_word : (bytes : List ℕ) (raw : RawToken) → WritesToken bytes raw → IsWordOf bytes raw
-writes_word bytes (raw_name text) h = ⊎_elim
-    (λ kept. absurd (some_none kept.token (sym kept.found ∙ h.2)))
-    (λ free. record {
-      writes = (h.0, (h.1, λ is. absurd (false≢true (sym free.is ∙ is))));
-      fixed = tt;
-    }) (kept_or bytes)
+writes_word bytes (raw_name text) h = search rules
 writes_word bytes (raw_event text) h = absurd h
 writes_word bytes (raw_number text) h =
     record {

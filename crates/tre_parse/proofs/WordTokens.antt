@@ -1,5 +1,5 @@
 -- The words of a text are those of its raw tokens, and so are its names.
-use Rattle.std.proofs.Common.{◌≡◌, ℕ, ◌+◌, Bool, true, false, ◌&&◌, Option, List, [], ◌∷◌, map, take, drop, refl, sym, ◌∙◌, ap, subst}
+use Rattle.std.proofs.Common.{◌≡◌, ℕ, ◌+◌, Bool, true, false, ◌&&◌, Option, List, [], ◌∷◌, map, take, drop, refl, sym, ◌∙◌, ap, subst, rules}
 use Rattle.std.specs.Prelude.{if◌then◌else◌, codes, filter_map}
 use Rattle.tre_state.specs.declared.names.TheConstants.{NAMES_MAX}
 use Rattle.tre_trace.specs.Reading.{Vocabulary}
@@ -7,7 +7,7 @@ use Rattle.tre_syntax.specs.declared.name_kind.NameKind.TheVariants.{Proposition
 use Rattle.tre_parse.specs.declared.token.Token.TheVariants.{LeftParen, Event}
 use Rattle.tre_parse.specs.declared.before.Before.{Before}
 use Rattle.tre_parse.specs.declared.before.Before.TheVariants.{EventWord, EventParen, Other}
-use Rattle.tre_parse.specs.Known.{before_next, before_sign}
+use Rattle.tre_parse.specs.Known.{before_next}
 use Rattle.tre_parse.specs.Tokens.{RawToken, RawTokenAt, name as raw_name, event_name as raw_event, number as raw_number, sign as raw_sign, name_of, first_uses, token_of, words_among as raw_words, names_among as raw_names, tokens_among}
 use Rattle.tre_parse.specs.Written.{BeginsWith as BeginsToken, AreTokens, at_end as tokens_end, blank as tokens_blank, next as tokens_next, wrong as tokens_wrong}
 use Rattle.tre_parse.specs.Words.{Word, name, event_name, number, sign, BeginsWith, AreWords, at_end, blank, next, wrong, is_sign, with_events, words_among, name_in, event_in, names_among, in_numbers, numbered_words}
@@ -127,50 +127,14 @@ record StandBefore (before : Before) (one two : Word (List ℕ)) : Type 0 where
   event : is_sign (codes "event") two ≡ after_event before
   paren : (is_sign (codes "event") one && is_sign (codes "(") two) ≡ after_paren before
 
-and_none : (a b : Bool) → b ≡ false → (a && b) ≡ false
-and_none true b e = e
-and_none false b e = refl
-
-and_one : (a b : Bool) → b ≡ true → (a && b) ≡ a
-and_one true b e = e
-and_one false b e = refl
-
-behind_next : (before : Before) → after_paren (before_sign before LeftParen) ≡ after_event before
-behind_next EventWord = refl
-behind_next EventParen = refl
-behind_next Other = refl
-
-never_event : (before : Before) → after_event (before_sign before LeftParen) ≡ false
-never_event EventWord = refl
-never_event EventParen = refl
-never_event Other = refl
-
 stand_next : (before : Before) (one two : Word (List ℕ)) (raw : RawToken)
     → StandBefore before one two → StandBefore (before_next before raw) two (raw_word raw)
-stand_next before one two (raw_name text) h = record {
-  event = refl;
-  paren = and_none (is_sign (codes "event") two) false refl;
-}
-stand_next before one two (raw_event text) h = record {
-  event = refl;
-  paren = and_none (is_sign (codes "event") two) false refl;
-}
-stand_next before one two (raw_number text) h = record {
-  event = refl;
-  paren = and_none (is_sign (codes "event") two) false refl;
-}
-stand_next before one two (raw_sign LeftParen) h = record {
-  event = sym (never_event before);
-  paren = and_one (is_sign (codes "event") two) true refl ∙ h.event ∙ sym (behind_next before);
-}
-stand_next before one two (raw_sign Event) h = record {
-  event = refl;
-  paren = and_none (is_sign (codes "event") two) false refl;
-}
-stand_next before one two (raw_sign _) h = record {
-  event = refl;
-  paren = and_none (is_sign (codes "event") two) false refl;
-}
+stand_next before one two (raw_name text) h = search rules
+stand_next before one two (raw_event text) h = search rules
+stand_next before one two (raw_number text) h = search rules
+stand_next before one two (raw_sign LeftParen) h = search rules
+stand_next before one two (raw_sign Event) h = search rules
+stand_next before one two (raw_sign _) h = search rules
 
 -- the next word, behind these two
 abbrev behind : Word (List ℕ) → Word (List ℕ) → Word (List ℕ) → Word (List ℕ)
@@ -187,12 +151,9 @@ with_events_next one two (sign text) rest = refl
 
 apart_word : (before : Before) (one two : Word (List ℕ)) (raw : RawToken)
     → StandBefore before one two → raw_word (apart before raw) ≡ behind one two (raw_word raw)
-apart_word EventParen one two (raw_name text) h =
-    ap (λ (t : Bool). if t then event_name text else name text) (sym h.paren)
-apart_word EventWord one two (raw_name text) h =
-    ap (λ (t : Bool). if t then event_name text else name text) (sym h.paren)
-apart_word Other one two (raw_name text) h =
-    ap (λ (t : Bool). if t then event_name text else name text) (sym h.paren)
+apart_word EventParen one two (raw_name text) h = search rules
+apart_word EventWord one two (raw_name text) h = search rules
+apart_word Other one two (raw_name text) h = search rules
 apart_word EventParen one two (raw_event text) h = refl
 apart_word EventWord one two (raw_event text) h = refl
 apart_word Other one two (raw_event text) h = refl

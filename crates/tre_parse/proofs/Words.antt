@@ -1,6 +1,6 @@
 -- Tokens of a text: which bytes they have, and that a word which is no token of its own is a
 -- name.
-use Rattle.std.proofs.Common.{◌≡◌, ℕ, ◌+◌, ◌<◌, zero, suc, Bool, true, false, cond, ◌||◌, Option, Some, None, List, [], ◌∷◌, take, length, get_or, refl, sym, ◌∙◌, ap, subst, arith}
+use Rattle.std.proofs.Common.{◌≡◌, ℕ, ◌+◌, ◌<◌, zero, suc, Bool, true, false, cond, ◌||◌, Option, Some, None, List, [], ◌∷◌, take, length, get_or, refl, sym, ◌∙◌, ap, subst, arith, rules}
 use Rattle.std.specs.Prelude.{IsTrue, if◌then◌else◌, codes, nat_eq}
 use Rattle.std.specs.List.{prefix_len, take_while, AllPass, starts_with}
 use Rattle.std.specs.Str.{bytes_eq, IsAscii}
@@ -20,10 +20,8 @@ use Rattle.tre_parse.specs.declared.lexeme.TheConstants.{SIGNS}
 -- The front that passes a test does.
 pub prefix_passes : (p : ℕ → Bool) (xs : List ℕ) (n : ℕ) → n ≡ prefix_len p xs
     → AllPass p (take n xs)
-prefix_passes p xs n e = λ k d h.
-    let fits = prefix_len-le-length p xs in
-    let below : k < n = omega (arith, length-take-le n xs (omega arith)) in
-    rw get_or-take (prefix_len_passes p xs k d (omega arith))
+prefix_passes p xs n e =
+    search (rules, prefix_len-le-length, length-take-le, get_or-take, prefix_len_passes)
 
 starts_continues : (b : ℕ) → starts_name b ≡ true → continues_name b ≡ true
 starts_continues b h = grind (arith, nat_tests)

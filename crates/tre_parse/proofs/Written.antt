@@ -1,6 +1,6 @@
 -- A number that is written is one token, where what follows doesn't go on with it.
-use Rattle.std.proofs.Common.{◌≡◌, ℕ, ◌+◌, ◌<◌, ◌^◌, ◌/◌, zero, suc, Bool, true, false, cond, ◌&&◌, List, [], ◌∷◌, ◌++◌, length, drop, refl, sym, ◌∙◌, ap, subst, arith}
-use Rattle.std.specs.Prelude.{decimal, nat_lt, if◌then◌else◌}
+use Rattle.std.proofs.Common.{◌≡◌, ℕ, ◌+◌, ◌<◌, ◌^◌, ◌/◌, zero, suc, Bool, true, false, cond, List, [], ◌∷◌, ◌++◌, length, refl, sym, ◌∙◌, ap, subst, arith, rules}
+use Rattle.std.specs.Prelude.{decimal}
 use Rattle.std.specs.Char.{is_ascii_digit}
 use Rattle.std.specs.List.{list_all, prefix_len}
 use Rattle.std.specs.Str.Parse.{AllDigits}
@@ -9,7 +9,7 @@ use Rattle.std.proofs.lemmas.Bool.Decides.{nat_tests}
 use Rattle.std.proofs.lemmas.Fmt.{decimal_is_IsNumeral}
 use Rattle.std.proofs.lemmas.List.{append_assoc, drop_at, length-append}
 use Rattle.std.proofs.lemmas.Str.Parse.{digit_from_value}
-use Rattle.tre_decimal.specs.Decimal.{is_number_byte, is_point, last_digits, number_text}
+use Rattle.tre_decimal.specs.Decimal.{is_number_byte, last_digits, number_text}
 use Rattle.tre_parse.specs.Lexeme.{decimals_len, number_len}
 
 -- No byte of a number comes first.
@@ -19,16 +19,11 @@ IsEnd (byte ∷ rest) = is_number_byte byte ≡ false
 
 end_digits : (rest : List ℕ) → IsEnd rest → prefix_len is_ascii_digit rest ≡ 0
 end_digits [] end = refl
-end_digits (byte ∷ rest) end =
-    let none : is_ascii_digit byte ≡ false = grind (arith, nat_tests) in
-    ap (λ (t : Bool). cond t (1 + prefix_len is_ascii_digit rest) 0) none
+end_digits (byte ∷ rest) end = search rules
 
 end_decimals : (rest : List ℕ) → IsEnd rest → decimals_len rest ≡ 0
 end_decimals [] end = refl
-end_decimals (byte ∷ rest) end =
-    let none : is_point byte ≡ false = grind (arith, nat_tests) in
-    let len = prefix_len is_ascii_digit rest in
-    ap (λ (t : Bool). if t && nat_lt 0 len then 1 + len else 0) none
+end_decimals (byte ∷ rest) end = search rules
 
 digits_through : (xs rest : List ℕ) → list_all is_ascii_digit xs ≡ true
     → prefix_len is_ascii_digit rest ≡ 0 → prefix_len is_ascii_digit (xs ++ rest) ≡ length xs
@@ -54,17 +49,12 @@ decimal_digits n small = digits_all (decimal n) (decimal_is_IsNumeral n small).0
 number_behind : (xs rest : List ℕ) → list_all is_ascii_digit xs ≡ true
     → prefix_len is_ascii_digit rest ≡ 0
     → number_len (xs ++ rest) ≡ length xs + decimals_len rest
-number_behind xs rest all none =
-    ap (λ n. n + decimals_len (drop n (xs ++ rest))) (digits_through xs rest all none)
-    ∙ ap (λ l. length xs + decimals_len l) (drop_at xs rest (length xs) refl)
+number_behind xs rest all none = search (rules, decimals_len, digits_through, drop_at)
 
 -- Digits, a point and digits.
 decimals_through : (ys rest : List ℕ) → list_all is_ascii_digit ys ≡ true → 0 < length ys
     → IsEnd rest → decimals_len (46 ∷ (ys ++ rest)) ≡ 1 + length ys
-decimals_through ys rest all some end =
-    let has : nat_lt 0 (length ys) ≡ true = grind (arith, nat_tests) in
-    ap (λ n. if nat_lt 0 n then 1 + n else 0) (digits_through ys rest all (end_digits rest end))
-    ∙ ap (λ (t : Bool). if t then 1 + length ys else 0) has
+decimals_through ys rest all some end = search (rules, nat_tests, digits_through, end_digits)
 
 -- The last digits of a number are digits, as many as are taken: a law of decimals.
 pub record HasLastDigits : Type 0 where
@@ -74,9 +64,7 @@ pub record HasLastDigits : Type 0 where
 pub written_len : HasLastDigits → (scale units : ℕ) (rest : List ℕ) → units < 2 ^ 64 → IsEnd rest
     → number_len (number_text scale units ++ rest) ≡ length (number_text scale units)
 written_len last zero units rest small end =
-    let behind = number_behind (decimal units) rest (decimal_digits units small)
-    (end_digits rest end) in
-    omega (arith, behind, end_decimals rest end)
+    search (rules, number_behind, decimal_digits, end_digits, end_decimals)
 written_len last (suc scale) units rest small end =
     let whole = decimal (units / 10 ^ suc scale) in
     let decimals = last_digits (suc scale) units in

@@ -1,6 +1,5 @@
 -- A reader of pieces, before its first byte and between them.
-use Rattle.std.proofs.Common.{◌≡◌, ℕ, false, List, [], length, refl, ap, arith}
-use Rattle.std.proofs.lemmas.List.Elements.{All-nil}
+use Rattle.std.proofs.Common.{◌≡◌, ℕ, false, List, [], length, refl, ap, rules}
 use Rattle.tre_parts.proofs.Walks.{at-nothing}
 use Rattle.tre_parts.specs.Format.{Format, first_spot}
 use Rattle.tre_parts.specs.Parts.{IsFedWith}
@@ -11,17 +10,7 @@ use Rattle.tre_trace.specs.Reading.{Recording}
 at-start : {Reader T S : Type 0} (tm : Reader → T) (fm : T → Format S)
     (hd : Reader → S → Type 0) (reader : Reader) → hd reader (fm (tm reader)).start
     → IsAt tm fm hd (tm reader) reader [] first_spot []
-at-start tm fm hd reader held = record {
-  named = refl;
-  state = (fm (tm reader)).start;
-  is_held = held;
-  told = [];
-  follows = λ closed more. refl;
-  inside = All-nil (λ byte. (fm (tm reader)).separates byte ≡ false);
-  short = omega arith;
-  counts = refl;
-  few = omega arith;
-}
+at-start tm fm hd reader held = search rules
 
 pub fed-start : {Reader T S : Type 0} (tm : Reader → T) (fm : T → Format S)
     (hd : Reader → S → Type 0) (reader : Reader) → hd reader (fm (tm reader)).start

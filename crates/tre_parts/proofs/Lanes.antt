@@ -1,5 +1,5 @@
 -- From the mask of sixteen bytes to the first byte of a class.
-use Rattle.std.proofs.Common.{◌≡◌, ◌≢◌, ℕ, ◌+◌, ◌-◌, ◌/◌, ◌%◌, ◌^◌, ◌<◌, ◌≤◌, Bool, true, false, cond, List, map, length, length-take-le, take, get_or, inl, inr, refl, sym, ap, subst, ◌∙◌, arith, w64}
+use Rattle.std.proofs.Common.{◌≡◌, ◌≢◌, ℕ, ◌+◌, ◌-◌, ◌/◌, ◌%◌, ◌^◌, ◌<◌, ◌≤◌, Bool, true, false, cond, List, map, length, length-take-le, take, get_or, refl, sym, ap, subst, ◌∙◌, arith, w64, rules}
 use Rattle.std.specs.Int.{bit_at, trailing_zeros}
 use Rattle.std.specs.List.{All}
 use Rattle.std.proofs.Math.Nat.{div-le_self}
@@ -45,10 +45,7 @@ module _ (p : ℕ → Bool) (bytes : List ℕ) (i mask : ℕ) (room : i + 16 ≤
       (get_or_past (map p lanes) k false (omega (arith, long, length-map lanes p, past)))
 
   bit_within : (k : ℕ) → bit_at mask k ≡ 1 → k < 16
-  bit_within k set = elim (cases_lt k 16) [
-    | inl small ↦ small
-    | inr past ↦ absurd (omega (arith, set, bit_past k past))
-  ]
+  bit_within k set = search (rules, cases_lt, bit_past)
 
   module _ (by : ℕ) where
     shifted : (k : ℕ) → bit_at (mask / 2 ^ by) k ≡ bit_at mask (by + k)
@@ -110,19 +107,11 @@ module _ (p : ℕ → Bool) (bytes : List ℕ) (i mask : ℕ) (room : i + 16 ≤
 
 pub none_joined : (p : ℕ → Bool) (bytes : List ℕ) (from place to : ℕ)
     → NoneBetween p bytes from place → NoneBetween p bytes place to → NoneBetween p bytes from to
-none_joined p bytes from place to early late = λ k after before. elim (cases_lt k place) [
-  | inl below ↦ early k after below
-  | inr above ↦ late k above before
-]
+none_joined p bytes from place to early late = search rules
 
 pub next_after : (p : ℕ → Bool) (bytes : List ℕ) (from place next : ℕ) → from ≤ place
     → NoneBetween p bytes from place → IsNextAt p bytes place next → IsNextAt p bytes from next
-next_after p bytes from place next behind early is = record {
-  behind = omega (arith, behind, is.behind);
-  within = is.within;
-  none = none_joined p bytes from place next early is.none;
-  here = is.here;
-}
+next_after p bytes from place next behind early is = search rules
 
 -- the same of a whole vector
 pub none_in : (p : ℕ → Bool) (bytes : List ℕ) (i mask : ℕ) → i + 16 ≤ length bytes
@@ -165,9 +154,8 @@ pub marks_past : (p : ℕ → Bool) (bytes : List ℕ) (from place : ℕ) (marks
     → AreMarks p bytes from marks → marks.bits / 2 ^ (from - marks.block) ≡ 0
     → IsNextAt p bytes (marks.block + 16) place → IsNextAt p bytes from place
 marks_past p bytes from place marks are none is =
-    next_after p bytes from (marks.block + 16) place are.near
-    (none_found p bytes marks.block marks.bits are.within are.bits (from - marks.block) from
-    (omega (arith, are.behind)) none) is
+    next_after _ _ _ (marks.block + 16) _ are.near (none_found _ _ marks.block marks.bits are.within
+    are.bits (from - marks.block) _ (omega (arith, are.behind)) none) is
 
 -- the marks of a block in which the first one was found
 pub marks_new : (p : ℕ → Bool) (bytes : List ℕ) (block bits : ℕ) → block + 16 ≤ length bytes

@@ -1,5 +1,5 @@
 -- Parts that are read at once, among the others of a piece.
-use Rattle.std.proofs.Common.{◌≡◌, ℕ, ◌+◌, ◌-◌, ◌≤◌, false, List, [], ◌++◌, ◌<◌, true, ◌∷◌, append_assoc, append-nil, length, length-append, take, drop, take-append-drop, get_or, Result, refl, sym, ap, ap₂, subst, ◌∙◌, arith}
+use Rattle.std.proofs.Common.{◌≡◌, ℕ, ◌+◌, ◌-◌, ◌≤◌, false, List, [], ◌++◌, ◌<◌, true, ◌∷◌, append_assoc, append-nil, length, length-append, take, drop, take-append-drop, get_or, Result, refl, sym, ap, ap₂, subst, ◌∙◌, arith, rules}
 use Rattle.std.proofs.lemmas.List.{length-take, map-append, take-append-le}
 use Rattle.std.proofs.lemmas.List.Elements.{All-nil}
 use Rattle.tre_parts.proofs.Cuts.{length-between, take-between, inside-between}
@@ -184,17 +184,7 @@ fed-skimmed {T = T} gv tm fm hd reader now spot next old new bytes front later r
 pub skims-none : {S : Type 0} (gs : Vocabulary) (format : Format S) (holds : S → Type 0) (state : S)
     (bytes : List ℕ) (old : List Segment) → holds state
     → Skims gs format holds state bytes old old (record { bytes = 0; parts = 0 })
-skims-none gs format holds state bytes old held = record {
-  few = omega arith;
-  now = state;
-  is_held = held;
-  told = [];
-  added = sym (append-nil old);
-  follows = λ closed spot more.
-      ap (λ (s : Spot). recording_from format closed state s more)
-      (ap₂ (λ number offset. record { number = number; offset = offset }) (omega arith)
-      (omega arith));
-}
+skims-none gs format holds state bytes old held = search rules
 
 -- One more part was read, that ends at a separator.
 pub skims-part : {S : Type 0} {gs : Vocabulary} {format : Format S} {before after : S → Type 0} {state : S}
@@ -244,14 +234,7 @@ pub skims-kept : {S : Type 0} {gs : Vocabulary} {format : Format S} {before afte
     {bytes : List ℕ} {old mid new : List Segment} {read : Skimmed}
     → (skims : Skims gs format before state bytes old mid read) → after skims.now → new ≡ mid
     → Skims gs format after state bytes old new read
-skims-kept skims held is = record {
-  few = skims.few;
-  now = skims.now;
-  is_held = held;
-  told = skims.told;
-  added = is ∙ skims.added;
-  follows = skims.follows;
-}
+skims-kept skims held is = search rules
 
 -- The next part was read, which ends at the first separator from there on.
 pub skims-next : {S : Type 0} {gs : Vocabulary} {format : Format S} {before after : S → Type 0} {state : S}

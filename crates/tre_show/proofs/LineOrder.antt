@@ -1,13 +1,10 @@
 -- The six numbers of a line order it as its three ranges do.
-use Rattle.std.proofs.Common.{◌≡◌, ℕ, ◌*◌, ◌+◌, ◌<◌, ◌≤◌, ◌==◌, ◌⊎◌, true, false, List, [], ◌∷◌, refl, ap, subst, arith, inl, inr, ⊎_elim, ℤ, pos, negsuc, neg_ℤ, ◌≤ℤ◌, nat_abs}
+use Rattle.std.proofs.Common.{◌≡◌, ℕ, ◌*◌, ◌+◌, ◌<◌, ◌≤◌, ◌==◌, ◌⊎◌, true, false, List, [], ◌∷◌, refl, ap, subst, arith, inl, inr, ⊎_elim, ℤ, pos, negsuc, neg_ℤ, ◌≤ℤ◌, nat_abs, rules}
 use Rattle.std.specs.Prelude.{◌<ℤ◌}
-use Rattle.std.specs.Ordering.{int_cmp, ordering_then, MatchOrdering}
-use Rattle.std.specs.declared.cmp.Ordering.{Ordering}
-use Rattle.std.specs.declared.cmp.Ordering.TheVariants.{Less, Equal, Greater}
-use Rattle.std.specs.Cmp.{int_ranks}
+use Rattle.std.specs.Ordering.{int_cmp}
+use Rattle.std.specs.declared.cmp.Ordering.TheVariants.{Less, Equal}
 use Rattle.std.specs.Cmp.Lexicographic.{slice_cmp}
 use Rattle.std.proofs.lemmas.Int.{ints}
-use Rattle.std.proofs.lemmas.Bool.{cases_lt}
 use Rattle.tre_zone.specs.Bound.{value_of, weakness_of}
 use Rattle.tre_zone.specs.Ranges.{range_of}
 use Rattle.tre_zone.specs.Zone.{IsCanonical}
@@ -20,14 +17,7 @@ use Rattle.tre_show.proofs.Printing.{begin_keys, end_keys, dur_keys}
 -- The first of two numbers decides, or where they are the same what follows.
 first_decides : (x y : ℤ) (xs ys : List ℤ) → slice_cmp int_cmp (x ∷ xs) (y ∷ ys) ≡ Less →
     (x <ℤ y) ⊎ ((x ≡ y) × (slice_cmp int_cmp xs ys ≡ Less))
-first_decides x y xs ys e = by (int_cmp x y) (int_ranks x y) e
-  where
-    by : (o : Ordering) → MatchOrdering o (x <ℤ y) (x ≡ y) (y <ℤ x)
-        → ordering_then o (slice_cmp int_cmp xs ys) ≡ Less →
-        (x <ℤ y) ⊎ ((x ≡ y) × (slice_cmp int_cmp xs ys ≡ Less))
-    by Less m e = inl m
-    by Equal m e = inr (m, e)
-    by Greater m e = absurd (cc)
+first_decides x y xs ys e = search rules
 
 -- A value that is at most 0 is its size, negated.
 size_down : (value : ℤ) → value ≤ℤ pos 0 → neg_ℤ value ≡ pos (nat_abs value)
@@ -44,17 +34,11 @@ same_test m n e = ap (λ k. k == 1) e
 -- Twice a number and a weakness, taken away or added.
 low_by : (a b u v : ℕ) → u ≤ 1 → v ≤ 1 → 2 * a + v < 2 * b + u
     → (a < b) ⊎ ((a ≡ b) × ((u == 1) ≡ true) × ((v == 1) ≡ false))
-low_by a b u v p q h = ⊎_elim (λ below. inl below)
-    (λ above.
-    let one : u ≡ 1 = omega (arith, above) in
-    let none : v ≡ 0 = omega (arith, above) in
-    inr (omega (arith, above), same_test u 1 one, same_test v 0 none))
-    (cases_lt a b)
+low_by a b u v p q h = search rules
 
 high_by : (a b u v : ℕ) → u ≤ 1 → v ≤ 1 → 2 * a + u < 2 * b + v
     → (a < b) ⊎ ((a ≡ b) × ((u == 1) ≡ false) × ((v == 1) ≡ true))
-high_by a b u v p q h = ⊎_elim (λ below. inl below) (λ same. inr (same.0, same.2, same.1))
-    (low_by a b v u q p h)
+high_by a b u v p q h = search rules
 
 low_before : (low high low' high' : ℤ) → low ≤ℤ pos 1 → low' ≤ℤ pos 1 → neg_ℤ low <ℤ neg_ℤ low'
     → LowComesBefore (range_of low high) (range_of low' high')

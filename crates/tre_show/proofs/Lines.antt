@@ -1,5 +1,5 @@
 -- The lines of zones, from the last to the first.
-use Rattle.std.proofs.Common.{◌≡◌, ℕ, suc, ◌+◌, ◌-◌, ◌<◌, ◌≤◌, List, [], ◌++◌, length, take, drop, get_or, sym, ap, ◌∙◌, arith}
+use Rattle.std.proofs.Common.{◌≡◌, ℕ, suc, ◌+◌, ◌-◌, ◌<◌, ◌≤◌, List, [], ◌++◌, length, take, drop, get_or, sym, ap, ◌∙◌, arith, rules}
 use Rattle.std.proofs.lemmas.List.{drop_more}
 use Rattle.std.specs.List.{slice_range}
 use Rattle.tre_zone.specs.declared.zone_bounds.ZoneBounds.{ZoneBounds}
@@ -8,9 +8,7 @@ use Rattle.tre_show.specs.Line.{line_of, lines_of}
 pub lines_none : (scale : ℕ) (zones : List ZoneBounds) (place : ℕ)
     → lines_of scale (slice_range zones place place) ≡ []
 unfolding lines_of
-lines_none scale zones place =
-    let none : place - place ≡ 0 = omega arith in
-    ap (λ count. lines_of scale (take count (drop place zones))) none
+lines_none scale zones place = search rules
 
 -- The line of one zone, and of those behind it.
 pub lines_before : (scale : ℕ) (zones : List ZoneBounds) (place to : ℕ) (zone : ZoneBounds)

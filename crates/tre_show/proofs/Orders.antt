@@ -1,5 +1,5 @@
 -- A list of zones in another order is a set of zones as before.
-use Rattle.std.proofs.Common.{◌≡◌, ◌≢◌, ℕ, zero, suc, ◌<◌, ◌⊎◌, List, [], ◌∷◌, ◌++◌, length, get_or, take, drop, refl, sym, ap, ◌∙◌, arith, inl, inr, ⊎_elim}
+use Rattle.std.proofs.Common.{◌≡◌, ◌≢◌, ℕ, zero, suc, ◌<◌, ◌⊎◌, List, [], ◌∷◌, ◌++◌, length, get_or, take, drop, refl, ap, ◌∙◌, arith, inl, inr, ⊎_elim, rules}
 use Rattle.std.specs.Prelude.{All}
 use Rattle.std.specs.List.{swap}
 use Rattle.std.specs.List.Sorted.{IsPermutation}
@@ -108,13 +108,9 @@ canonical_again (zone ∷ zones) each =
 pub AreCanonical-permutation : (zones others : List ZoneBounds) → IsPermutation zones others
     → AreCanonical zones → AreCanonical others
 AreCanonical-permutation zones others order all =
-    canonical_again others
-    (All-permutation IsCanonical zones others order (canonical_each zones all))
+    search (rules, canonical_again, All-permutation, canonical_each)
 
 -- A list that was changed in a vector's place is what the vector holds then.
 pub written_back : (new old : List ZoneBounds) (len : ℕ) → length new ≡ len
     → take len (new ++ drop (length new) old) ≡ new
-written_back new old len e =
-    ap (λ k. take k (new ++ drop (length new) old)) (sym e)
-    ∙ take-append-le (length new) new (drop (length new) old) (omega arith)
-    ∙ take_all (length new) new (omega arith)
+written_back new old len e = search (rules, take-append-le, take_all)

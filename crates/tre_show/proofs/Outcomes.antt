@@ -1,7 +1,7 @@
 -- What becomes of the text of a pattern: it is read back.
-use Rattle.std.proofs.Common.{◌≡◌, ℕ, ◌+◌, ◌≤◌, Bool, true, false, cond, not, inl, inr}
+use Rattle.std.proofs.Common.{◌≡◌, ℕ, ◌≤◌, Bool, true, false, inl, inr, arith, rules}
 use Rattle.std.proofs.Common.{Option, Some, None, List, [], ◌∷◌, ◌++◌, length, refl, sym, ap, ◌∙◌, subst, arith, append-nil}
-use Rattle.std.specs.Prelude.{nat_lt, min, MatchOption, if◌then◌else◌, position}
+use Rattle.std.specs.Prelude.{nat_lt, MatchOption, if◌then◌else◌, position}
 use Rattle.std.specs.List.{position_or_len}
 use Rattle.std.specs.Option.{option_map, option_or}
 use Rattle.std.proofs.lemmas.Bool.{cond_above}
@@ -16,7 +16,7 @@ use Rattle.tre_parse.specs.declared.before.Before.{Before}
 use Rattle.tre_parse.specs.declared.before.Before.TheVariants.{Other}
 use Rattle.tre_parse.specs.declared.token.Token.TheVariants.{Number, Percent}
 use Rattle.tre_parse.specs.declared.fault.ParseFault.{ParseFault}
-use Rattle.tre_parse.specs.declared.fault.ParseFault.TheVariants.{TooLong, BadByte, Number as TooBig, TooDeep, TooManyNames, TooLarge}
+use Rattle.tre_parse.specs.declared.fault.ParseFault.TheVariants.{TooLong, BadByte, Number as TooBig, TooDeep}
 use Rattle.tre_parse.specs.TokenGrammar.{expr, Spells}
 use Rattle.tre_parse.specs.Scanned.{raw_tokens_from, tokens_of, bad_byte}
 use Rattle.tre_parse.specs.Known.{before_sign, nothing_known}
@@ -39,8 +39,7 @@ module _ (scale : ℕ) (names : Vocabulary) where
   one_small : (token : Token) (rest : List Token) → is_big token ≡ false
       → position_or_len is_big rest ≡ length rest
       → position_or_len is_big (token ∷ rest) ≡ length (token ∷ rest)
-  one_small token rest fails more =
-      ap (λ b. cond (not b) (1 + position_or_len is_big rest) 0) fails ∙ omega (arith, more)
+  one_small token rest fails more = search rules
 
   none_big_len : (before : Before) (tokens : List Token) → StandFrom scale names before tokens
       → position_or_len is_big tokens ≡ length tokens
@@ -53,24 +52,18 @@ module _ (scale : ℕ) (names : Vocabulary) where
       one_small token rest refl (none_big_len (before_sign before token) rest stand.1)
 
   none_big : (tokens : List Token) → Stand scale names tokens → position is_big tokens ≡ None
-  none_big tokens stand =
-      ap (λ n. cond (nat_lt n (length tokens)) (Some n) None) (none_big_len Other tokens stand)
-      ∙ sym (cond_above (length tokens) (length tokens) _ None None (omega arith) refl)
+  none_big tokens stand = search (rules, none_big_len, cond_above)
 
   -- behind each `%` there is no empty interval
   well_behind : (before : Before) (front tokens rest : List Token)
       → StandFrom scale names before tokens → tokens ≡ front ++ Percent ∷ rest → BeginsWell rest
-  well_behind before [] tokens rest stand e =
-      let all : StandFrom scale names before (Percent ∷ rest) =
-      subst (StandFrom scale names before) e stand in all.0
+  well_behind before [] tokens rest stand e = search rules
   well_behind before (token ∷ front) [] rest stand e = absurd (cc)
   well_behind before (token ∷ front) (other ∷ others) rest stand e =
       well_behind (before_sign before other) front others rest stand.1 (cc)
 
   none_empty : (tokens : List Token) → Stand scale names tokens → NoneEmpty tokens
-  none_empty tokens stand = λ place at.
-      well_behind Other at.front tokens (at.body ++ at.rest) stand at.split at.body at.rest at.ends
-      refl at.spelt at.empty
+  none_empty tokens stand = search (rules, well_behind, spelt)
 
 -- ---- the outcome
 
@@ -85,8 +78,7 @@ judged : (long : Bool) (bad big deep : Option ℕ) (words : TextTokens) (tree : 
     IsOutcomeOfTokens words (spelt tree names) → ((o : Outcome) → is o → o ≡ outcome) → is outcome
     → IsReadBack tree names outcome
 judged true bad big deep words tree names outcome p q read once is = inr (inl is)
-judged false None None (Some place) words tree names outcome p q read once is =
-    inr (inr (offset_of words place, is))
+judged false None None (Some place) words tree names outcome p q read once is = search rules
 judged false None None None words tree names outcome p q read once is =
     inl (sym (once (spelt tree names) read))
 judged false None (Some place) deep words tree names outcome p q read once is = absurd (cc)
@@ -98,12 +90,7 @@ none_mapped f (Some x) e = absurd (cc)
 
 limited : (words : TextTokens) (tree : PatternTree) → position is_past words.tokens ≡ None
     → node_count tree ≤ 1000 → size_fault words tree ≡ None
-limited words tree none small =
-    let few : nat_lt 1000 (node_count tree) ≡ false = grind (arith, nat_tests) in
-    let large = λ (is : Bool). if is then Some (TooLarge (min (node_count tree) 1000000000))
-    else None in
-    ap (λ past. option_or (option_map (λ place. TooManyNames (offset_of words place)) past)
-    (large (nat_lt 1000 (node_count tree)))) none ∙ ap large few
+limited words tree none small = search rules
 
 -- What is so of the text of a pattern at a scale.
 pub record IsTextOf (scale : ℕ) (text : List ℕ) (tree : PatternTree) (names : Vocabulary)

@@ -1,10 +1,10 @@
 -- A printed text is that of one list of zones, and of one end.
-use Rattle.std.proofs.Common.{◌≡◌, ℕ, ◌≤◌, ◌^◌, ◌==◌, List, [], ◌∷◌, ◌++◌, append_assoc, refl, sym, ◌∙◌, arith, ℤ, pos, ◌≤ℤ◌}
+use Rattle.std.proofs.Common.{◌≡◌, ℕ, ◌≤◌, ◌^◌, List, [], ◌∷◌, ◌++◌, append_assoc, refl, sym, ◌∙◌, arith, ℤ, pos, ◌≤ℤ◌, rules}
 use Rattle.std.specs.Prelude.{codes}
 use Rattle.std.proofs.lemmas.Int.{ints}
 use Rattle.tre_pairs.specs.declared.TheConstants.{TIME_MAX}
 use Rattle.tre_decimal.specs.Decimal.{number_text}
-use Rattle.tre_zone.specs.Bound.{weakness_of, sum_of, IsKeyWithin}
+use Rattle.tre_zone.specs.Bound.{sum_of, IsKeyWithin}
 use Rattle.tre_zone.specs.Zone.{IsCanonical}
 use Rattle.tre_zone.specs.declared.zone_bounds.ZoneBounds.{ZoneBounds}
 use Rattle.tre_zone.proofs.Bounds.{split, split-sum}
@@ -13,7 +13,7 @@ use Rattle.tre_zone.proofs.Tightness.{canonical-keys}
 use Rattle.tre_zone.proofs.ZoneKeys.{zones_same}
 use Rattle.tre_zone.specs.ZoneList.{AreCanonical}
 use Rattle.tre_show.specs.Line.{line_of, lines_of, offline_text}
-use Rattle.tre_show.proofs.Ranges.{NumbersTell, range_text, behind_byte, number_line_once, no_range, range_text-bytes, AreRangeKeys, range_once}
+use Rattle.tre_show.proofs.Ranges.{NumbersTell, range_text, behind_byte, number_line_once, AreRangeKeys, range_once}
 
 -- ---- the keys of a canonical zone
 
@@ -25,12 +25,7 @@ up_from low high loop down =
 
 range_keys : (low high : ℤ) → low ≤ℤ pos 1 → pos 1 ≤ℤ sum_of low high
     → IsKeyWithin (2 ^ 42) low → IsKeyWithin (2 ^ 42) high → AreRangeKeys low high
-range_keys low high down loop low_within high_within = record {
-  down = down;
-  up = up_from low high loop down;
-  low_within = low_within;
-  high_within = high_within;
-}
+range_keys low high down loop low_within high_within = search (rules, up_from)
 
 -- the keys of each of its three ranges
 pub begin_keys : (zone : ZoneBounds) → IsCanonical zone
@@ -49,9 +44,7 @@ end_keys zone canonical =
 
 pub dur_keys : (zone : ZoneBounds) → IsCanonical zone → AreRangeKeys zone.dur_low zone.dur_high
 dur_keys zone canonical =
-    let keys = canonical-keys zone canonical in
-    range_keys zone.dur_low zone.dur_high canonical.framed.lasts canonical.room.dur_loop
-    keys.dur_low keys.dur_high
+    search (rules, canonical-keys, range_keys, zone.dur_low, zone.dur_high, canonical.framed.lasts)
 
 -- ---- lines and texts
 
@@ -67,13 +60,6 @@ line_of-pieces : (scale : ℕ) (zone : ZoneBounds) (xs : List ℕ)
 line_of-pieces scale zone xs =
     line_pieces (range_text scale zone.begin_low zone.begin_high)
     (range_text scale zone.end_low zone.end_high) (range_text scale zone.dur_low zone.dur_high) xs
-
--- A line begins with a bracket, and not with a letter.
-no_line : (scale : ℕ) (zone : ZoneBounds) (letter : ℕ) (xs ys : List ℕ) → 97 ≤ letter
-    → letter ∷ ys ≡ line_of scale zone ++ xs → ⊥
-no_line scale zone letter xs ys small e =
-    no_range (weakness_of zone.begin_low == 1) letter _ ys small (e ∙ line_of-pieces scale zone xs
-    ∙ range_text-bytes scale zone.begin_low zone.begin_high _)
 
 -- the line of the end behind its letter e
 abbrev end_bytes : ℕ → ℕ → List ℕ
@@ -120,12 +106,8 @@ module _ (scale : ℕ) (tells : NumbersTell scale) where
       → (zones ≡ others) × (letter ≡ other) × (xs ≡ ys)
   unfolding lines_of AreCanonical
   lines_once [] [] a b xs ys p q small small' e = (refl, cc, cc)
-  lines_once [] (other ∷ others) a b xs ys p q small small' e = absurd
-      (no_line scale other a (lines_of scale others ++ (b ∷ ys)) xs small
-      (e ∙ append_assoc (line_of scale other) (lines_of scale others) (b ∷ ys)))
-  lines_once (zone ∷ zones) [] a b xs ys p q small small' e = absurd
-      (no_line scale zone b (lines_of scale zones ++ (a ∷ xs)) ys small'
-      (sym e ∙ append_assoc (line_of scale zone) (lines_of scale zones) (a ∷ xs)))
+  lines_once [] (other ∷ others) a b xs ys p q small small' e = search rules
+  lines_once (zone ∷ zones) [] a b xs ys p q small small' e = search rules
   lines_once (zone ∷ zones) (other ∷ others) a b xs ys p q small small' e =
       let line = line_once zone other (lines_of scale zones ++ (a ∷ xs))
       (lines_of scale others ++ (b ∷ ys)) p.0 q.0
@@ -141,11 +123,7 @@ module _ (scale : ℕ) (tells : NumbersTell scale) where
       → AreCanonical others
       → offline_text scale zones end ≡ offline_text scale others other
       → (zones ≡ others) × (end_bytes scale end ≡ end_bytes scale other)
-  text_once zones others end other p q e =
-      let both = lines_once zones others 101 101 (end_bytes scale end) (end_bytes scale other) p q
-      (omega arith) (omega arith)
-      (sym (offline_text-lines scale zones end) ∙ e ∙ offline_text-lines scale others other) in
-      (both.0, both.2)
+  text_once zones others end other p q e = search (rules, lines_once, offline_text-lines)
 
   pub zones_once : (zones others : List ZoneBounds) (end other : ℕ) → AreCanonical zones
       → AreCanonical others → offline_text scale zones end ≡ offline_text scale others other

@@ -11,10 +11,6 @@ use Rattle.tre_zone.specs.Ranges.{range_of}
 
 -- ---- a byte and what follows it
 
--- two lists that are the same begin with the same byte
-first_byte : (byte other : ℕ) (xs ys : List ℕ) → byte ∷ xs ≡ other ∷ ys → byte ≡ other
-first_byte byte other xs ys e = cc
-
 -- and go on in the same way behind it
 pub behind_byte : (byte : ℕ) (xs ys : List ℕ) → byte ∷ xs ≡ byte ∷ ys → xs ≡ ys
 behind_byte byte xs ys e = cc
@@ -47,14 +43,6 @@ left_of weak = if weak then 91 else 40
 -- The byte of the right one.
 abbrev pub right_of : Bool → ℕ
 right_of weak = if weak then 93 else 41
-
--- A range begins with a bracket, and not with a letter.
-pub no_range : (weak : Bool) (letter : ℕ) (xs ys : List ℕ) → 97 ≤ letter
-    → letter ∷ ys ≡ left_of weak ∷ xs → ⊥
-no_range true letter xs ys small e =
-    let first = first_byte letter 91 ys xs e in absurd (omega (arith, first, small))
-no_range false letter xs ys small e =
-    let first = first_byte letter 40 ys xs e in absurd (omega (arith, first, small))
 
 -- a bracket tells whether the end is included
 bracket_once : (square round : ℕ) (one other : Bool) → square ≢ round

@@ -1,8 +1,8 @@
 -- A token that is printed is read as that token, before what can stand behind it; and so the text
 -- of tokens is read back, its names as the ones that were printed.
-use Rattle.std.proofs.Common.{◌≡◌, ℕ, suc, ◌+◌, ◌-◌, ◌<◌, ◌≤◌, ◌^◌, true, false, cond, ◌&&◌, ◌⊎◌, ⊎_elim}
+use Rattle.std.proofs.Common.{◌≡◌, ℕ, suc, ◌+◌, ◌-◌, ◌<◌, ◌≤◌, ◌^◌, true, false, cond, ◌&&◌, ◌⊎◌, ⊎_elim, arith, rules}
 use Rattle.std.proofs.Common.{Option, Some, None, List, [], ◌∷◌, ◌++◌, length, get_or, take, refl, sym, ap, ◌∙◌, subst, arith}
-use Rattle.std.specs.Prelude.{codes, nat_lt, ◌==◌, is_none, is_some, unwrap_or, if◌then◌else◌}
+use Rattle.std.specs.Prelude.{codes, nat_lt, is_none, is_some, if◌then◌else◌}
 use Rattle.std.specs.Char.{is_ascii_digit}
 use Rattle.std.specs.List.{AllPass, list_all, position_or_len, zip}
 use Rattle.std.specs.Str.{bytes_eq}
@@ -78,12 +78,7 @@ scanned_word : (byte : ℕ) (bytes rest : List ℕ) (o : Option Token) (at : ℕ
     → scanned (lexeme_named (length (byte ∷ bytes)) o) at (byte ∷ (bytes ++ rest)) next
     ≡ with_raw_token at (word_for (byte ∷ bytes) o) (next (length bytes))
 scanned_word byte bytes rest o at next =
-    let whole = byte ∷ bytes in
-    let less : length whole - 1 ≡ length bytes = omega arith in
-    scanned_named (length whole) o at (whole ++ rest) next
-    ∙ ap (λ w. with_raw_token at (word_for w o) (next (length whole - 1)))
-    (take-append_seam whole rest)
-    ∙ ap (λ n. with_raw_token at (word_for whole o) (next n)) less
+    search (rules, scanned_named, next, with_raw_token, take-append_seam)
 
 -- A number that is taken.
 scanned_number : (byte : ℕ) (bytes rest : List ℕ) (at : ℕ) (next : ℕ → RawTokens)
@@ -91,24 +86,17 @@ scanned_number : (byte : ℕ) (bytes rest : List ℕ) (at : ℕ) (next : ℕ →
     → scanned (number_lexeme (byte ∷ (bytes ++ rest))) at (byte ∷ (bytes ++ rest)) next
     ≡ with_raw_token at (number (byte ∷ bytes)) (next (length bytes))
 scanned_number byte bytes rest at next len =
-    let whole = byte ∷ bytes in
-    let less : length whole - 1 ≡ length bytes = omega arith in
-    ap (λ n. with_raw_token at (number (take n (whole ++ rest))) (next (n - 1))) len
-    ∙ ap (λ w. with_raw_token at (number w) (next (length whole - 1))) (take-append_seam whole rest)
-    ∙ ap (λ n. with_raw_token at (number whole) (next n)) less
+    search (rules, with_raw_token, number, next, take-append_seam)
 
 -- which of the kinds the first byte chooses
 kind_word : {A : Type 0} (byte : ℕ) (a b c : A) → starts_name byte ≡ true
     → (if is_white_space byte then a else (if starts_name byte then b else c)) ≡ b
-kind_word byte a b c starts =
-    let never : is_white_space byte ≡ false = grind (arith, nat_tests) in rw (never, starts) refl
+kind_word byte a b c starts = search rules
 
 kind_number : {A : Type 0} (byte : ℕ) (a b c d : A) → is_ascii_digit byte ≡ true
     → (if is_white_space byte then a else (if starts_name byte then b
     else (if is_ascii_digit byte then c else d))) ≡ c
-kind_number byte a b c d digit =
-    let never : is_white_space byte ≡ false = grind (arith, nat_tests) in
-    let nor : starts_name byte ≡ false = grind (arith, nat_tests) in rw (never, nor, digit) refl
+kind_number byte a b c d digit = search rules
 
 start_continues : (byte : ℕ) → starts_name byte ≡ true → continues_name byte ≡ true
 start_continues byte starts = grind (arith, nat_tests)
@@ -220,12 +208,7 @@ takes scale writes names before mark rest at stands is = (at, at + 1, refl)
 first_number : (seen i : ℕ) (rest : List ℕ) (m : ℕ) → seen_after seen (i ∷ rest) ≡ Some m
     → ((i < seen) × (seen_after seen rest ≡ Some m))
     ⊎ ((i ≡ seen) × (seen_after (seen + 1) rest ≡ Some m))
-first_number seen i rest m e = by (seen_after seen rest) (seen_after (seen + 1) rest) e
-  where
-    by : (old new : Option ℕ)
-        → (if nat_lt i seen then old else (if i == seen then new else None)) ≡ Some m
-        → ((i < seen) × (old ≡ Some m)) ⊎ ((i ≡ seen) × (new ≡ Some m))
-    by old new e = grind (arith, nat_tests)
+first_number seen i rest m e = search rules
 
 seen_grows : (xs : List ℕ) (seen m : ℕ) → seen_after seen xs ≡ Some m → seen ≤ m
 seen_grows [] seen m e = let same : seen ≡ m = cc in omega arith
@@ -246,8 +229,7 @@ module _ (names : List (List ℕ)) (list : IsNameList names) where
   differ : (i j : ℕ) → j < i → i < length names
       → bytes_eq (name_text names i) (get_or names j []) ≡ false
   differ i j before below =
-      false_from_ne_true _ (λ same. list.distinct j i [] before below
-      (sym ((bytes_eq-Decides (name_text names i) (get_or names j [])).0 same) ∙ bytes_of i))
+      search (rules, false_from_ne_true, before, bytes_eq-Decides, name_text, bytes_of)
 
   -- The first names have a name at its own place, and before that place not.
   placed : (i k : ℕ) → i ≤ k → i < length names → k ≤ length names
@@ -347,15 +329,7 @@ named_word : (scale : ℕ) (kind : NameKind) (known : Known) (bytes : List ℕ) 
     → vocabulary_with kind known.vocabulary bytes ≡ after
     → IsWordOf scale known (record { vocabulary = after; before = Other }) (numbered kind i)
     (name bytes)
-named_word scale kind known bytes i after is place vocabulary = record {
-  token_same = ap (λ (c : NameKind). numbered c (unwrap_or (number_of c known bytes) 64)) is
-      ∙ ap (λ (o : Option ℕ). numbered kind (unwrap_or o 64)) place;
-  next_same = ap (λ (c : NameKind). record {
-    vocabulary = vocabulary_with c known.vocabulary bytes;
-    before = Other;
-  }) is ∙ ap (λ (v : Vocabulary). record { vocabulary = v; before = Other }) vocabulary;
-  few = ap (λ (c : NameKind). is_none (number_of c known bytes)) is ∙ ap is_none place;
-}
+named_word scale kind known bytes i after is place vocabulary = search rules
 
 module _ (scale : ℕ) (writes : WritesNumbers scale) (names : Vocabulary)
     (list : IsNameList names.names) (events : IsNameList names.events)

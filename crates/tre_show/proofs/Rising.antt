@@ -1,12 +1,10 @@
 -- Lines in rising order: how two are compared, and a list of which each rises above the last.
-use Rattle.std.proofs.Common.{◌≡◌, ℕ, ◌+◌, ◌-◌, ◌<◌, ◌≤◌, false, List, [], ◌∷◌, length, get_or, refl, sym, ap, ◌∙◌, arith, ⊎_elim, ℤ, neg_ℤ}
+use Rattle.std.proofs.Common.{◌≡◌, ℕ, ◌+◌, ◌-◌, ◌<◌, ◌≤◌, false, List, [], ◌∷◌, length, get_or, refl, sym, ap, ◌∙◌, arith, ⊎_elim, ℤ, neg_ℤ, rules}
 use Rattle.std.specs.Prelude.{◌<ℤ◌, AllPairs}
-use Rattle.std.specs.Cmp.{int_cmp_is, int_ranks}
 use Rattle.std.specs.Cmp.Lexicographic.{slice_cmp}
-use Rattle.std.specs.Ordering.{int_cmp, is_lt, ordering_then, MatchOrdering}
+use Rattle.std.specs.Ordering.{int_cmp, is_lt, ordering_then}
 use Rattle.std.specs.declared.cmp.Ordering.{Ordering}
 use Rattle.std.specs.declared.cmp.Ordering.TheVariants.{Less, Equal, Greater}
-use Rattle.std.proofs.lemmas.Int.{ints}
 use Rattle.std.proofs.lemmas.Bool.{cases_lt}
 use Rattle.std.proofs.lemmas.List.{get_or_default}
 use Rattle.tre_zone.specs.declared.zone_bounds.ZoneBounds.{ZoneBounds}
@@ -14,31 +12,14 @@ use Rattle.tre_show.specs.Order.{IsRising, compare_lines}
 
 -- Numbers that are negated are compared the other way round.
 negated : (x y : ℤ) → int_cmp y x ≡ int_cmp (neg_ℤ x) (neg_ℤ y)
-negated x y = int_cmp_is (neg_ℤ x) (neg_ℤ y) (int_cmp y x) (by (int_cmp y x) (int_ranks y x))
-  where
-    by : (o : Ordering) → MatchOrdering o (y <ℤ x) (y ≡ x) (x <ℤ y)
-        → MatchOrdering o (neg_ℤ x <ℤ neg_ℤ y) (neg_ℤ x ≡ neg_ℤ y) (neg_ℤ y <ℤ neg_ℤ x)
-    by Less m = omega (arith, ints, m)
-    by Equal m = ap neg_ℤ (sym m)
-    by Greater m = omega (arith, ints, m)
+negated x y = search rules
 
 -- The bounds of a range decide, and where they are the same what follows.
 range_first : (low high low' high' : ℤ) (xs ys : List ℤ) (o : Ordering)
     → o ≡ ordering_then (int_cmp low' low) (int_cmp high high')
     → ordering_then o (slice_cmp int_cmp xs ys)
     ≡ slice_cmp int_cmp (neg_ℤ low ∷ high ∷ xs) (neg_ℤ low' ∷ high' ∷ ys)
-range_first low high low' high' xs ys o e =
-    ap (λ p. ordering_then p (slice_cmp int_cmp xs ys)) e
-    ∙ (by (int_cmp low' low)
-    ∙ ap (λ p. ordering_then p (ordering_then (int_cmp high high') (slice_cmp int_cmp xs ys)))
-    (negated low low'))
-  where
-    by : (p : Ordering)
-        → ordering_then (ordering_then p (int_cmp high high')) (slice_cmp int_cmp xs ys)
-        ≡ ordering_then p (ordering_then (int_cmp high high') (slice_cmp int_cmp xs ys))
-    by Less = refl
-    by Equal = refl
-    by Greater = refl
+range_first low high low' high' xs ys o e = search rules
 
 then_nothing : (o : Ordering) → ordering_then o Equal ≡ o
 then_nothing Less = refl
@@ -95,8 +76,7 @@ next_rises zones place one other before within is is' less k d below =
 -- Zones each of which begins later than all before it.
 first_decides : (x y : ℤ) (xs ys : List ℤ) → y <ℤ x
     → is_lt (slice_cmp int_cmp (x ∷ xs) (y ∷ ys)) ≡ false
-first_decides x y xs ys less =
-    ap (λ o. is_lt (ordering_then o (slice_cmp int_cmp xs ys))) (sym (int_cmp_is x y Greater less))
+first_decides x y xs ys less = search rules
 
 -- the numbers behind the first by which a line is ordered
 rest_of : ZoneBounds → List ℤ
@@ -106,13 +86,9 @@ rest_of zone =
 begins_later : (one other : ZoneBounds) → one.begin_low <ℤ other.begin_low
     → is_lt (compare_lines one other) ≡ false
 unfolding rest_of
-begins_later one other late =
-    let less : neg_ℤ other.begin_low <ℤ neg_ℤ one.begin_low = omega (arith, ints, late) in
-    first_decides (neg_ℤ one.begin_low) (neg_ℤ other.begin_low) (rest_of one) (rest_of other) less
+begins_later one other late = search rules
 
 pub later_rises : (zones : List ZoneBounds)
     → AllPairs (λ zone later. later.begin_low <ℤ zone.begin_low) zones → IsRising zones
 unfolding IsRising
-later_rises zones later k d low below =
-    begins_later (get_or zones (k + 1) d) (get_or zones k d)
-    (later k (k + 1) d (omega arith) (omega (arith, below)))
+later_rises zones later k d low below = search (rules, begins_later)

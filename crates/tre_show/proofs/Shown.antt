@@ -1,5 +1,5 @@
 -- A canonical zone as it is printed has the smallest ranges that its pairs allow.
-use Rattle.std.proofs.Common.{◌≡◌, ℕ, ◌+◌, ◌-◌, ◌*◌, ◌<◌, ◌≤◌, ◌↔◌, Bool, true, false, Option, Some, None, MatchBool, MatchOption, refl, arith, ℤ, pos, neg_ℤ, ◌-ℤ◌, ◌≤ℤ◌}
+use Rattle.std.proofs.Common.{◌≡◌, ℕ, ◌+◌, ◌-◌, ◌*◌, ◌<◌, ◌≤◌, ◌↔◌, Bool, true, false, Option, Some, None, MatchBool, MatchOption, refl, arith, ℤ, pos, neg_ℤ, ◌-ℤ◌, ◌≤ℤ◌, rules}
 use Rattle.tre_zone.specs.Bound.{Meets}
 use Rattle.tre_zone.specs.Interval.{IntervalEnds, LastsWithin, IsAboveLow, IsBelowHigh}
 use Rattle.tre_zone.specs.Ranges.{range_of}
@@ -21,12 +21,8 @@ low_key false low = neg_ℤ (pos (2 * low))
 low_means : (weak : Bool) (low p q n d : ℕ) → q ≡ p + d
     → Meets (low_key weak low) p q n ↔ MatchBool weak (low * n ≤ d) (low * n < d)
 unfolding low_key
-low_means true low p q n d is =
-    let both = weak_low (low_key true low) low refl p q n (omega (arith, is)) in
-    ((λ m. let h = both.0 m in omega (arith, h, is)), (λ h. both.1 (omega (arith, h, is))))
-low_means false low p q n d is =
-    let both = strict_low (low_key false low) low refl p q n (omega (arith, is)) in
-    ((λ m. let h = both.0 m in omega (arith, h, is)), (λ h. both.1 (omega (arith, h, is))))
+low_means true low p q n d is = search (rules, weak_low, low_key)
+low_means false low p q n d is = search (rules, strict_low, low_key)
 
 high_key : Bool → ℕ → ℤ
 high_key true high = pos (2 * high + 1)
@@ -35,12 +31,8 @@ high_key false high = pos (2 * high)
 high_means : (weak : Bool) (high p q n d : ℕ) → p ≡ q + d
     → Meets (high_key weak high) p q n ↔ MatchBool weak (d ≤ high * n) (d < high * n)
 unfolding high_key
-high_means true high p q n d is =
-    let both = Meets-at_most (high_key true high) high refl p q n in
-    ((λ m. let h = both.0 m in omega (arith, h, is)), (λ h. both.1 (omega (arith, h, is))))
-high_means false high p q n d is =
-    let both = Meets-less (high_key false high) high refl p q n in
-    ((λ m. let h = both.0 m in omega (arith, h, is)), (λ h. both.1 (omega (arith, h, is))))
+high_means true high p q n d is = search (rules, Meets-at_most, high_key)
+high_means false high p q n d is = search (rules, Meets-less, high_key)
 
 -- ---- one range
 
@@ -80,11 +72,7 @@ module _ (zone : ZoneBounds) (low high : ℤ) (left right time : ℕ → ℕ →
       (Meets-looser high key d 0 n some tight met)
 
   pub taken_in : LastsWithin (range_of low high) d n → LastsWithin other d n
-  taken_in h = (
-    above_other h.0,
-    below_by other.high (λ a b n some le holds.
-        (each a b n some le holds).1) h.1,
-  )
+  taken_in h = search (rules, above_other, below_by)
 
 -- ---- a zone
 

@@ -1,6 +1,6 @@
 -- The tokens of an expression: they spell it, its text is theirs, one after the other, and behind
 -- each of them stands what can stand there.
-use Rattle.std.proofs.Common.{◌≡◌, ℕ, ◌≤◌, ◌^◌, Bool, true, false, Option, Some, None, zero, suc, ◌+◌, ◌-◌, List, [], ◌∷◌, ◌++◌, flat_map, refl, sym, ap, ◌∙◌, subst, append_assoc, append-nil, arith}
+use Rattle.std.proofs.Common.{◌≡◌, ℕ, ◌≤◌, ◌^◌, Bool, true, false, Option, Some, None, zero, suc, ◌+◌, ◌-◌, List, [], ◌∷◌, ◌++◌, flat_map, refl, sym, ap, ◌∙◌, subst, append_assoc, append-nil, arith, rules}
 use Rattle.std.specs.Prelude.{nat_lt, codes, MatchOption}
 use Rattle.std.proofs.lemmas.Bool.Decides.{nat_tests}
 use Rattle.std.proofs.lemmas.Grind.{flat_map-append}
@@ -179,11 +179,6 @@ none_at_always : (kind : NameKind) → [] ≡ numbers_of_state kind always
 none_at_always Proposition = refl
 none_at_always EventKind = refl
 
-one_at_proposition : (i : ℕ) (kind : NameKind)
-    → numbers_in kind (Name i ∷ []) ≡ numbers_of_state kind (proposition i)
-one_at_proposition i Proposition = refl
-one_at_proposition i EventKind = refl
-
 those_of_negated : (s : StateTree) (kind : NameKind)
     → numbers_of_state kind s ≡ numbers_of_state kind (negation s)
 those_of_negated s Proposition = refl
@@ -200,12 +195,6 @@ those_of_either : (s t : StateTree) (kind : NameKind)
     ≡ numbers_of_state kind (disjunction s t)
 those_of_either s t Proposition = refl
 those_of_either s t EventKind = refl
-
-one_at_event : (i : ℕ) (kind : NameKind)
-    → numbers_in kind (Event ∷ LeftParen ∷ EventName i ∷ RightParen ∷ [])
-    ≡ numbers_of_atom kind (event i)
-one_at_event i Proposition = refl
-one_at_event i EventKind = refl
 
 -- The tokens have this text and these numbers of names, and stand as they can before any that go on
 -- with no word.
@@ -285,11 +274,7 @@ module _ (scale : ℕ) (names : Vocabulary) where
   renumbered : {tokens : List Token} {text : List ℕ} {numbers others : Numbers}
       → ((kind : NameKind) → numbers kind ≡ others kind) → Say scale names tokens text numbers
       → Say scale names tokens text others
-  renumbered same is = record {
-    text_same = is.text_same;
-    numbers_same = λ kind. is.numbers_same kind ∙ same kind;
-    stand = is.stand;
-  }
+  renumbered same is = search rules
 
   reprinted : {Spelt : List Token → Type 0} {text : List ℕ} {numbers others : Numbers}
       → ((kind : NameKind) → numbers kind ≡ others kind) → Prints scale names Spelt text numbers
@@ -301,15 +286,10 @@ module _ (scale : ℕ) (names : Vocabulary) where
       → Stand scale names more → Stand scale names (token ∷ more))
       → Say scale names (token ∷ []) (printed scale names token)
       (λ kind. numbers_in kind (token ∷ []))
-  one token stands = record {
-    text_same = append-nil (printed scale names token);
-    numbers_same = λ kind. refl;
-    stand = stands;
-  }
+  one token stands = search rules
 
   nothing : Say scale names [] [] no_numbers
-  nothing =
-      record { text_same = refl; numbers_same = λ kind. refl; stand = λ more cut rest. rest }
+  nothing = search rules
 
   -- Two lists of tokens with a sign between them.
   between : (mark : Token) (xs ys : List Token) {text other : List ℕ} {numbers others : Numbers}
@@ -408,8 +388,7 @@ module _ (scale : ℕ) (names : Vocabulary) where
 
   name_says : (i : ℕ)
       → Say scale names (Name i ∷ []) (name_text names.names i) (numbers_at_state (proposition i))
-  name_says i =
-      renumbered (one_at_proposition i) (one (Name i) (λ more cut rest. ((cut, refl), rest)))
+  name_says i = search rules
 
   true_says : Say scale names (True ∷ []) (codes "true") (numbers_at_state always)
   true_says = renumbered none_at_always (one True (λ more cut rest. (cut, rest)))
@@ -418,8 +397,7 @@ module _ (scale : ℕ) (names : Vocabulary) where
       → Prints scale names (StateSpelt s least) (state_operand_text least names.names s)
       (numbers_at_state s)
   state_prints always least = prints _ (state_tight always least _ neg_true) true_says
-  state_prints (proposition i) least =
-      prints _ (state_tight _ least _ (neg_name i)) (name_says i)
+  state_prints (proposition i) least = prints _ (state_tight _ _ _ (neg_name i)) (name_says i)
   state_prints (negation s) least =
       let is = state_prints s 2 in
       prints _ (state_tight _ least _ (neg_bang _ s is.spells))
@@ -461,11 +439,7 @@ module _ (scale : ℕ) (names : Vocabulary) where
       → Say scale names (Event ∷ LeftParen ∷ EventName i ∷ RightParen ∷ [])
       (atom_text names (event i))
       (λ kind. numbers_of_atom kind (event i))
-  event_says i = record {
-    text_same = refl;
-    numbers_same = one_at_event i;
-    stand = λ more cut rest. (refl, (tt, ((refl, refl), (tt, rest))));
-  }
+  event_says i = search rules
 
   atom_prints : (x : Atom)
       → Prints scale names (λ xs. Spells primary xs (atom x)) (atom_text names x)
@@ -489,13 +463,9 @@ module _ (scale : ℕ) (names : Vocabulary) where
 
   end_says : (high : Option ℕ) (weak : Bool) → MatchOption high (Unit {0}) (λ h. h ≤ 2 ^ 40)
       → Say scale names (end_tokens high weak) (upper_text scale high weak) no_numbers
-  end_says None weak small =
-      behind RightParen _ (λ _. refl) (λ _. refl) (λ _ rest. (tt, rest))
-      (one Inf (λ more cut rest. (cut, rest)))
-  end_says (Some high) true small =
-      behind RightBracket _ (λ _. refl) (λ _. refl) (λ _ rest. (tt, rest)) (number_says high small)
-  end_says (Some high) false small =
-      behind RightParen _ (λ _. refl) (λ _. refl) (λ _ rest. (tt, rest)) (number_says high small)
+  end_says None weak small = search rules
+  end_says (Some high) true small = search rules
+  end_says (Some high) false small = search rules
 
   interval_by : (low : ℕ) (weak : Bool) (xs : List Token) (text : List ℕ) → low ≤ 2 ^ 40
       → Say scale names xs text no_numbers

@@ -1,6 +1,6 @@
 -- A number that is written is taken whole as one number, before what can stand behind it.
-use Rattle.std.proofs.Common.{◌≡◌, ℕ, zero, suc, ◌+◌, ◌/◌, ◌<◌, ◌≤◌, ◌^◌, Bool, true, false, cond, Some, List, [], ◌∷◌, ◌++◌, length, drop, refl, sym, ap, ◌∙◌, append_assoc, arith}
-use Rattle.std.specs.Prelude.{decimal, min, nat_lt, unwrap_or, Option}
+use Rattle.std.proofs.Common.{◌≡◌, ℕ, zero, suc, ◌+◌, ◌/◌, ◌<◌, ◌≤◌, ◌^◌, Bool, true, false, cond, Some, List, [], ◌∷◌, ◌++◌, length, refl, sym, ap, ◌∙◌, append_assoc, arith, rules}
+use Rattle.std.specs.Prelude.{decimal}
 use Rattle.std.specs.Char.{is_ascii_digit}
 use Rattle.std.specs.List.{prefix_len, AllPass, list_all}
 use Rattle.std.specs.Str.Parse.{AllDigits}
@@ -11,8 +11,7 @@ use Rattle.std.proofs.lemmas.List.{drop_at, length-append}
 use Rattle.std.proofs.lemmas.List.Elements.{All-cons, All-nil}
 use Rattle.std.proofs.lemmas.List.Sums.{AllPass-from_list_all}
 use Rattle.std.proofs.lemmas.Str.Parse.{digit_from_value}
-use Rattle.tre_pairs.specs.declared.TheConstants.{TIME_MAX}
-use Rattle.tre_decimal.specs.Decimal.{is_point, units_of, last_digits, number_text}
+use Rattle.tre_decimal.specs.Decimal.{units_of, last_digits, number_text}
 use Rattle.tre_state.specs.Name.{continues_name}
 use Rattle.tre_parse.specs.Lexeme.{decimals_len, number_len}
 use Rattle.tre_parse.specs.Tokens.{units_within}
@@ -42,8 +41,7 @@ pub cut_stops : (p : ℕ → Bool) (rest : List ℕ)
     → ((byte : ℕ) → continues_name byte ≡ false → p byte ≡ false) → IsCut rest
     → prefix_len p rest ≡ 0
 cut_stops p [] fails cut = refl
-cut_stops p (byte ∷ rest) fails cut =
-    ap (λ t. cond t (1 + prefix_len p rest) 0) (fails byte cut)
+cut_stops p (byte ∷ rest) fails cut = search rules
 
 -- neither a digit nor a point goes on with a number that is cut
 no_digit : (byte : ℕ) → continues_name byte ≡ false → is_ascii_digit byte ≡ false
@@ -51,8 +49,7 @@ no_digit byte cut = grind (arith, nat_tests)
 
 no_decimals : (rest : List ℕ) → IsCut rest → decimals_len rest ≡ 0
 no_decimals [] cut = refl
-no_decimals (byte ∷ rest) cut =
-    let no_point : is_point byte ≡ false = grind (arith, nat_tests) in rw no_point refl
+no_decimals (byte ∷ rest) cut = search rules
 
 -- ---- the bytes of a number
 
@@ -70,27 +67,19 @@ decimal_pass n small =
 digits_len : (digits rest : List ℕ) → AllPass is_ascii_digit digits
     → prefix_len is_ascii_digit rest ≡ 0
     → number_len (digits ++ rest) ≡ length digits + decimals_len rest
-digits_len digits rest pass stop =
-    let size = prefix_whole is_ascii_digit digits rest pass stop in
-    ap (λ n. n + decimals_len (drop n (digits ++ rest))) size
-    ∙ ap (λ left. length digits + decimals_len left) (drop_at digits rest (length digits) refl)
+digits_len digits rest pass stop = search (rules, prefix_whole, digits, decimals_len, drop_at)
 
 -- Decimals behind a point, some at least.
 behind_point : (digits rest : List ℕ) → AllPass is_ascii_digit digits → 0 < length digits
     → prefix_len is_ascii_digit rest ≡ 0
     → decimals_len (46 ∷ (digits ++ rest)) ≡ 1 + length digits
-behind_point digits rest pass some stop =
-    let is : nat_lt 0 (length digits) ≡ true = grind (arith, nat_tests) in
-    ap (λ n. cond (nat_lt 0 n) (1 + n) 0) (prefix_whole is_ascii_digit digits rest pass stop)
-    ∙ ap (λ b. cond b (1 + length digits) 0) is
+behind_point digits rest pass some stop = search (rules, digits, nat_tests, prefix_whole)
 
 -- The number that is written is all of what is taken.
 pub written_len : (scale units : ℕ) (rest : List ℕ) → WritesNumbers scale → units < 2 ^ 64
     → IsCut rest → number_len (number_text scale units ++ rest) ≡ length (number_text scale units)
 written_len zero units rest writes small cut =
-    digits_len (decimal units) rest (decimal_pass units small)
-    (cut_stops is_ascii_digit rest no_digit cut)
-    ∙ ap (λ n. length (decimal units) + n) (no_decimals rest cut) ∙ omega arith
+    search (rules, digits_len, decimal_pass, cut_stops, no_digit, no_decimals)
 written_len (suc scale) units rest writes small cut =
     let front = units / 10 ^ suc scale in
     let less : front < 2 ^ 64 = omega (arith, small, div-le_self units (10 ^ suc scale)) in
@@ -111,7 +100,4 @@ written_len (suc scale) units rest writes small cut =
 -- A number up to the latest time is read as that number.
 pub units_read : (scale n : ℕ) → WritesNumbers scale → n ≤ 2 ^ 40
     → units_within scale (number_text scale n) ≡ n
-units_read scale n writes small =
-    ap (λ (told : Option ℕ). min (unwrap_or told (TIME_MAX + 1)) (TIME_MAX + 1))
-    (writes.read_back n (omega (arith, small)))
-    ∙ omega (arith, small)
+units_read scale n writes small = search rules

@@ -1,5 +1,5 @@
 -- The closure: what holds while it goes on, and at its end.
-use Rattle.std.proofs.Common.{◌≡◌, ℕ, zero, suc, ◌+◌, ◌-◌, ◌*◌, ◌<◌, ◌≤◌, ◌⊎◌, ◌↔◌, List, [], ◌∷◌, ◌++◌, length, length-append, take, get_or, subst, ap, inl, inr, ⊎_elim, arith}
+use Rattle.std.proofs.Common.{◌≡◌, ℕ, zero, suc, ◌+◌, ◌-◌, ◌*◌, ◌<◌, ◌≤◌, ◌⊎◌, ◌↔◌, List, [], ◌∷◌, ◌++◌, length, length-append, take, get_or, ap, inl, inr, ⊎_elim, arith, rules}
 use Rattle.std.proofs.lemmas.List.{take-append-le, take_all}
 use Rattle.std.proofs.Math.Nat.{mul-pos, mul-le-mul_left, le_of_mul-le-mul_left, mul_left_comm}
 use Rattle.tre_pairs.specs.Pairs.{Pairs, Either, Composed, Lasting, LeadTo, Chain}
@@ -18,10 +18,7 @@ use Rattle.tre_star.specs.Parts.{SomeSteps}
 -- ---- laws of sets and of instants
 
 pub Scales-SetHolds : (zones : List ZoneBounds) → Scales (SetHolds zones)
-Scales-SetHolds zones = record {
-  up = λ k a b n pos h. (SetHolds-scale zones k a b n pos).0 h;
-  down = λ k a b n pos h. (SetHolds-scale zones k a b n pos).1 h;
-}
+Scales-SetHolds zones = search (rules, SetHolds-scale)
 
 scaled_up : (k time n a : ℕ) → time * n ≤ a → time * (k * n) ≤ k * a
 scaled_up k time n a h = let le : k * (time * n) ≤ k * a = mul-le-mul_left k h in
@@ -40,12 +37,7 @@ unscaled_down k time n b some h = let le : k * b ≤ k * (time * n) =
     omega (arith, mul_left_comm k time n) in le_of_mul-le-mul_left le some
 
 unscaled_same : (k a b : ℕ) → 0 < k → k * a ≡ k * b → a ≡ b
-unscaled_same k a b some h =
-    let there : k * a ≤ k * b = omega arith in
-    let back : k * b ≤ k * a = omega arith in
-    let le : a ≤ b = le_of_mul-le-mul_left there some in
-    let ge : b ≤ a = le_of_mul-le-mul_left back some in
-    omega arith
+unscaled_same k a b some h = search rules
 
 pub Scales-instants : (from to : ℕ) → Scales (IsInstantBetween from to)
 Scales-instants from to = record {
@@ -111,22 +103,11 @@ pub record IsClosedTo (D : ℕ → ℕ → Type 0) (x : List ZoneBounds) (E : Pa
 pub Composed-rising : (R S : Pairs) → ((a b n : ℕ) → 0 < n → R a b n → a ≤ b)
     → ((a b n : ℕ) → 0 < n → S a b n → a ≤ b) → (a b n : ℕ) → 0 < n
     → Composed R S a b n → a ≤ b
-Composed-rising R S left right a b n some h =
-    let finer = mul-pos h.positive some in
-    let first = left (h.factor * a) h.midpoint (h.factor * n) finer h.left in
-    let second = right h.midpoint (h.factor * b) (h.factor * n) finer h.right in
-    let both : h.factor * a ≤ h.factor * b = omega (arith, first, second) in
-    le_of_mul-le-mul_left both h.positive
+Composed-rising R S left right a b n some h = search rules
 
 Composed-right : (R S T : Pairs) → ((a b n : ℕ) → 0 < n → S a b n → T a b n) → (a b n : ℕ)
     → 0 < n → Composed R S a b n → Composed R T a b n
-Composed-right R S T implies a b n some h = record {
-  factor = h.factor;
-  positive = h.positive;
-  midpoint = h.midpoint;
-  left = h.left;
-  right = implies h.midpoint (h.factor * b) (h.factor * n) (mul-pos h.positive some) h.right;
-}
+Composed-right R S T implies a b n some h = search rules
 
 -- The first zones, and one more, of a list that has grown.
 first_more : (reached more next : List ZoneBounds) (place : ℕ) (zone : ZoneBounds)
@@ -134,18 +115,13 @@ first_more : (reached more next : List ZoneBounds) (place : ℕ) (zone : ZoneBou
     → (a b n : ℕ) → SetHolds (take (place + 1) next) a b n
     → SetHolds (take place reached) a b n ⊎ ZoneHolds zone a b n
 first_more reached more next place zone behind within is a b n h =
-    let front : take (place + 1) (reached ++ more) ≡ take (place + 1) reached =
-    take-append-le (place + 1) reached more (omega (arith, within)) in
-    (SetHolds-more reached place zone within is a b n).0
-    (subst (λ (zones : List ZoneBounds). SetHolds zones a b n) front
-    (subst (λ (zones : List ZoneBounds). SetHolds (take (place + 1) zones) a b n) behind h))
+    search (rules, take-append-le, within, SetHolds-more)
 
 holds_at : (zones : List ZoneBounds) (place : ℕ) (zone : ZoneBounds) → place < length zones
     → zone ≡ get_or zones place zone → (a b n : ℕ) → ZoneHolds zone a b n → SetHolds zones a b n
 unfolding SetHolds
 holds_at [] place zone within is a b n h = absurd (omega (arith, within))
-holds_at (one ∷ zones) zero zone within is a b n h =
-    inl (subst (λ (z : ZoneBounds). ZoneHolds z a b n) is h)
+holds_at (one ∷ zones) zero zone within is a b n h = search rules
 holds_at (one ∷ zones) (suc place) zone within is a b n h =
     inr (holds_at zones place zone (omega (arith, within)) is a b n h)
 

@@ -1,5 +1,5 @@
 -- A zone composed with those of a list, of which only those are looked at whose rows reach a key.
-use Rattle.std.proofs.Common.{ℕ, ◌<◌, ◌≤◌, ◌↔◌, ℤ, List, Option}
+use Rattle.std.proofs.Common.{ℕ, ◌<◌, ◌≤◌, ◌↔◌, ℤ, List, Option, rules}
 use Rattle.tre_lanes.specs.Rows.{Reaches}
 use Rattle.tre_pairs.specs.Pairs.{Pairs, Composed, Lasting}
 use Rattle.tre_zone.specs.Longest.{LastsUpTo}
@@ -18,18 +18,13 @@ module _ (longest : Option ℕ) (F : Pairs → Pairs) where
       → ((other : ZoneBounds) → IsCanonical other → (Reaches (row_of other) key → ⊥)
       → HasNoPair (F (ZoneHolds other)))
       → IsKeyOf (λ R. Lasting (LastsUpTo longest) (F R)) zones key
-  short_key zones key canonical others =
-      IsKeyOf-canonical (λ R. Lasting (LastsUpTo longest) (F R)) zones key canonical
-      (λ other is far. HasNoPair-short (LastsUpTo longest) (F (ZoneHolds other))
-      (others other is far))
+  short_key zones key canonical others = search (rules, IsKeyOf-canonical, HasNoPair-short)
 
   short_found : (zone : ZoneBounds) (found : Option ZoneBounds)
       → GivesZone found (F (ZoneHolds zone)) → (a b n : ℕ) → 0 < n → a ≤ b
       → Lasting (LastsUpTo longest) (FoundHolds found) a b n
       ↔ Lasting (LastsUpTo longest) (F (ZoneHolds zone)) a b n
-  short_found zone found given =
-      Lasting-exact (LastsUpTo longest) (FoundHolds found) (F (ZoneHolds zone))
-      (FoundHolds-exact found (F (ZoneHolds zone)) given)
+  short_found zone found given = search (rules, Lasting-exact, FoundHolds-exact)
 
 -- The zone, and then what is given, as far as it lasts at most the longest.
 abbrev pub After : Option ℕ → ZoneBounds → Pairs → Pairs
@@ -41,14 +36,10 @@ Before longest zone = λ (R : Pairs). Lasting (LastsUpTo longest) (Composed R (Z
 
 module _ (longest : Option ℕ) (zone : ZoneBounds) where
   pub After-additive : IsAdditive (After longest zone)
-  After-additive =
-      short_additive (LastsUpTo longest) (Composed (ZoneHolds zone))
-      (Composed-additive_right (ZoneHolds zone))
+  After-additive = search (rules, short_additive, Composed-additive_right)
 
   pub Before-additive : IsAdditive (Before longest zone)
-  Before-additive =
-      short_additive (LastsUpTo longest) (λ (R : Pairs). Composed R (ZoneHolds zone))
-      (Composed-additive_left (ZoneHolds zone))
+  Before-additive = search (rules, short_additive, Composed-additive_left)
 
   pub After-key : (zones : List ZoneBounds) (key : List ℤ) → AreCanonical zones
       → ((other : ZoneBounds) → IsCanonical other → (Reaches (row_of other) key → ⊥)

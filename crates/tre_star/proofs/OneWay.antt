@@ -1,5 +1,5 @@
 -- Chains of steps of which each can be followed by the next one alone.
-use Rattle.std.proofs.Common.{◌≡◌, ℕ, ◌+◌, ◌-◌, ◌*◌, ◌<◌, ◌≤◌, ◌⊎◌, ◌↔◌, List, [], ◌∷◌, ◌++◌, length, length-drop, get_or, take, drop, sym, ap, subst, ◌∙◌, inl, inr, ⊎_elim, arith}
+use Rattle.std.proofs.Common.{◌≡◌, ℕ, ◌+◌, ◌-◌, ◌*◌, ◌<◌, ◌≤◌, ◌⊎◌, ◌↔◌, List, [], ◌∷◌, ◌++◌, length, length-drop, get_or, take, drop, sym, ap, subst, ◌∙◌, inl, inr, ⊎_elim, arith, rules}
 use Rattle.std.proofs.Math.Nat.{mul-pos, le_of_mul-le-mul_left}
 use Rattle.std.proofs.lemmas.List.{drop_all, drop_more, get_or-drop, get_or_default, take-append-drop}
 use Rattle.std.specs.List.Sorted.{IsPermutation}
@@ -59,8 +59,7 @@ module _ (R E : Pairs) (rises : (a b n : ℕ) → 0 < n → R a b n → a ≤ b)
 
   chain_rising : (a b n : ℕ) → 0 < n → Chain R E a b n → a ≤ b
   chain_rising a b n some h =
-      le_of_mul-le-mul_left (lead_rising (h.factor * n) (h.factor * a) (mul-pos h.positive some)
-      h.cuts (h.factor * b) h.steps) h.positive
+      search (rules, le_of_mul-le-mul_left, lead_rising, mul-pos, h.positive, h.cuts)
 
 -- ---- a step, and those behind it
 
@@ -130,17 +129,10 @@ module _ (zone : ZoneBounds) (rest : List ZoneBounds) (E : Pairs) (scales : Scal
       (cases mid cut n h)
 
   wider : Implies (SomeSteps (SetHolds rest) E) (SomeSteps All E)
-  wider =
-      Implies-Composed (SetHolds rest) All (Chain (SetHolds rest) E) (Chain All E)
-      (record { at = behind })
-      (Implies-Chain (SetHolds rest) All E E (record { at = behind })
-      (record { at = λ a b n h. h }))
+  wider = search (rules, Implies-Composed, behind, Implies-Chain)
 
   next_wider : Implies (Begun E rest) (SomeSteps (SetHolds rest) E)
-  next_wider =
-      Implies-Composed (SetHolds (take 1 rest)) (SetHolds rest) (Chain (SetHolds rest) E)
-      (Chain (SetHolds rest) E) (record { at = SetHolds-take rest 1 })
-      (record { at = λ a b n h. h })
+  next_wider = search (rules, Implies-Composed, SetHolds-take)
 
   -- The chains that begin with the step.
   begin_cases : (a b n : ℕ) → 0 < n → Composed (ZoneHolds zone) (Chain All E) a b n
@@ -228,24 +220,12 @@ module _ (zone : ZoneBounds) (rest : List ZoneBounds) (E : Pairs) (scales : Scal
   single_to : (a b n : ℕ) → Begun E (zone ∷ rest) a b n
       → Composed (ZoneHolds zone) (Chain All E) a b n
   unfolding SetHolds
-  single_to a b n h = record {
-    factor = h.factor;
-    positive = h.positive;
-    midpoint = h.midpoint;
-    left = ⊎_elim (λ x. x) (λ x. absurd x) h.left;
-    right = h.right;
-  }
+  single_to a b n h = search rules
 
   single_from : (a b n : ℕ) → Composed (ZoneHolds zone) (Chain All E) a b n
       → Begun E (zone ∷ rest) a b n
   unfolding SetHolds
-  single_from a b n h = record {
-    factor = h.factor;
-    positive = h.positive;
-    midpoint = h.midpoint;
-    left = inl h.left;
-    right = h.right;
-  }
+  single_from a b n h = search rules
 
   all_from : (a b n : ℕ) → Composed (ZoneHolds zone) (Chain All E) a b n → SomeSteps All E a b n
   all_from a b n h = record {
@@ -258,10 +238,7 @@ module _ (zone : ZoneBounds) (rest : List ZoneBounds) (E : Pairs) (scales : Scal
 
   begun_rises : ((a b n : ℕ) → E a b n → a ≤ b) → (a b n : ℕ) → 0 < n → Begun E rest a b n
       → a ≤ b
-  begun_rises same =
-      Composed-rising (SetHolds (take 1 rest)) (Chain (SetHolds rest) E)
-      (λ a b n some h. rises a b n some (behind a b n (SetHolds-take rest 1 a b n h)))
-      (chain_rising (SetHolds rest) E (λ a b n some h. rises a b n some (behind a b n h)) same)
+  begun_rises same = search (rules, Composed-rising, rises, behind, SetHolds-take, chain_rising)
 
   module _ (D : ℕ → ℕ → Type 0) (down : IsDownward D) (finer : DurationScales D)
       (same : (a b n : ℕ) → E a b n → a ≤ b) where
@@ -494,23 +471,10 @@ pub begun_made : (old new : List ZoneBounds) (P Q R : Pairs)
     → HoldExactly old (Either (SetHolds []) P)
     → HoldExactly new (Either (SetHolds old) Q)
     → ((a b n : ℕ) → 0 < n → a ≤ b → Q a b n ↔ R a b n) → HoldExactly new (Either P R)
-begun_made old new P Q R first second same = record {
-  exact = λ a b n some le.
-      let one = first.exact a b n some le in
-      let two = second.exact a b n some le in
-      let both = same a b n some le in (
-        (λ h. ⊎_elim
-            (λ x. ⊎_elim (λ y. absurd (SetHolds-empty a b n y)) (λ y. inl y) (one.0 x))
-            (λ x. inr (both.0 x)) (two.0 h)),
-        (λ h. two.1 (⊎_elim (λ x. inl (one.1 (inr x))) (λ x. inr (both.1 x)) h)),
-      );
-}
+begun_made old new P Q R first second same =
+    search (rules, SetHolds-empty, first.exact, second.exact)
 
 pub HoldExactly-turned : (zones turned : List ZoneBounds) (P : Pairs) → IsPermutation zones turned
     → HoldExactly zones P → HoldExactly turned P
-HoldExactly-turned zones turned P order held = record {
-  exact = λ a b n some le.
-      let one = held.exact a b n some le in
-      let two = SetHolds-permutation zones turned a b n order in
-      ((λ h. one.0 (two.0 h)), (λ h. two.1 (one.1 h)));
-}
+HoldExactly-turned zones turned P order held =
+    search (rules, held, SetHolds-permutation, held.exact)

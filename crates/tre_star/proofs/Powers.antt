@@ -1,10 +1,10 @@
 -- The pairs of a zone of long durations are led through by equal steps of the zone it is a limit
 -- of.
-use Rattle.std.proofs.Common.{◌≡◌, ℕ, zero, suc, ◌+◌, ◌-◌, ◌*◌, ◌<◌, ◌≤◌, ⊎_elim, refl, sym, ap, subst, arith, ℤ, pos, neg_ℤ, negsuc, nat_abs, ◌/◌, ◌+ℤ◌, ◌*ℤ◌, ◌≤ℤ◌, ◌∷◌, [], ◌++◌, List, Option, Some, None, IfSome, inl, inr}
+use Rattle.std.proofs.Common.{◌≡◌, ℕ, zero, suc, ◌+◌, ◌-◌, ◌*◌, ◌<◌, ◌≤◌, ⊎_elim, refl, sym, ap, subst, arith, ℤ, pos, neg_ℤ, negsuc, nat_abs, ◌/◌, ◌+ℤ◌, ◌*ℤ◌, ◌≤ℤ◌, ◌∷◌, [], ◌++◌, List, Option, Some, None, IfSome, inl, inr, rules}
 use Rattle.std.specs.Int.{int_min}
 use Rattle.std.proofs.lemmas.Int.{ints, clamps}
 use Rattle.std.proofs.lemmas.Bool.{cases_lt}
-use Rattle.std.proofs.Math.Nat.{mul-le-mul_left, mul-le-mul_right, mul-lt-mul_of_pos_right, mul-pos, lt-mul-div-succ}
+use Rattle.std.proofs.Math.Nat.{mul-le-mul_right, mul-lt-mul_of_pos_right, mul-pos}
 use Rattle.tre_pairs.specs.Pairs.{Pairs, Both, Lasting, Chain}
 use Rattle.tre_pairs.specs.SameTime.{SameTime}
 use Rattle.tre_pairs.proofs.Steps.{Chain-even, Chain-longer}
@@ -37,8 +37,7 @@ lasts key least p d m e lt = record { met = rw (e, down_product least m) (omega 
 
 lasted : (key : ℤ) (least a b n : ℕ) → value_of key ≡ neg_ℤ (pos least) → a ≤ b
     → Meets key a b n → least * n < (b - a) + weakness_of key
-lasted key least a b n e le m =
-    let met = rw (e, down_product least n) at m.met in omega (arith, ints)
+lasted key least a b n e le m = search rules
 
 is_short : (key : ℤ) (most p d m : ℕ) → value_of key ≡ pos most → d < most * m
     → Meets key (p + d) p m
@@ -100,14 +99,7 @@ strict_like key like c e other = let s = split key in let t = split like in
 
 pub overlaps : (least most : ℕ) → least < most
     → (least / (most - least) + 1 + 1) * least < (least / (most - least) + 1) * most
-overlaps least most less =
-    let gap = most - least in
-    let some : 0 < gap = omega (arith, less) in
-    let more : least < gap * (least / gap + 1) = lt-mul-div-succ least some in
-    let count = least / gap + 1 in
-    let whole : gap + least ≡ most = omega (arith, less) in
-    let times : count * (gap + least) ≡ count * most = ap (λ (t : ℕ). count * t) whole in
-    omega (arith, more, times)
+overlaps least most less = search rules
 
 -- So many equal steps that each lasts at least the least and less than the most.
 record Parting (least most weakness d n : ℕ) : Type 0 where
@@ -119,12 +111,7 @@ record Parting (least most weakness d n : ℕ) : Type 0 where
 part_from : (fuel least most weakness d n count : ℕ) → 0 < n → 0 < count → least < most
     → (count + 1) * least < count * most → least * (count * n) < d + weakness
     → d < most * ((count + fuel) * n) → Parting least most weakness d n
-part_from zero least most weakness d n count fine some less overlap low enough = record {
-  count = count;
-  some = some;
-  low = low;
-  high = omega (arith, enough);
-}
+part_from zero least most weakness d n count fine some less overlap low enough = search rules
 part_from (suc fuel) least most weakness d n count fine some less overlap low enough =
     ⊎_elim
     (λ high. record { count = count; some = some; low = low; high = high })
@@ -136,12 +123,7 @@ part_from (suc fuel) least most weakness d n count fine some less overlap low en
     (cases_lt d (most * (count * n)))
 
 enough_steps : (most d n count : ℕ) → 0 < n → 0 < most → d < most * ((count + (d + 1)) * n)
-enough_steps most d n count fine some =
-    let all = count + (d + 1) in
-    let wide : all * 1 ≤ all * n = mul-le-mul_left all (omega (arith, fine)) in
-    let long : 1 * (all * n) ≤ most * (all * n) = mul-le-mul_right (all * n) (omega (arith, some))
-    in
-    omega (arith, wide, long)
+enough_steps most d n count fine some = search rules
 
 -- ---- the steps
 
@@ -216,9 +198,7 @@ pub limit_given : (answer : Option ZoneBounds) (limit zone : ZoneBounds)
     → GivesZone answer (Both (ZoneHolds limit) (IsInFrame TIME_MAX)) → AreChainsOf limit zone
     → IfSome answer (λ found. AreChainsOf found zone)
 limit_given None limit zone given is = tt
-limit_given (Some found) limit zone given is = record {
-  leads = λ a b n some le held. is.leads a b n some le ((given.exact a b n some le).0 held).left;
-}
+limit_given (Some found) limit zone given is = search rules
 
 -- ---- the steps of zones
 

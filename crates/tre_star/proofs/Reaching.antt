@@ -1,10 +1,9 @@
 -- A zone that is added reaches its own row, which no zone reached before, and each row that was
 -- reached.
-use Rattle.std.proofs.Common.{◌≡◌, ℕ, ◌+◌, ◌*◌, ◌^◌, ◌<◌, ◌≤◌, ◌⊎◌, Bool, true, false, cond, leb, List, [], ◌∷◌, ◌++◌, length-append, append_assoc, Any, refl, sym, ◌∙◌, ap, inl, inr, ⊎_elim, Decides, arith, ℤ, pos, negsuc, ◌≤ℤ◌}
+use Rattle.std.proofs.Common.{◌≡◌, ℕ, ◌+◌, ◌*◌, ◌^◌, ◌<◌, ◌≤◌, ◌⊎◌, Bool, true, false, cond, List, [], ◌∷◌, ◌++◌, length-append, append_assoc, Any, refl, sym, ◌∙◌, ap, inl, inr, ⊎_elim, Decides, arith, ℤ, pos, negsuc, ◌≤ℤ◌, rules}
 use Rattle.std.proofs.lemmas.Int.{ints}
-use Rattle.std.proofs.lemmas.List.{append-nil}
-use Rattle.std.proofs.lemmas.Bool.{leb-true, le-leb, false≢true}
-use Rattle.std.proofs.lemmas.Bool.Decides.{Decides-and, Decides-or}
+use Rattle.std.proofs.lemmas.Bool.{false≢true}
+use Rattle.std.proofs.lemmas.Bool.Decides.{Decides-or}
 use Rattle.tre_zone.specs.Bound.{IsKeyWithin}
 use Rattle.tre_zone.specs.Zone.{IsCanonical, Includes, Covers, AreKeysWithin}
 use Rattle.tre_zone.specs.ZoneList.{AreCanonical}
@@ -24,8 +23,7 @@ unfolding place_of
 place-back side (pos a) (pos b) i o le = omega (arith, ints)
 place-back side (pos a) (negsuc b) i o le = let low = o.low in omega (arith, ints)
 place-back side (negsuc a) (pos b) i o le = omega (arith, ints)
-place-back side (negsuc a) (negsuc b) i o le = let low = o.low in let other = i.low in
-    omega (arith, ints)
+place-back side (negsuc a) (negsuc b) i o le = search rules
 
 place-within : (side : ℕ) (key : ℤ) → IsKeyWithin side key → place_of side key < 2 * side + 1
 unfolding place_of
@@ -46,34 +44,10 @@ unfoldable Reached : ℕ → List ZoneBounds → Row → Type 0
 Reached side [] row = ⊥
 Reached side (zone ∷ zones) row = Reaches side zone row ⊎ Reached side zones row
 
-leb-decides : (a b : ℕ) → Decides (leb a b) (a ≤ b)
-leb-decides a b = (leb-true a b, le-leb a b)
-
 reaches-decides : (side : ℕ) (zone : ZoneBounds) (row : Row)
     → Decides (is_reached_by side zone row) (Reaches side zone row)
 unfolding is_reached_by
-reaches-decides side zone row =
-    let two = Decides-and _ _ (leb-decides row.begin_low (place_of side zone.begin_low))
-    (leb-decides row.begin_high (place_of side zone.begin_high)) in
-    let three = Decides-and _ _ two (leb-decides row.end_low (place_of side zone.end_low)) in
-    let four = Decides-and _ _ three (leb-decides row.end_high (place_of side zone.end_high)) in
-    let five = Decides-and _ _ four (leb-decides row.dur_low (place_of side zone.dur_low)) in
-    let six = Decides-and _ _ five (leb-decides row.dur_high (place_of side zone.dur_high)) in (
-      (λ t.
-          let p = six.0 t in
-          record {
-            begin_low = p.0.0.0.0.0;
-            begin_high = p.0.0.0.0.1;
-            end_low = p.0.0.0.1;
-            end_high = p.0.0.1;
-            dur_low = p.0.1;
-            dur_high = p.1;
-          }),
-      (λ r. six.1 (
-        ((((r.begin_low, r.begin_high), r.end_low), r.end_high), r.dur_low),
-        r.dur_high,
-      )),
-    )
+reaches-decides side zone row = search rules
 
 reached-decides : (side : ℕ) (zones : List ZoneBounds) (row : Row)
     → Decides (is_reached side zones row) (Reached side zones row)
@@ -106,14 +80,7 @@ own_row side zone = record {
 }
 
 Reaches-own : (side : ℕ) (zone : ZoneBounds) → Reaches side zone (own_row side zone)
-Reaches-own side zone = record {
-  begin_low = omega arith;
-  begin_high = omega arith;
-  end_low = omega arith;
-  end_high = omega arith;
-  dur_low = omega arith;
-  dur_high = omega arith;
-}
+Reaches-own side zone = search rules
 
 Covers-own : (side : ℕ) (member zone : ZoneBounds) → AreKeysWithin side member
     → AreKeysWithin side zone → Reaches side member (own_row side zone)
@@ -204,12 +171,7 @@ missed-added old zone all canonical none = falls (2 ^ 42) canonical-keys old zon
 -- ---- lists that grow
 
 pub HasGrown-none : (zones : List ZoneBounds) → AreCanonical zones → HasGrown zones zones
-HasGrown-none zones all = record {
-  canonical = all;
-  more = [];
-  behind = sym (append-nil zones);
-  fewer = omega arith;
-}
+HasGrown-none zones all = search rules
 
 pub HasGrown-added : (old : List ZoneBounds) (zone : ZoneBounds) → AreCanonical old
     → IsCanonical zone → (Any (λ member. Includes member zone) old → ⊥)

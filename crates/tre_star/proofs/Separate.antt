@@ -1,5 +1,5 @@
 -- Steps of which the ones end before the others begin, and the chains of each.
-use Rattle.std.proofs.Common.{◌≡◌, ℕ, suc, ◌+◌, ◌-◌, ◌*◌, ◌^◌, ◌<◌, ◌≤◌, ◌⊎◌, ◌↔◌, List, [], ◌∷◌, ◌++◌, length, take, drop, get_or, refl, sym, ap, subst, ◌∙◌, inl, inr, ⊎_elim, arith, w64, ℤ, pos, negsuc, ◌≤ℤ◌, ◌<ℤ◌, ◌+ℤ◌}
+use Rattle.std.proofs.Common.{◌≡◌, ℕ, suc, ◌+◌, ◌-◌, ◌*◌, ◌^◌, ◌<◌, ◌≤◌, ◌⊎◌, ◌↔◌, List, [], ◌∷◌, ◌++◌, length, take, drop, get_or, refl, sym, ap, subst, ◌∙◌, inl, inr, ⊎_elim, arith, w64, ℤ, pos, negsuc, ◌≤ℤ◌, ◌<ℤ◌, ◌+ℤ◌, rules}
 use Rattle.std.specs.List.{slice_range}
 use Rattle.std.proofs.lemmas.Bool.{cases_lt}
 use Rattle.std.proofs.lemmas.Int.{ints, to_z-of_z}
@@ -77,9 +77,7 @@ module _ (A B T E : Pairs) (scales_a : Scales A) (scales_b : Scales B)
   }
 
   more_steps : (R : Pairs) → Implies R T → Implies (SomeSteps R E) (SomeSteps T E)
-  more_steps R implies =
-      Implies-Composed R T (Chain R E) (Chain T E) implies
-      (Implies-Chain R T E E implies (record { at = λ a b n h. h }))
+  more_steps R implies = search (rules, Implies-Composed, Implies-Chain)
 
   -- So the chains are those of the one and those of the other.
   pub SomeSteps-apart : (a b n : ℕ) → 0 < n
@@ -130,11 +128,8 @@ module _ (A B T E : Pairs) (scales_a : Scales A) (scales_b : Scales B)
 BeginFrom-more : (key next : ℤ) (zone : ZoneBounds) (zones : List ZoneBounds) → key ≤ℤ next
     → zone.begin_low ≤ℤ next → BeginFrom key zones → BeginFrom next (zone ∷ zones)
 unfolding SetHolds
-BeginFrom-more key next zone zones le own old = record {
-  each = λ a b n some h. ⊎_elim
-      (λ x. Meets-looser zone.begin_low next 0 a n some own x.begin_low)
-      (λ x. Meets-looser key next 0 a n some le (old.each a b n some x)) h;
-}
+BeginFrom-more key next zone zones le own old =
+    search (rules, Meets-looser, zone.begin_low, old.each)
 
 slice_more : (zones : List ZoneBounds) (start end : ℕ) (zone : ZoneBounds) → start ≤ end
     → end < length zones → zone ≡ get_or zones end zone
@@ -183,16 +178,12 @@ ends_before begin reach b c n some gap ends begins =
 
 pub LieBefore-behind : (begin reach : ℤ) (early late : List ZoneBounds)
     → (begin +ℤ reach) <ℤ pos 1 → PairsEndBy reach early → BeginFrom begin late → LieBefore early late
-LieBefore-behind begin reach early late gap ends begins = record {
-  each = λ a b c d n some x y. ends_before begin reach b c n some gap (ends.each a b n some x)
-      (begins.each c d n some y);
-}
+LieBefore-behind begin reach early late gap ends begins =
+    search (rules, ends_before, ends.each, begins.each)
 
 pub LieBefore-none : (early zones : List ZoneBounds) (place : ℕ) → length zones ≤ place
     → LieBefore early (drop place zones)
-LieBefore-none early zones place past =
-    rw (drop_all place zones past)
-    (record { each = λ a b c d n some x y. absurd (SetHolds-empty c d n y) })
+LieBefore-none early zones place past = search (rules, drop_all, SetHolds-empty)
 
 -- ---- keys, as the machine holds them
 
@@ -201,8 +192,7 @@ fits (pos n) within = let high = within.high in omega (arith, ints)
 fits (negsuc n) within = let low = within.low in omega (arith, ints)
 
 pub wider : (key : ℤ) → IsKeyWithin (2 ^ 42) key → IsKeyWithin (2 ^ 50) key
-wider key within = let low = within.low in let high = within.high in
-    record { low = omega (arith, ints); high = omega (arith, ints) }
+wider key within = search rules
 
 pub held_as : (key : ℤ) → IsKeyWithin (2 ^ 50) key → to_z w64 (of_z w64 key) ≡ key
 held_as key within = to_z-of_z w64 key (fits key within)
@@ -210,9 +200,6 @@ held_as key within = to_z-of_z w64 key (fits key within)
 pub key_at : (key : ℤ) (pick : ZoneBounds → ℤ) (bounds zone : ZoneBounds) → SFits w64 key
     → key ≡ pick bounds → bounds ≡ zone → to_z w64 (of_z w64 key) ≡ pick zone
 key_at key pick bounds zone small is same = to_z-of_z w64 key small ∙ is ∙ ap pick same
-
-pub as_held : (P : ℤ → Type 0) (key : ℤ) → SFits w64 key → P key → P (to_z w64 (of_z w64 key))
-as_held P key small p = subst P (sym (to_z-of_z w64 key small)) p
 
 -- ---- the begins of the last zones
 

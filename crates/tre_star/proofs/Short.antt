@@ -1,55 +1,34 @@
 -- Unions, compositions and chains of which only the short pairs count.
-use Rattle.std.proofs.Common.{◌≡◌, ◌-◌, subst, arith, ℕ, ◌<◌, ◌≤◌, ◌↔◌, List, Option, Some, None, inl, inr, ⊎_elim}
+use Rattle.std.proofs.Common.{◌-◌, ℕ, ◌<◌, ◌≤◌, ◌↔◌, List, Option, Some, None, rules}
 use Rattle.tre_pairs.specs.Pairs.{Pairs, Either, Lasting}
 use Rattle.tre_zone.specs.Longest.{LastsUpTo}
 use Rattle.tre_zone.specs.Zone.{IsInstantBetween, HasNoPair, ZoneHolds, GivesZone}
 use Rattle.tre_zone.specs.ZoneList.{SetHolds, HoldExactly}
 use Rattle.tre_zone.specs.declared.zone_bounds.ZoneBounds.{ZoneBounds}
-use Rattle.tre_zone.proofs.Lasting.{LastsUpTo-all, LastsUpTo-none}
 use Rattle.tre_zoneset.specs.ZoneSet.{FoundHolds}
-use Rattle.tre_zoneset.proofs.Unions.{IsAdditive, Lasting-additive, HoldExactly-itself, FoundHolds-exact}
+use Rattle.tre_zoneset.proofs.Unions.{IsAdditive, FoundHolds-exact}
 
 pub short_additive : (D : ℕ → ℕ → Type 0) (F : Pairs → Pairs) → IsAdditive F
     → IsAdditive (λ R. Lasting D (F R))
-short_additive D F additive R S T same =
-    Lasting-additive D (F R) (F S) (F T) (additive R S T same)
+short_additive D F additive R S T same = search rules
 
 pub Lasting-exact : (D : ℕ → ℕ → Type 0) (P Q : Pairs)
     → ((a b n : ℕ) → 0 < n → a ≤ b → P a b n ↔ Q a b n) → (a b n : ℕ) → 0 < n → a ≤ b
     → Lasting D P a b n ↔ Lasting D Q a b n
-Lasting-exact D P Q same a b n some le =
-    let both = same a b n some le in (
-      (λ h. record { related = both.0 h.related; admitted = h.admitted }),
-      (λ h. record { related = both.1 h.related; admitted = h.admitted }),
-    )
+Lasting-exact D P Q same a b n some le = search rules
 
 pub HasNoPair-short : (D : ℕ → ℕ → Type 0) (R : Pairs) → HasNoPair R → HasNoPair (Lasting D R)
-HasNoPair-short D R none = record {
-  never = λ a b n some le h. none.never a b n some le h.related;
-}
+HasNoPair-short D R none = search rules
 
 -- Where there is no longest, all count.
 pub HoldExactly-unbounded : (zones : List ZoneBounds) (R : Pairs)
     → HoldExactly zones (Lasting (LastsUpTo None) R) → HoldExactly zones R
-HoldExactly-unbounded zones R held = record {
-  exact = λ a b n some le.
-      let one = held.exact a b n some le in (
-        (λ h. (one.0 h).related),
-        (λ h. one.1 (record { related = h; admitted = LastsUpTo-all _ n })),
-      );
-}
+HoldExactly-unbounded zones R held = search rules
 
 pub HoldExactly-same : (zones : List ZoneBounds) (start P Q : Pairs)
     → ((a b n : ℕ) → 0 < n → a ≤ b → P a b n ↔ Q a b n)
     → HoldExactly zones (Either start P) → HoldExactly zones (Either start Q)
-HoldExactly-same zones start P Q same held = record {
-  exact = λ a b n some le.
-      let one = held.exact a b n some le in
-      let both = same a b n some le in (
-        (λ h. ⊎_elim (λ x. inl x) (λ x. inr (both.0 x)) (one.0 h)),
-        (λ h. one.1 (⊎_elim (λ x. inl x) (λ x. inr (both.1 x)) h)),
-      );
-}
+HoldExactly-same zones start P Q same held = search rules
 
 -- The zone that was found, cut to the longest.
 pub gathered_some : (longest : Option ℕ) (zone : ZoneBounds) (cut : Option ZoneBounds)
@@ -58,36 +37,21 @@ pub gathered_some : (longest : Option ℕ) (zone : ZoneBounds) (cut : Option Zon
     → HoldExactly new (Either (SetHolds start) (FoundHolds cut))
     → HoldExactly new (Either (SetHolds start) (Lasting (LastsUpTo longest) (ZoneHolds zone)))
 gathered_some longest zone cut start new given held =
-    HoldExactly-same new (SetHolds start) (FoundHolds cut)
-    (Lasting (LastsUpTo longest) (ZoneHolds zone))
-    (FoundHolds-exact cut (Lasting (LastsUpTo longest) (ZoneHolds zone)) given) held
+    search (rules, HoldExactly-same, FoundHolds-exact)
 
 pub found_some : (longest : Option ℕ) (zone : ZoneBounds) (start new : List ZoneBounds)
     → HoldExactly new (Either (SetHolds start) (Lasting (LastsUpTo longest) (ZoneHolds zone)))
     → HoldExactly new (Either (SetHolds start) (Lasting (LastsUpTo longest)
     (FoundHolds (Some zone))))
 unfolding FoundHolds
-found_some longest zone start new held =
-    record {
-      exact = λ a b n some le.
-          let one = held.exact a b n some le in (
-            (λ h. ⊎_elim (λ x. inl x)
-                (λ x. inr (record { related = x.related; admitted = x.admitted })) (one.0 h)),
-            (λ h. one.1 (⊎_elim (λ x. inl x)
-                (λ x. inr (record { related = x.related; admitted = x.admitted })) h)),
-          );
-    }
+found_some longest zone start new held = search rules
 
 pub found_none : (longest : Option ℕ) (zones : List ZoneBounds)
     → HoldExactly zones (Either (SetHolds zones) (Lasting (LastsUpTo longest) (FoundHolds None)))
 unfolding FoundHolds
-found_none longest zones =
-    HoldExactly-itself zones (Lasting (LastsUpTo longest) (FoundHolds None))
-    (λ a b n some le h. absurd h.related)
+found_none longest zones = search rules
 
 -- An instant lasts no longer than any longest.
 pub instants_short : (longest : Option ℕ) (from to a b n : ℕ) → IsInstantBetween from to a b n
     → LastsUpTo longest (b - a) n
-instants_short longest from to a b n h =
-    let zero : 0 ≡ b - a = omega (arith, h.same) in
-    subst (λ (d : ℕ). LastsUpTo longest d n) zero (LastsUpTo-none longest n)
+instants_short longest from to a b n h = search rules

@@ -1,19 +1,18 @@
 -- A step that can't follow itself, alone: its chains are those of one step.
-use Rattle.std.proofs.Common.{◌≡◌, ℕ, ◌<◌, ◌≤◌, ◌↔◌, List, [], ◌∷◌, length, get_or, Option, Some, None, ap, sym, inl, inr, ⊎_elim, arith}
+use Rattle.std.proofs.Common.{◌≡◌, ℕ, ◌<◌, ◌≤◌, ◌↔◌, List, [], ◌∷◌, length, get_or, Option, Some, None, ap, sym, inl, inr, ⊎_elim, arith, rules}
 use Rattle.tre_pairs.specs.Pairs.{Pairs, Either, Both, Composed, Lasting}
 use Rattle.tre_pairs.proofs.Laws.{Scales, DurationScales}
 use Rattle.tre_pairs.proofs.Shortening.{IsDownward}
 use Rattle.tre_zone.specs.Zone.{ZoneHolds, HasNoPair, GivesZone}
 use Rattle.tre_zone.specs.ZoneList.{SetHolds, AreCanonical, HoldExactly}
 use Rattle.tre_zone.specs.declared.zone_bounds.ZoneBounds.{ZoneBounds}
-use Rattle.tre_zone.proofs.Given.{GivesZone-same}
 use Rattle.tre_zone.proofs.ZoneListLemmas.{SetHolds-empty, AreCanonical-empty}
 use Rattle.tre_zoneset.specs.ZoneSet.{FoundHolds}
 use Rattle.tre_zoneset.proofs.Unions.{HoldExactly-none, FoundHolds-exact}
 use Rattle.tre_star.specs.OneWay.{LeadOn}
 use Rattle.tre_star.specs.Parts.{SomeSteps}
 use Rattle.tre_star.proofs.OneWay.{begun_exact}
-use Rattle.tre_star.proofs.Short.{HoldExactly-same, HasNoPair-short, Lasting-exact}
+use Rattle.tre_star.proofs.Short.{HasNoPair-short}
 
 is_one : (steps : List ZoneBounds) (zone : ZoneBounds) → length steps ≡ 1
     → zone ≡ get_or steps 0 zone → steps ≡ zone ∷ []
@@ -75,42 +74,28 @@ module _ (D : ℕ → ℕ → Type 0) (E : Pairs) (down : IsDownward D) (finer :
 -- Chains that share no pair with some share none with a list of theirs.
 pub HasNoPair-part : (chains : Pairs) (P : Pairs) (part : List ZoneBounds) → HoldExactly part P
     → HasNoPair (Both chains P) → HasNoPair (Both chains (SetHolds part))
-HasNoPair-part chains P part held apart = record {
-  never = λ a b n some le h. apart.never a b n some le
-      (record { left = h.left; right = (held.exact a b n some le).0 h.right });
-}
+HasNoPair-part chains P part held apart = search rules
 
 pub HasNoPair-found : (chains P : Pairs) (found : Option ZoneBounds)
     → ((a b n : ℕ) → 0 < n → a ≤ b → FoundHolds found a b n ↔ P a b n)
     → HasNoPair (Both chains P) → HasNoPair (Both chains (FoundHolds found))
-HasNoPair-found chains P found same apart = record {
-  never = λ a b n some le h. apart.never a b n some le
-      (record { left = h.left; right = (same a b n some le).0 h.right });
-}
+HasNoPair-found chains P found same apart = search rules
 
 pub part_added : (chains P : Pairs) (part new : List ZoneBounds) → HoldExactly part P
     → HoldExactly new (Either chains (SetHolds part)) → HoldExactly new (Either chains P)
-part_added chains P part new own held =
-    HoldExactly-same new chains (SetHolds part) P (λ a b n some le. own.exact a b n some le) held
+part_added chains P part new own held = search rules
 
 pub found_apart : (chains : List ZoneBounds) (zone : ZoneBounds)
     → HasNoPair (Both (SetHolds chains) (FoundHolds (Some zone)))
     → HasNoPair (Both (SetHolds chains) (ZoneHolds zone))
 unfolding FoundHolds
-found_apart chains zone apart = record {
-  never = λ a b n some le h. apart.never a b n some le
-      (record { left = h.left; right = h.right });
-}
+found_apart chains zone apart = search rules
 
 -- What was found, cut to the durations.
 pub short_some : (D : ℕ → ℕ → Type 0) (zone : ZoneBounds) (short : Option ZoneBounds) (P : Pairs)
     → GivesZone (Some zone) P → GivesZone short (Lasting D (ZoneHolds zone))
     → GivesZone short (Lasting D P)
-short_some D zone short P is given =
-    GivesZone-same short (Lasting D (ZoneHolds zone)) (Lasting D P)
-    (λ a b n some le. Lasting-exact D (ZoneHolds zone) P
-    (λ c d m pos rising. is.exact c d m pos rising) a b n some le)
-    given
+short_some D zone short P is given = search rules
 
 pub short_none : (D : ℕ → ℕ → Type 0) (P : Pairs) → GivesZone None P
     → GivesZone None (Lasting D P)

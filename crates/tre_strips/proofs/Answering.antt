@@ -1,5 +1,5 @@
 -- The list of the strips, and that there is one.
-use Rattle.std.proofs.Common.{◌≡◌, ℕ, ◌*◌, ◌<◌, ◌↔◌, List, sym}
+use Rattle.std.proofs.Common.{◌≡◌, ℕ, ◌<◌, ◌↔◌, List, sym, rules}
 use Rattle.std.specs.Prelude.{Contains}
 use Rattle.std.specs.List.Sorted.{IsStrictlySortedBy}
 use Rattle.tre_pairs.specs.Pairs.{Pairs}
@@ -8,7 +8,6 @@ use Rattle.tre_zone.specs.ZoneList.{SetHolds, AreCanonical, HoldExactly}
 use Rattle.tre_zone.specs.declared.zone_bounds.ZoneBounds.{ZoneBounds}
 use Rattle.tre_zone.proofs.TightBounds.{canonical_from_tight}
 use Rattle.tre_zone.proofs.Tightness.{canonical-tight}
-use Rattle.tre_strips.specs.Profile.{BarsFit}
 use Rattle.tre_strips.specs.Runs.{IsRunOfBars, IsInStrip}
 use Rattle.tre_strips.specs.Listed.{AreListed, compare_lines}
 use Rattle.tre_strips.specs.Strips.{IsStripZone, of_run, of_time, AreStrips}
@@ -23,9 +22,7 @@ use Rattle.tre_strips.proofs.Whole.{IsProfile-pairs, strip_held}
 strip_canonical : (set : List ZoneBounds) → AreCanonical set → (zone : ZoneBounds)
     → IsStripZone (SetHolds set) zone → IsTight zone → IsCanonical zone
 strip_canonical set canonical zone strip tight =
-    canonical_from_tight zone (strip_some set canonical zone strip) tight
-    (λ a b n some le h.
-    set_framed set canonical a b n some (strip_held set canonical zone strip a b n some le h))
+    search (rules, canonical_from_tight, strip_some, strip, set_framed, strip_held)
 
 module _ (set : List ZoneBounds) (canonical : AreCanonical set) (found zones : List ZoneBounds)
     (are : AreFound set found)
@@ -63,24 +60,9 @@ module _ (set : List ZoneBounds) (canonical : AreCanonical set) (found zones : L
 pub HoldExactly-found : (set found zones : List ZoneBounds) → AreFound set found
     → ((zone : ZoneBounds) → Contains zones zone ↔ Contains found zone)
     → HoldExactly zones (SetHolds set)
-HoldExactly-found set found zones are same = record {
-  exact = λ a b n some le.
-      let both = same_members_held zones found same a b n in
-      let own = are.held.exact a b n some le in
-      ((λ h. own.0 (both.0 h)), (λ h. both.1 (own.1 h)));
-}
+HoldExactly-found set found zones are same = search (rules, same_members_held, are.held.exact)
 
 -- ---- sets with the same pairs have the same strips
-
-module _ (M N : Pairs) (same : (a b n : ℕ) → 0 < n → M a b n ↔ N a b n) where
-  Fits-pairs : (bars : List Bar) (time : ℕ) → BarsFit M bars time → BarsFit N bars time
-  Fits-pairs bars time fits = record {
-    filled = fits.filled;
-    exact = λ b n some.
-        let one = fits.exact b n some in
-        let both = same (time * n) b n some in
-        ((λ h. both.0 (one.0 h)), (λ h. one.1 (both.1 h)));
-  }
 
 module _ (M N : Pairs) (same : (a b n : ℕ) → 0 < n → M a b n ↔ N a b n)
     (back : (a b n : ℕ) → 0 < n → N a b n ↔ M a b n) where
@@ -95,12 +77,7 @@ module _ (M N : Pairs) (same : (a b n : ℕ) → 0 < n → M a b n ↔ N a b n)
 
   IsInStrip-pairs : (bars : List Bar) (from until a n : ℕ) → IsInStrip M bars from until a n
       → IsInStrip N bars from until a n
-  IsInStrip-pairs bars from until a n strip = record {
-    low = strip.low;
-    high = strip.high;
-    first = λ e. Fits-pairs M N same bars from (strip.first e);
-    last = λ e. Fits-pairs M N same bars until (strip.last e);
-  }
+  IsInStrip-pairs bars from until a n strip = search rules
 
 module _ (M N : Pairs) (same : (a b n : ℕ) → 0 < n → M a b n ↔ N a b n)
     (back : (a b n : ℕ) → 0 < n → N a b n ↔ M a b n) where

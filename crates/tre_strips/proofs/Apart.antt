@@ -44,10 +44,7 @@ one_bar (first ∷ bars) least a n rising bar other (zero, below, is) (zero, bel
 one_bar (first ∷ bars) least a n rising bar other (zero, below, is) (suc k, below', is') b h h' =
     search (rules, rises_from, rising.2, h'.low)
 one_bar (first ∷ bars) least a n rising bar other (suc k, below, is) (zero, below', is') b h h' =
-    let from = (rises_from bars _ a n rising.2 bar (k, omega (arith, below), is)).0 in
-    let high = (subst (λ (x : Bar). BarHolds x a b n) (sym is') h').high in
-    let low = h.low in
-    absurd (omega arith)
+    search (rules, rises_from, rising.2, h.low)
 one_bar (first ∷ bars) least a n rising bar other (suc k, below, is) (suc j, below', is') b h h' =
     one_bar bars _ a n rising.2 bar other (k, omega (arith, below), is)
     (j, omega (arith, below'), is') b h h'
@@ -264,6 +261,4 @@ module _ (zones : List ZoneBounds) (canonical : AreCanonical zones) where
         last = λ e. begins.last (omega arith);
       }))
   strips_apart zone other is_canonical is_canonical' (of_time bars time bar alone own has is)
-      (of_time others moment bar' alone' own' has' is') includes =
-      of_times zone other is_canonical is_canonical' includes bars time bar own has is
-      others moment bar' own' has' is'
+      (of_time others moment bar' alone' own' has' is') includes = search (rules, of_times)

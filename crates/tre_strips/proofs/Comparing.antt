@@ -1,6 +1,6 @@
 -- Whether an end stands before another over some times, seen at one of them; and cut times.
-use Rattle.std.proofs.Common.{◌≡◌, ◌≢◌, ℕ, ◌+◌, ◌-◌, ◌*◌, ◌<◌, ◌≤◌, ◌↔◌, Bool, true, false, cond, IsTrue, refl, sym, ap, arith, inl, inr, ⊎_elim, true≢false, mul-le-mul_right}
-use Rattle.std.proofs.lemmas.Bool.{cases_eq, cases_lt}
+use Rattle.std.proofs.Common.{◌≡◌, ℕ, ◌+◌, ◌-◌, ◌*◌, ◌<◌, ◌≤◌, ◌↔◌, Bool, true, false, cond, IsTrue, refl, sym, ap, arith, inl, inr, ⊎_elim, true≢false, mul-le-mul_right, rules}
+use Rattle.std.proofs.lemmas.Bool.{cases_lt}
 use Rattle.tre_strips.specs.Bar.{place_of}
 use Rattle.tre_strips.specs.Times.{IsAmongTimes, Narrows, sample_of, IsSettled, Compares}
 use Rattle.tre_strips.specs.declared.bar.BarEnd.{BarEnd}
@@ -8,24 +8,11 @@ use Rattle.tre_strips.specs.declared.times.Times.{Times}
 
 -- Where a/n is one of them, the times do not end before they begin.
 pub times_rise : (times : Times) (a n : ℕ) → IsAmongTimes times a n → times.from ≤ times.until
-times_rise times a n time =
-    ⊎_elim (λ one. let same = one.0 in omega arith)
-    (λ many. ⊎_elim (λ (less : times.from < times.until). omega arith)
-    (λ (above : times.until ≤ times.from).
-    let wide = mul-le-mul_right n above in
-    let low = many.0 in
-    let high = many.1 in
-    absurd (omega arith))
-    (cases_lt times.from times.until)) time.inside
+times_rise times a n time = search rules
 
 pub sample_is_time : (times : Times) → times.from ≤ times.until → IsAmongTimes times (sample_of times) 2
 unfolding sample_of
-sample_is_time times rising =
-    ⊎_elim (λ (same : times.from ≡ times.until).
-    record { some = omega arith; inside = inl (same, omega arith) })
-    (λ (differs : times.from ≢ times.until).
-    record { some = omega arith; inside = inr (omega arith, omega arith) })
-    (cases_eq times.from times.until)
+sample_is_time times rising = search rules
 
 -- The places at one of the times tell the order over all.
 pub Compares-test : (times : Times) (one other : BarEnd) (before : Bool)
@@ -72,39 +59,15 @@ Narrows-time old new narrows a n time =
     }
 
 pub Narrows-trans : (old mid new : Times) → Narrows old mid → Narrows mid new → Narrows old new
-Narrows-trans old mid new first second =
-    let from = first.from in
-    let from' = second.from in
-    let until = first.until in
-    let until' = second.until in
-    record {
-      from = omega arith;
-      until = omega arith;
-      single = λ e.
-          let kept = first.single e in
-          let kept' = second.single (omega arith) in
-          omega arith;
-      many = λ lt. second.many (first.many lt);
-    }
+Narrows-trans old mid new first second = search rules
 
 pub Narrows-itself : (times : Times) → Narrows times times
-Narrows-itself times = record {
-  from = refl;
-  until = omega arith;
-  single = λ e. refl;
-  many = λ lt. lt;
-}
+Narrows-itself times = search rules
 
 -- The times that are left have the same sample.
 pub Narrows-sample : (old new : Times) → Narrows old new → sample_of new ≡ sample_of old
 unfolding sample_of
-Narrows-sample old new narrows =
-    let from = narrows.from in
-    let until = narrows.until in
-    ⊎_elim (λ (less : old.from < old.until).
-    let still = narrows.many less in omega arith)
-    (λ (above : old.until ≤ old.from). omega arith)
-    (cases_lt old.from old.until)
+Narrows-sample old new narrows = search rules
 
 pub sample_single : (times : Times) → times.from ≡ times.until → sample_of times ≡ 2 * times.from
 unfolding sample_of

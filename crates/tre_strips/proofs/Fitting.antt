@@ -1,5 +1,5 @@
 -- Bars over one whole time: where they stand there tells what they hold there, in all units.
-use Rattle.std.proofs.Common.{◌≡◌, ℕ, zero, suc, ◌+◌, ◌*◌, ◌<◌, ◌≤◌, ◌↔◌, Bool, true, false, cond, List, [], ◌∷◌, length, get_or, take, refl, sym, ap, subst, ◌∙◌, arith, inl, inr, ⊎_elim, mul-le-mul_right}
+use Rattle.std.proofs.Common.{◌≡◌, ℕ, zero, suc, ◌+◌, ◌*◌, ◌<◌, ◌≤◌, ◌↔◌, Bool, true, false, cond, List, [], ◌∷◌, length, get_or, take, refl, sym, ap, subst, ◌∙◌, arith, inl, inr, ⊎_elim, mul-le-mul_right, rules}
 use Rattle.std.proofs.lemmas.Bool.{cases_lt}
 use Rattle.std.proofs.lemmas.List.{take_more, take_all, get_or_default}
 use Rattle.tre_strips.specs.Bar.{place_of, BarsHold, AreFilled, RiseFrom}
@@ -43,15 +43,7 @@ pub same_single : (end other : BarEnd) (time n : ℕ)
     → place_of end (2 * time) 2 ≡ place_of other (2 * time) 2
     → place_of end (time * n) n ≡ place_of other (time * n) n
 same_single end other time n e =
-    let one = place_twice end time in
-    let two = place_twice other time in
-    let low = small end.after in
-    let low' = small other.after in
-    let moments : moment end time ≡ moment other time = omega arith in
-    let product = ap (λ k. k * n) moments in
-    let here = place_at end time n in
-    let there = place_at other time n in
-    omega arith
+    search (rules, place_twice, small, moment, place_at, end.after, other.after)
 
 pub less_single : (end other : BarEnd) (time n : ℕ) → 0 < n
     → place_of end (2 * time) 2 < place_of other (2 * time) 2
@@ -150,18 +142,8 @@ all_alike (bar ∷ bars) (other ∷ others) a n same each = (
 pub Agree-same : (time : ℕ) (times : Times) (bars union there : List Bar) → times.from ≡ time
     → times.until ≡ time → AreFilled bars (2 * time) 2 → IsUnionOfBars times bars union
     → AreSamePlaces union there (2 * time) 2 → Agree time bars there
-Agree-same time times bars union there is is' filled union_is same = record {
-  filled = λ n some. AreFilled-single bars time n some filled;
-  exact = λ b n some.
-      let own : IsAmongTimes times (time * n) n = record {
-        some = some;
-        inside = inl (is ∙ sym is', ap (λ k. k * n) (sym is));
-      } in
-      let one = union_is.exact (time * n) n own b in
-      let other = AreSamePlaces-held union there (time * n) b n
-      (AreSamePlaces-single union there time n same) in
-      ((λ h. other.0 (one.1 h)), (λ h. one.0 (other.1 h)));
-}
+Agree-same time times bars union there is is' filled union_is same =
+    search (rules, AreFilled-single, AreSamePlaces-held, AreSamePlaces-single, union_is.exact)
 
 pub same-Agree : (time : ℕ) (times : Times) (bars union there : List Bar) → times.from ≡ time
     → times.until ≡ time → IsUnionOfBars times bars union → RiseAt time there → Agree time bars there
@@ -189,18 +171,7 @@ same-Agree time times bars union there is is' union_is rise agree =
 
 pub AreFilledOver-single : (time : ℕ) (bars : List Bar) (times : Times) → times.from ≡ time
     → times.until ≡ time → AreFilled bars (2 * time) 2 → AreFilledOver times bars
-AreFilledOver-single time bars times is is' filled = record {
-  each = λ a n moment_of.
-      let at_it : a ≡ time * n = ⊎_elim
-      (λ one. one.1 ∙ ap (λ k. k * n) is)
-      (λ both.
-      let low = both.0 in
-      let high = both.1 in
-      let same = ap (λ k. k * n) (is ∙ sym is') in
-      absurd (omega arith)) moment_of.inside in
-      subst (λ (k : ℕ). AreFilled bars k n) (sym at_it)
-      (AreFilled-single bars time n moment_of.some filled);
-}
+AreFilledOver-single time bars times is is' filled = search (rules, AreFilled-single)
 
 -- What is filled at twice the unit is so at its half.
 pub Agree-filled : (time : ℕ) (bars there : List Bar) → Agree time bars there
@@ -224,13 +195,8 @@ AreFilled-alike least (bar ∷ bars) (other ∷ others) a n rise same =
 -- What stands alike agrees.
 pub Agree-alike : (time : ℕ) (bars there : List Bar) → RiseAt time there
     → AreSamePlaces bars there (2 * time) 2 → Agree time bars there
-Agree-alike time bars there rise same = record {
-  filled = λ n some.
-      AreFilled-alike 0 bars there (time * n) n (rise.rising n some)
-      (AreSamePlaces-single bars there time n same);
-  exact = λ b n some.
-      AreSamePlaces-held bars there (time * n) b n (AreSamePlaces-single bars there time n same);
-}
+Agree-alike time bars there rise same =
+    search (rules, AreFilled-alike, AreSamePlaces-single, AreSamePlaces-held, rise.rising)
 
 -- Fewer than two bars are united as they stand, so they agree only where they stand alike.
 pub few-Agree : (time : ℕ) (bars there : List Bar) → length bars < 2 → RiseAt time there
@@ -262,8 +228,7 @@ AreFilled-all bars i a n past filled = rw (take_all i bars past) at filled
 pub AreFilled-not : (bars : List Bar) (i : ℕ) (d : Bar) (a n : ℕ) → AreFilled bars a n
     → i < length bars
     → (place_of (get_or bars i d).low a n < place_of (get_or bars i d).high a n → ⊥) → ⊥
-AreFilled-not bars i d a n filled within not_less =
-    not_less (AreFilled-at bars i a n d filled within)
+AreFilled-not bars i d a n filled within not_less = not_less (AreFilled-at _ _ _ _ _ filled within)
 
 -- ---- the test of two lists
 
@@ -288,8 +253,7 @@ AreSamePlaces-below bars others i a same past each =
 pub AreSamePlaces-one : (bars others : List Bar) (i a : ℕ) → i < length bars
     → AreSamePlaces bars others a 2
     → StandAlike a 2 (get_or bars i blank) (get_or others i blank)
-AreSamePlaces-one bars others i a within same =
-    (each_alike bars others a 2 same).1 i blank blank within
+AreSamePlaces-one bars others i a within same = (each_alike _ _ _ 2 same).1 i blank blank within
 
 pub AreSamePlaces-long : (bars others : List Bar) (a : ℕ) → AreSamePlaces bars others a 2
     → length bars ≡ length others

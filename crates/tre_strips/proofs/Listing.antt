@@ -1,5 +1,5 @@
 -- Zones in the order of their lines, each once.
-use Rattle.std.proofs.Common.{◌≡◌, ℕ, zero, suc, ◌+◌, ◌-◌, ◌<◌, ◌≤◌, ◌⊎◌, ◌↔◌, Bool, true, false, List, [], ◌∷◌, length, get_or, neg_ℤ, refl, sym, ap, subst, ◌∙◌, arith, inl, inr, ⊎_elim, true≢false}
+use Rattle.std.proofs.Common.{◌≡◌, ℕ, zero, suc, ◌+◌, ◌-◌, ◌<◌, ◌≤◌, ◌⊎◌, ◌↔◌, Bool, true, false, List, [], ◌∷◌, length, get_or, refl, sym, ap, subst, ◌∙◌, arith, inl, inr, ⊎_elim, true≢false, rules}
 use Rattle.std.specs.Prelude.{Contains}
 use Rattle.std.specs.List.{dedup, AllByRecursion}
 use Rattle.std.specs.List.Sorted.{IsSortedByKey, IsPermutation}
@@ -9,7 +9,6 @@ use Rattle.std.specs.Cmp.Lexicographic.{slice_cmp, pointwise, lists_total, lists
 use Rattle.std.specs.Ordering.{int_cmp, int_eq, eq_by_cmp, ordering_reverse, is_lt, is_eq}
 use Rattle.std.specs.declared.cmp.Ordering.{Ordering}
 use Rattle.std.specs.declared.cmp.Ordering.TheVariants.{Less, Equal, Greater}
-use Rattle.std.proofs.lemmas.Int.{ints}
 use Rattle.std.proofs.lemmas.Bool.{cases_lt}
 use Rattle.std.proofs.lemmas.Bool.Decides.{Decides-int_eq}
 use Rattle.std.proofs.lemmas.List.{get_or_default}
@@ -20,7 +19,6 @@ use Rattle.std.proofs.lemmas.Slice.Eq.{slice_eq-Decides}
 use Rattle.tre_zone.specs.Zone.{Includes, HoldsSome, IsTight}
 use Rattle.tre_zone.specs.ZoneList.{SetHolds, IsApart, IsApartFrom, AreApart, AreTight}
 use Rattle.tre_zone.specs.declared.zone_bounds.ZoneBounds.{ZoneBounds}
-use Rattle.tre_zone.proofs.ZoneKeys.{zones_same}
 use Rattle.tre_zoneset.proofs.Members.{SetHolds-any}
 use Rattle.tre_strips.specs.Listed.{line_key, compare_lines, AreListed}
 
@@ -37,15 +35,7 @@ ties : (one other : ZoneBounds) → same_line one other ≡ eq_by_cmp compare on
 ties one other = lists_ties int_cmp (λ x y. refl) (line_key one) (line_key other)
 
 same_keys : (one other : ZoneBounds) → line_key one ≡ line_key other → one ≡ other
-same_keys one other e =
-    let begin_low : neg_ℤ one.begin_low ≡ neg_ℤ other.begin_low = cc in
-    let begin_high : one.begin_high ≡ other.begin_high = cc in
-    let end_low : neg_ℤ one.end_low ≡ neg_ℤ other.end_low = cc in
-    let end_high : one.end_high ≡ other.end_high = cc in
-    let dur_low : neg_ℤ one.dur_low ≡ neg_ℤ other.dur_low = cc in
-    let dur_high : one.dur_high ≡ other.dur_high = cc in
-    zones_same one other (omega (arith, ints)) begin_high (omega (arith, ints)) end_high
-    (omega (arith, ints)) dur_high
+same_keys one other e = search rules
 
 same_lines : (one other : ZoneBounds) → same_line one other ≡ true → one ≡ other
 same_lines one other e =
@@ -56,9 +46,7 @@ same_lines one other e =
 -- Sorted by their lines, and without repeats.
 pub in_order : (sorted zones : List ZoneBounds) → IsSortedByKey line_key (slice_cmp int_cmp) sorted
     → zones ≡ dedup same_line sorted → IsStrictlySortedBy compare zones
-in_order sorted zones rising is =
-    subst (IsStrictlySortedBy compare) (sym is)
-    (IsStrictlySortedBy-dedup compare_total ties sorted rising)
+in_order sorted zones rising is = search (rules, IsStrictlySortedBy-dedup, compare_total, ties)
 
 same_test : same_line ≡ eq_by_cmp compare
 same_test = λ i one other. ties one other i
@@ -156,8 +144,7 @@ not_less zone other less same =
 
 turned : (zone other : ZoneBounds) → compare zone other ≡ Less
     → is_lt (compare other zone) ≡ false
-turned zone other less =
-    ap is_lt (compare_total.antisymm other zone ∙ ap ordering_reverse less)
+turned zone other less = ap is_lt (compare_total.antisymm _ zone ∙ ap ordering_reverse less)
 
 neighbours : (zones : List ZoneBounds) → IsStrictlySortedBy compare zones → (k : ℕ)
     (d : ZoneBounds) → suc k < length zones
@@ -165,9 +152,7 @@ neighbours : (zones : List ZoneBounds) → IsStrictlySortedBy compare zones → 
 unfolding IsStrictlySortedBy
 neighbours [] sorted k d within = absurd (omega (arith, within))
 neighbours (zone ∷ zones) sorted zero d within =
-    turned zone (get_or zones 0 d)
-    (All-get_or (λ (other : ZoneBounds). compare zone other ≡ Less) zones 0 d
-    (omega (arith, within)) (All-from_recursion _ zones sorted.0))
+    search (rules, turned, All-get_or, All-from_recursion)
 neighbours (zone ∷ zones) sorted (suc k) d within =
     neighbours zones sorted.1 k d (omega (arith, within))
 
@@ -224,9 +209,7 @@ cons_cases zone zones other (suc k, below, is) = inr (k, omega (arith, below), i
 less_than : (zone : ZoneBounds) (zones : List ZoneBounds) (other : ZoneBounds)
     → AllByRecursion (λ (z : ZoneBounds). compare zone z ≡ Less) zones → Contains zones other
     → compare zone other ≡ Less
-less_than zone zones other less has =
-    All-contains (λ (z : ZoneBounds). compare zone z ≡ Less) zones other
-    (All-from_recursion _ zones less) has
+less_than zone zones other less has = search (rules, All-contains, All-from_recursion)
 
 both_less : (zone other : ZoneBounds) → compare zone other ≡ Less → compare other zone ≡ Less → ⊥
 both_less zone other less more =
@@ -268,9 +251,7 @@ strictly_from zone other Less e later differs = e
 strictly_from zone other Equal e later differs =
     absurd (differs (same_lines zone other
     (ties zone other ∙ ap (λ (o : Ordering). is_eq o) e)))
-strictly_from zone other Greater e later differs =
-    absurd (true≢false (sym (ap is_lt (compare_total.antisymm other zone ∙ ap ordering_reverse e))
-    ∙ later))
+strictly_from zone other Greater e later differs = search (rules, compare_total)
 
 strictly_all : (zone : ZoneBounds) (zones : List ZoneBounds)
     → ((k : ℕ) → k < length zones → is_lt (compare (get_or zones k zone) zone) ≡ false)
@@ -310,5 +291,4 @@ strictly_again zones rising apart =
 pub same_listed : (zones others : List ZoneBounds) → AreListed zones → AreListed others
     → ((zone : ZoneBounds) → Contains zones zone ↔ Contains others zone) → zones ≡ others
 same_listed zones others listed listed' =
-    same_sorted zones others (strictly_again zones listed.rising listed.apart)
-    (strictly_again others listed'.rising listed'.apart)
+    search (rules, same_sorted, strictly_again, listed.rising, listed'.rising)

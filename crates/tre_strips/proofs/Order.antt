@@ -1,5 +1,5 @@
 -- Two ends of bars keep their order over times that are cut where they meet.
-use Rattle.std.proofs.Common.{◌≡◌, ◌≢◌, ℕ, ◌+◌, ◌-◌, ◌*◌, ◌<◌, ◌≤◌, ◌⊎◌, Bool, true, false, cond, refl, sym, ap, arith, inl, inr, ⊎_elim, le_of_eq, le_of_lt, mul-le-mul_right}
+use Rattle.std.proofs.Common.{◌≡◌, ◌≢◌, ℕ, ◌+◌, ◌-◌, ◌*◌, ◌<◌, ◌≤◌, ◌⊎◌, Bool, true, false, cond, sym, ap, arith, inl, inr, ⊎_elim, le_of_eq, le_of_lt, mul-le-mul_right, rules}
 use Rattle.std.proofs.lemmas.Bool.{cases_eq, cases_lt}
 use Rattle.tre_strips.specs.Bar.{place_of}
 use Rattle.tre_strips.specs.Profile.{IsIn}
@@ -25,10 +25,7 @@ keeps_less t u f g x n some p q less =
 
 keeps_same : (t u f g x n : ℕ) → f ≤ 1 → g ≤ 1 → 2 * t + f ≡ 2 * u + g
     → 2 * (t * n + x) + f ≡ 2 * (u * n + x) + g
-keeps_same t u f g x n p q same =
-    let ticks : t ≡ u = omega arith in
-    let product = ap (λ k. k * n) ticks in
-    omega arith
+keeps_same t u f g x n p q same = search rules
 
 abbrev OverAll : ℕ → ℕ → (ℕ → ℕ → Type 0) → Type 0
 OverAll from until P = (a n : ℕ) → 0 < n → IsIn from until a n → P a n
@@ -40,11 +37,7 @@ Keeps from until L R =
     ⊎ (OverAll from until (λ a n. L a n ≡ R a n) ⊎ OverAll from until (λ a n. R a n < L a n))
 
 flip : (from until : ℕ) (L R : ℕ → ℕ → ℕ) → Keeps from until L R → Keeps from until R L
-flip from until L R keeps =
-    ⊎_elim (λ less. inr (inr less))
-    (λ rest. ⊎_elim (λ same. inr (inl (λ a n some i. sym (same a n some i))))
-    (λ more. inl more) rest)
-    keeps
+flip from until L R keeps = search rules
 
 alike : (from until t f u g : ℕ) (x : ℕ → ℕ) → f ≤ 1 → g ≤ 1
     → Keeps from until (λ a n. 2 * (t * n + x a) + f) (λ a n. 2 * (u * n + x a) + g)
@@ -61,14 +54,9 @@ alike from until t f u g x p q =
 
 -- ---- an end that moves, and one that is fixed
 
-none_within : (from until a n : ℕ) → from ≡ until → from * n < a → a < until * n → ⊥
-none_within from until a n same low high =
-    let product = ap (λ k. k * n) same in omega arith
-
 -- At one time a moving end is a fixed one.
 at_one : (from until a n : ℕ) → from ≡ until → IsIn from until a n → a ≡ from * n
-at_one from until a n same i =
-    ⊎_elim (λ one. one.1) (λ many. absurd (none_within from until a n same many.0 many.1)) i
+at_one from until a n same i = search rules
 
 at_many : (from until a n : ℕ) → from ≢ until → IsIn from until a n
     → (from * n < a) × (a < until * n)
@@ -133,13 +121,8 @@ keeps from until t true f u true g cut =
     alike from until t (cond f 1 0) u (cond g 1 0) (λ a. a) (small f) (small g)
 keeps from until t false f u false g cut =
     alike from until t (cond f 1 0) u (cond g 1 0) (λ a. 0) (small f) (small g)
-keeps from until t true f u false g cut =
-    meeting from until t (cond f 1 0) u (cond g 1 0) (small f) (small g)
-    (cut.0 refl refl)
-keeps from until t false f u true g cut =
-    flip from until (λ a n. place u true g a n) (λ a n. place t false f a n)
-    (meeting from until u (cond g 1 0) t (cond f 1 0) (small g) (small f)
-    (cut.1 refl refl))
+keeps from until t true f u false g cut = search (rules, meeting, small, cut.0)
+keeps from until t false f u true g cut = search (rules, flip, meeting, small, cut.1)
 
 pub IsSettled-cut : (times : Times) (one other : BarEnd)
     → AreCut one.moves other.moves one.ticks other.ticks times.from times.until

@@ -1,5 +1,5 @@
 -- Stretches of time over which one list of bars is the profile, and where they end.
-use Rattle.std.proofs.Common.{◌≡◌, ◌≢◌, ℕ, ◌*◌, ◌<◌, ◌≤◌, ◌⊎◌, ◌↔◌, min, max, List, [], ◌∷◌, refl, sym, ap, subst, arith, inl, inr, ⊎_elim, mul-le-mul_right}
+use Rattle.std.proofs.Common.{◌≡◌, ◌≢◌, ℕ, ◌*◌, ◌<◌, ◌≤◌, ◌⊎◌, ◌↔◌, min, max, List, [], ◌∷◌, refl, sym, ap, subst, arith, inl, inr, ⊎_elim, mul-le-mul_right, rules}
 use Rattle.std.proofs.lemmas.Bool.{cases_eq, cases_lt}
 use Rattle.tre_pairs.specs.Pairs.{Pairs}
 use Rattle.tre_strips.specs.Bar.{RiseFrom}
@@ -14,12 +14,10 @@ use Rattle.tre_strips.proofs.Fitting.{AreSamePlaces-single, AreSamePlaces-held}
 
 many : (from until a n : ℕ) → from < until → IsIn from until a n
     → (from * n < a) × (a < until * n)
-many from until a n less inside =
-    ⊎_elim (λ one. let same = one.0 in absurd (omega arith)) (λ both. both) inside
+many from until a n less inside = search rules
 
 single : (time a n : ℕ) → IsIn time time a n → a ≡ time * n
-single time a n inside = ⊎_elim (λ one. one.1)
-    (λ both. let low = both.0 in let high = both.1 in absurd (omega arith)) inside
+single time a n inside = search rules
 
 pub IsProfile-part : (M : Pairs) (bars : List Bar) (from until start end : ℕ) → from ≤ start
     → end ≤ until → start < end → IsProfile M bars from until → IsProfile M bars start end

@@ -1,5 +1,5 @@
 -- One pass over time finds all strips.
-use Rattle.std.proofs.Common.{◌≡◌, ◌≢◌, ℕ, ◌*◌, ◌<◌, ◌≤◌, ◌⊎◌, ◌↔◌, min, Bool, true, false, List, [], ◌∷◌, get_or, refl, sym, ap, subst, ◌∙◌, arith, inl, inr, ⊎_elim, mul-le-mul_right, true≢false}
+use Rattle.std.proofs.Common.{◌≡◌, ◌≢◌, ℕ, ◌*◌, ◌<◌, ◌≤◌, ◌⊎◌, ◌↔◌, min, Bool, true, false, List, [], ◌∷◌, get_or, refl, sym, ap, subst, ◌∙◌, arith, inl, inr, ⊎_elim, mul-le-mul_right, true≢false, rules}
 use Rattle.std.specs.Prelude.{Contains}
 use Rattle.std.proofs.lemmas.Bool.{cases_eq, cases_lt}
 use Rattle.std.proofs.lemmas.List.Elements.{Contains-get_or}
@@ -154,18 +154,7 @@ column_part zones canonical there time profile bar has a b n some = (
 pub column_alike : (time : ℕ) (bar other : Bar) (a b n : ℕ)
     → StandAlike (time * n) n bar other → IsInColumn time bar a b n
     → IsInColumn time other a b n
-column_alike time bar other a b n same column =
-    let is = column.begins in
-    let low = same.low in
-    let high = same.high in
-    let ends = subst (λ (k : ℕ). BarHolds bar k b n) is column.ends in
-    let above = ends.low in
-    let below = ends.high in
-    record {
-      begins = is;
-      ends = subst (λ (k : ℕ). BarHolds other k b n) (sym is)
-          (record { low = omega arith; high = omega arith });
-    }
+column_alike time bar other a b n same column = search rules
 
 decided : (flag : Bool) → (flag ≡ true) ⊎ (flag ≡ false)
 decided true = inl refl
@@ -179,9 +168,7 @@ module _ (zones : List ZoneBounds) (canonical : AreCanonical zones) (there behin
     (next : IsProfile (SetHolds zones) behind time until)
     (begun : Begun there behind time taken takes mid new) where
   next_fits : (takes ≡ true) ↔ BarsFit (SetHolds zones) behind time
-  next_fits =
-      let both = Fits-agree (SetHolds zones) behind there time at in
-      ((λ e. both.1 (begun.fits.0 e)), (λ fits. begun.fits.1 (both.0 fits)))
+  next_fits = search (rules, Fits-agree)
 
   kept : (zone : ZoneBounds) → Contains mid zone → Contains new zone
   kept zone has = ⊎_elim
@@ -189,9 +176,7 @@ module _ (zones : List ZoneBounds) (canonical : AreCanonical zones) (there behin
       (λ x. x.2.kept zone has) begun.pushed
 
   kept_pairs : (a b n : ℕ) → SetHolds mid a b n → SetHolds new a b n
-  kept_pairs a b n h = ⊎_elim
-      (λ x. subst (λ (l : List ZoneBounds). SetHolds l a b n) (sym x.1) h)
-      (λ x. x.2.held a b n h) begun.pushed
+  kept_pairs a b n h = search rules
 
   -- A run that begins at the time has the bars behind it.
   same_behind : (others : List Bar) (start end : ℕ) → IsRunOfBars (SetHolds zones) others start end
@@ -208,20 +193,7 @@ module _ (zones : List ZoneBounds) (canonical : AreCanonical zones) (there behin
   is_alone : ((others : List Bar) (start end : ℕ) → IsRunOfBars (SetHolds zones) others start end
       → start < time → IsInStrip (SetHolds zones) others start end time 1 → taken ≡ true)
       → taken ≡ false → takes ≡ false → IsAlone (SetHolds zones) time
-  is_alone before free free' = record {
-    none = λ others start end run strip.
-        let low = strip.low in
-        ⊎_elim (λ (early : start < time).
-        true≢false (sym (before others start end run early strip) ∙ free))
-        (λ (above : time ≤ start).
-        let is : start ≡ time = omega arith in
-        let fits = subst (λ (l : List Bar). BarsFit (SetHolds zones) l time)
-        (same_behind others start end run is)
-        (subst (λ (k : ℕ). BarsFit (SetHolds zones) others k) is
-        (strip.first (omega arith))) in
-        true≢false (sym (next_fits.1 fits) ∙ free'))
-        (cases_lt start time);
-  }
+  is_alone before free free' = search (rules, before, same_behind, next_fits, cases_lt)
 
   column_zone : (zone : ZoneBounds) (bar : Bar) → Contains there bar
       → IsZoneOf zone (IsInPart (alone_strip time) bar)
@@ -337,20 +309,7 @@ pub IsSpun-on : (zones : List ZoneBounds) (bars there behind : List Bar) (from t
     → ProfileGoesOn bars there behind time → IsSpun zones bars from takes found time
     → IsSpun zones bars from takes found until
 IsSpun-on zones bars there behind from time until takes found less at next goes spun =
-    let rising = spun.rising in
-    record {
-      rising = omega arith;
-      profile = IsProfile-on (SetHolds zones) bars there behind from time until rising less
-          spun.profile at next goes;
-      first = λ start low whole. spun.first start low
-          (IsProfile-part (SetHolds zones) bars start until start time (omega arith) (omega arith)
-          (omega arith) whole);
-      takes = spun.takes;
-      sound = spun.sound;
-      runs = spun.runs;
-      alone = spun.alone;
-      held = spun.held;
-    }
+    search (rules, IsProfile-on, IsProfile-part, spun.rising, spun.profile, spun.first)
 
 -- ---- a run that ends, and the next
 
@@ -364,9 +323,7 @@ module _ (zones : List ZoneBounds) (canonical : AreCanonical zones)
     (begun : Begun there behind time taken takes' mid new)
     (spun : IsSpun zones bars from takes old time) where
   last_fits : (taken ≡ true) ↔ BarsFit (SetHolds zones) bars time
-  last_fits =
-      let both = Fits-agree (SetHolds zones) bars there time at in
-      ((λ e. both.1 (closes.fits.0 e)), (λ fits. closes.fits.1 (both.0 fits)))
+  last_fits = search (rules, Fits-agree)
 
   is_run : IsRunOfBars (SetHolds zones) bars from time
   is_run = IsRun-closed (SetHolds zones) bars there behind from time until spun.rising later
@@ -374,9 +331,7 @@ module _ (zones : List ZoneBounds) (canonical : AreCanonical zones)
 
   same_run : (others : List Bar) (start end : ℕ) → IsRunOfBars (SetHolds zones) others start end
       → start < time → from < end → (others ≡ bars) × (start ≡ from) × (end ≡ time)
-  same_run others start end run early late =
-      IsRun-same (SetHolds zones) bars there behind from time until spun.rising later spun.profile
-      at next spun.first stops others start end run early late
+  same_run others start end run early late = search (rules, IsRun-same)
 
   first_again : (start : ℕ) → start ≤ time → IsProfile (SetHolds zones) behind start until
       → start ≡ time
@@ -415,23 +370,12 @@ module _ (zones : List ZoneBounds) (canonical : AreCanonical zones)
   in_strip : (moment : ℕ) → from ≤ moment → moment ≤ time
       → (moment ≡ from → takes ≡ true) → (moment ≡ time → taken ≡ true)
       → IsInStrip (SetHolds zones) bars from time moment 1
-  in_strip moment low high first last = record {
-    low = omega arith;
-    high = omega arith;
-    first = λ e. spun.takes.0 (first (omega arith));
-    last = λ e. last_fits.0 (last (omega arith));
-  }
+  in_strip moment low high first last = search (rules, last_fits)
 
   before : (others : List Bar) (start end : ℕ) → IsRunOfBars (SetHolds zones) others start end
       → start < time → IsInStrip (SetHolds zones) others start end time 1 → taken ≡ true
   before others start end run early strip =
-      let high = strip.high in
-      let rising = spun.rising in
-      let same = same_run others start end run early (omega arith) in
-      let ends = same.2 in
-      last_fits.1 (subst (λ (l : List Bar). BarsFit (SetHolds zones) l time) same.0
-      (subst (λ (k : ℕ). BarsFit (SetHolds zones) others k) same.2
-      (strip.last (omega arith))))
+      search (rules, same_run, last_fits, strip.high, strip.last)
 
   sound_mid : (zone : ZoneBounds) → Contains mid zone
       → IsCanonical zone × IsStripZone (SetHolds zones) zone
@@ -473,16 +417,10 @@ module _ (zones : List ZoneBounds) (canonical : AreCanonical zones)
   covered : (bar : Bar) → Contains bars bar → (a b n : ℕ) → 0 < n → SetHolds zones a b n
       → from * n ≤ a → a ≤ time * n → (a ≡ from * n → takes ≡ true)
       → (a ≡ time * n → taken ≡ true) → BarHolds bar a b n → SetHolds mid a b n
-  covered bar has a b n some h low high first last ends =
-      let frame = set_framed zones canonical a b n some h in
-      closes.pushed.covers bar has a b n some frame.rising (record {
-        left = record { low = low; high = high; first = first; last = last; ends = ends };
-        right = frame;
-      })
+  covered bar has a b n some h low high first last ends = search (rules, set_framed)
 
   kept_pairs_on : (a b n : ℕ) → SetHolds mid a b n → SetHolds new a b n
-  kept_pairs_on =
-      kept_pairs zones canonical there behind time until taken takes' mid new later at next begun
+  kept_pairs_on = search rules
 
   held_before : (a b n : ℕ) → 0 < n → SetHolds zones a b n → a < time * n → SetHolds mid a b n
   held_before a b n some h early =

@@ -1,9 +1,8 @@
 -- The zone of a bar over a strip.
-use Rattle.std.proofs.Common.{◌≡◌, ℕ, zero, suc, ◌+◌, ◌*◌, ◌<◌, ◌≤◌, ◌⊎◌, ◌↔◌, Bool, true, false, cond, not, min, Option, List, [], ◌∷◌, ◌++◌, length, get_or, take, ℤ, pos, neg_ℤ, ◌+ℤ◌, ◌*ℤ◌, refl, sym, ap, subst, ◌∙◌, arith, inl, inr, ⊎_elim, mul-le-mul_right, true≢false}
+use Rattle.std.proofs.Common.{◌≡◌, ℕ, zero, suc, ◌+◌, ◌*◌, ◌<◌, ◌≤◌, ◌⊎◌, ◌↔◌, Bool, true, false, cond, not, min, Option, List, [], ◌∷◌, ◌++◌, length, get_or, take, ℤ, pos, neg_ℤ, ◌+ℤ◌, ◌*ℤ◌, refl, sym, ap, subst, ◌∙◌, arith, inl, inr, ⊎_elim, true≢false, rules}
 use mathlib.Core.Bool.{beq}
 use Rattle.std.specs.Prelude.{Contains}
 use Rattle.std.proofs.lemmas.Int.{ints}
-use Rattle.std.proofs.lemmas.Bool.{cases_lt}
 use Rattle.std.proofs.lemmas.List.Elements.{Contains-append_left, Contains-push, Contains-push_cases, Contains-get_or, Contains-append_cases, Contains-append_right}
 use Rattle.std.proofs.lemmas.List.{take_more, take_all}
 use Rattle.tre_pairs.specs.Pairs.{Pairs, Both}
@@ -26,42 +25,16 @@ use Rattle.tre_strips.specs.declared.strip_zone.Begins.{Begins}
 -- Ticks past all times say no more than the first past them.
 low_capped : (t n p q f : ℕ) → f ≤ 1 → q ≤ TIME_MAX * n → 0 < n
     → (2 * (min t (TIME_MAX + 1) * n + p) + f ≤ 2 * q) ↔ (2 * (t * n + p) + f ≤ 2 * q)
-low_capped t n p q f small within some =
-    ⊎_elim (λ (past : TIME_MAX + 1 < t).
-    let is : min t (TIME_MAX + 1) ≡ TIME_MAX + 1 = omega arith in
-    let product = ap (λ k. k * n) is in
-    let wide = mul-le-mul_right n past in
-    ((λ h. absurd (omega arith)), (λ h. absurd (omega arith))))
-    (λ (within_it : t ≤ TIME_MAX + 1).
-    let is : min t (TIME_MAX + 1) ≡ t = omega arith in
-    let product = ap (λ k. k * n) is in
-    ((λ h. omega arith), (λ h. omega arith)))
-    (cases_lt (TIME_MAX + 1) t)
+low_capped t n p q f small within some = search rules
 
 high_capped : (t n p q f : ℕ) → f ≤ 1 → q ≤ TIME_MAX * n → 0 < n
     → (2 * q < 2 * (min t (TIME_MAX + 1) * n + p) + f) ↔ (2 * q < 2 * (t * n + p) + f)
-high_capped t n p q f small within some =
-    ⊎_elim (λ (past : TIME_MAX + 1 < t).
-    let is : min t (TIME_MAX + 1) ≡ TIME_MAX + 1 = omega arith in
-    let product = ap (λ k. k * n) is in
-    let wide = mul-le-mul_right n past in
-    ((λ h. omega arith), (λ h. omega arith)))
-    (λ (within_it : t ≤ TIME_MAX + 1).
-    let is : min t (TIME_MAX + 1) ≡ t = omega arith in
-    let product = ap (λ k. k * n) is in
-    ((λ h. omega arith), (λ h. omega arith)))
-    (cases_lt (TIME_MAX + 1) t)
+high_capped t n p q f small within some = search rules
 
 -- ---- zones that are pushed
 
 pub Pushes-none : (begins : Begins) (zones : List ZoneBounds) → Pushes begins [] zones zones
-Pushes-none begins zones = record {
-  kept = λ zone has. has;
-  all = λ bar zone has canonical is. absurd (omega (arith, has.1));
-  sound = λ zone has. inl has;
-  held = λ a b n h. h;
-  covers = λ bar has a b n some le h. absurd (omega (arith, has.1));
-}
+Pushes-none begins zones = search rules
 
 one_of : (bar other : Bar) → Contains (bar ∷ []) other → bar ≡ other
 one_of bar other (zero, below, is) = is
@@ -179,10 +152,7 @@ place_as : (end : BarEnd) (moving after_it : Bool) (a n : ℕ) → end.moves ≡
     → end.after ≡ after_it
     → place_of end a n ≡ 2 * (end.ticks * n + cond moving a 0) + cond after_it 1 0
 unfolding place_of
-place_as end moving after_it a n e e' =
-    let m : cond end.moves a 0 ≡ cond moving a 0 = ap (λ (b : Bool). cond b a 0) e in
-    let f = ap bit_of e' in
-    omega arith
+place_as end moving after_it a n e e' = search rules
 
 pub LowMeans-strict : (key : ℤ) (end : BarEnd) (moving : Bool)
     → key ≡ pos 2 *ℤ neg_ℤ (pos (min end.ticks (TIME_MAX + 1))) → end.moves ≡ moving
@@ -237,29 +207,15 @@ HighMeans-strict key end moving is same early a b n some le within =
 from_it : (takes : Bool) (time a n : ℕ) → (2 * (time * n + 0) + cond (not takes) 1 0 ≤ 2 * a)
     ↔ ((time * n ≤ a) × (a ≡ time * n → takes ≡ true))
 from_it true time a n = ((λ h. (omega arith, λ e. refl)), (λ h. let le = h.0 in omega arith))
-from_it false time a n = (
-  (λ h. (omega arith, λ e. absurd (omega arith))),
-  (λ h. ⊎_elim (λ (lt : time * n < a). omega arith)
-      (λ (above : a ≤ time * n). let le = h.0 in
-      absurd (true≢false (sym (h.1 (omega arith))))) (cases_lt (time * n) a)),
-)
+from_it false time a n = search rules
 
 until_it : (takes : Bool) (time a n : ℕ) → (2 * a < 2 * (time * n + 0) + cond takes 1 0)
     ↔ ((a ≤ time * n) × (a ≡ time * n → takes ≡ true))
 until_it true time a n = ((λ h. (omega arith, λ e. refl)), (λ h. let le = h.0 in omega arith))
-until_it false time a n = (
-  (λ h. (omega arith, λ e. absurd (omega arith))),
-  (λ h. ⊎_elim (λ (lt : a < time * n). omega arith)
-      (λ (above : time * n ≤ a). let le = h.0 in
-      absurd (true≢false (sym (h.1 (omega arith))))) (cases_lt a (time * n))),
-)
+until_it false time a n = search rules
 
 either : (flag : Bool) (P : Type 0) → (flag ≡ false → P) → (flag ≡ true → P) → P
-either flag P no_it yes_it = by flag refl
-  where
-    by : (b : Bool) → flag ≡ b → P
-    by true e = yes_it e
-    by false e = no_it e
+either flag P no_it yes_it = search rules
 
 abbrev pub begin_end : Begins → BarEnd
 begin_end begins = record {

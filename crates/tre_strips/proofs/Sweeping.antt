@@ -1,5 +1,5 @@
 -- One pass over time: what is open, what waits, and the profiles of the columns.
-use Rattle.std.proofs.Common.{◌≡◌, ℕ, zero, suc, ◌+◌, ◌-◌, ◌*◌, ◌<◌, ◌≤◌, ◌⊎◌, ◌↔◌, ◌==◌, Bool, true, false, MatchBool, List, [], ◌∷◌, ◌++◌, length, get_or, take, drop, nat_abs, nat_lt, ltb-false, refl, sym, ap, subst, ◌∙◌, arith, inl, inr, ⊎_elim, mul-le-mul_right}
+use Rattle.std.proofs.Common.{◌≡◌, ℕ, zero, suc, ◌+◌, ◌-◌, ◌*◌, ◌<◌, ◌≤◌, ◌⊎◌, ◌↔◌, Bool, true, false, MatchBool, List, [], ◌∷◌, ◌++◌, length, get_or, take, drop, nat_lt, ltb-false, refl, sym, ap, subst, ◌∙◌, arith, inl, inr, ⊎_elim, mul-le-mul_right, rules}
 use Rattle.std.specs.List.{items_where_true}
 use Rattle.std.specs.List.Retain.{ReturnsInTurn, IsFiltered}
 use Rattle.std.proofs.lemmas.List.{drop-drop, drop_all, get_or-drop, get_or_default, length-drop, take-append-drop}
@@ -26,16 +26,13 @@ high false v a n h = omega arith
 begins_from : (zone : ZoneBounds) → IsCanonical zone → (a b n : ℕ) → 0 < n
     → ZoneHolds zone a b n → begin_of zone * n ≤ a
 unfolding begin_of
-begins_from z canonical a b n some h =
-    low (weakness_of z.begin_low == 1) (nat_abs (value_of z.begin_low)) a n
-    ((canonical-ranges z canonical a b n some).0 h).begin.0
+begins_from z canonical a b n some h = search (rules, low, weakness_of, value_of, canonical-ranges)
 
 begins_until : (zone : ZoneBounds) → IsCanonical zone → (a b n : ℕ) → 0 < n
     → ZoneHolds zone a b n → a ≤ last_begin_of zone * n
 unfolding last_begin_of
 begins_until z canonical a b n some h =
-    high (weakness_of z.begin_high == 1) (nat_abs (value_of z.begin_high)) a n
-    ((canonical-ranges z canonical a b n some).0 h).begin.1
+    search (rules, high, weakness_of, value_of, canonical-ranges)
 
 pub BeginsBehind-last : (zone : ZoneBounds) → IsCanonical zone → (time last : ℕ)
     → last ≡ last_begin_of zone → BeginsBehind time (nat_lt time last) zone
@@ -91,18 +88,12 @@ BeginFrom-waiting zones place turn within d =
 
 pub BeginFrom-none : (zones : List ZoneBounds) (place time : ℕ) → length zones ≤ place
     → PairsBeginFrom time (drop place zones)
-BeginFrom-none zones place time past = record {
-  begin = λ a b n some h. absurd (SetHolds-empty a b n (rw (drop_all place zones past) at h));
-}
+BeginFrom-none zones place time past = search (rules, SetHolds-empty, drop_all)
 
 -- ---- the open zones
 
 pub IsSwept-first : (zones : List ZoneBounds) → IsSwept zones [] 0 0
-IsSwept-first zones = record {
-  count = omega arith;
-  held = λ a b n some from.
-      ((λ h. inr h), (λ h. ⊎_elim (λ x. absurd (SetHolds-empty a b n x)) (λ x. x) h));
-}
+IsSwept-first zones = search (rules, SetHolds-empty)
 
 split : (zones : List ZoneBounds) (from to : ℕ) → from ≤ to
     → take (to - from) (drop from zones) ++ drop to zones ≡ drop from zones
@@ -248,13 +239,4 @@ IsProfile-behind zones here kept bars waiting time next from until is many withi
 pub IsSwept-behind : (zones here kept : List ZoneBounds) (waiting time until : ℕ) → time < until
     → SameBehind time here kept → IsSwept zones here waiting time
     → IsSwept zones kept waiting until
-IsSwept-behind zones here kept waiting time until less same now = record {
-  count = now.count;
-  held = λ a b n some from.
-      let wide = mul-le-mul_right n less in
-      let kept_same = same.same a b n some (omega arith) in
-      let both = now.held a b n some (omega arith) in (
-        (λ h. ⊎_elim (λ x. inl (kept_same.1 x)) (λ x. inr x) (both.0 h)),
-        (λ h. both.1 (⊎_elim (λ x. inl (kept_same.0 x)) (λ x. inr x) h)),
-      );
-}
+IsSwept-behind zones here kept waiting time until less same now = search rules

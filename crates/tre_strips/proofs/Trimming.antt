@@ -1,7 +1,7 @@
 -- Zones without what the ones before them hold.
-use Rattle.std.proofs.Common.{◌≡◌, ℕ, ◌+◌, ◌-◌, ◌^◌, ◌<◌, ◌≤◌, ◌⊎◌, ◌↔◌, List, [], length, get_or, take, Option, Some, None, ℤ, pos, neg_ℤ, ◌+ℤ◌, ◌-ℤ◌, ◌*ℤ◌, ◌≤ℤ◌, sym, ap, subst, arith, inl, inr, ⊎_elim}
+use Rattle.std.proofs.Common.{◌≡◌, ℕ, ◌+◌, ◌-◌, ◌^◌, ◌<◌, ◌≤◌, ◌⊎◌, ◌↔◌, List, [], length, get_or, take, Option, Some, None, ℤ, pos, neg_ℤ, ◌+ℤ◌, ◌-ℤ◌, ◌*ℤ◌, ◌≤ℤ◌, sym, subst, arith, inl, inr, ⊎_elim, rules}
 use Rattle.std.specs.Int.{int_min}
-use Rattle.std.proofs.lemmas.Int.{ints, clamps, by_lt_z}
+use Rattle.std.proofs.lemmas.Int.{ints, by_lt_z}
 use Rattle.std.proofs.lemmas.List.{take_all}
 use Rattle.tre_pairs.specs.Pairs.{Pairs, Both}
 use Rattle.tre_pairs.specs.declared.TheConstants.{TIME_MAX}
@@ -11,7 +11,7 @@ use Rattle.tre_zone.specs.ZoneList.{SetHolds, HoldExactly, AreCanonical}
 use Rattle.tre_zone.specs.declared.zone_bounds.ZoneBounds.{ZoneBounds}
 use Rattle.tre_zone.proofs.Bounds.{split, split-unique, Splits, IsValueWithin-key}
 use Rattle.tre_zone.proofs.Given.{GivesZone-same}
-use Rattle.tre_zone.proofs.Paths.{Meets-looser, Meets-min, add_times}
+use Rattle.tre_zone.proofs.Paths.{Meets-looser, Meets-min}
 use Rattle.tre_zone.proofs.Scaling.{canonical-frame}
 use Rattle.tre_zoneset.specs.ZoneSet.{FoundHolds}
 use Rattle.tre_zoneset.proofs.Members.{SetHolds-more}
@@ -23,18 +23,10 @@ use Rattle.tre_strips.proofs.Spinning.{set_framed}
 -- ---- a bound and what is behind it
 
 Meets-decided : (key : ℤ) (p q n : ℕ) → Meets key p q n ⊎ (Meets key p q n → ⊥)
-Meets-decided key p q n =
-    by_lt_z (pos p) ((pos q +ℤ (value_of key *ℤ pos n)) +ℤ pos (weakness_of key))
-    (λ lt. inl (record { met = lt }))
-    (λ not_lt. inr (λ m. let met = m.met in omega (arith, ints)))
+Meets-decided key p q n = search rules
 
 times_none : (value : ℤ) (n : ℕ) → (value *ℤ pos n) +ℤ (neg_ℤ value *ℤ pos n) ≡ pos 0
-times_none value n =
-    let none : value +ℤ neg_ℤ value ≡ pos 0 = omega (arith, ints) in
-    let both = add_times value (neg_ℤ value) n in
-    let zero_times : (value +ℤ neg_ℤ value) *ℤ pos n ≡ pos 0 *ℤ pos n =
-    ap (λ (k : ℤ). k *ℤ pos n) none in
-    omega (arith, ints)
+times_none value n = search rules
 
 Meets-behind : (key : ℤ) (a n : ℕ) → Meets (pos 1 -ℤ key) 0 a n ↔ (Meets key a 0 n → ⊥)
 Meets-behind key a n =
@@ -77,37 +69,7 @@ module _ (zone : ZoneBounds) (low high : ℤ) (Begins : ℕ → ℕ → Type 0) 
   begun-given : (found : Option ZoneBounds)
       → GivesZone found (Both (ZoneHolds (begun zone low high)) (IsInFrame TIME_MAX))
       → GivesZone found P
-  begun-given found given = GivesZone-same found _ P (λ a b n some le. (
-    (λ h.
-        let z = h.left in
-        let parts = (both a n some).0 (z.begin_low, z.begin_high) in
-        (is a b n).1 (
-          record {
-            begin_low = parts.0.0;
-            begin_high = parts.0.1;
-            end_low = z.end_low;
-            end_high = z.end_high;
-            dur_low = z.dur_low;
-            dur_high = z.dur_high;
-          },
-          parts.1,
-        )),
-    (λ p.
-        let one = (is a b n).0 p in
-        let z = one.0 in
-        let begins = (both a n some).1 ((z.begin_low, z.begin_high), one.1) in
-        record {
-          left = record {
-            begin_low = begins.0;
-            begin_high = begins.1;
-            end_low = z.end_low;
-            end_high = z.end_high;
-            dur_low = z.dur_low;
-            dur_high = z.dur_high;
-          };
-          right = canonical-frame zone canonical a b n some z;
-        }),
-  )) given
+  begun-given found given = search (rules, GivesZone-same, canonical-frame, canonical)
 
 pub early_given : (zone : ZoneBounds) (last : ℤ) (found : Option ZoneBounds) (high : ℤ)
     → IsCanonical zone → high ≡ int_min zone.begin_high last
@@ -164,15 +126,11 @@ IsEarlyHeld-covered zone other last covers = record {
 pub IsEarlyHeld-some : (zone other early : ZoneBounds) (last : ℤ)
     → GivesZone (Some early) (Early zone last) → Includes other early
     → IsEarlyHeld zone other last
-IsEarlyHeld-some zone other early last is includes = record {
-  held = λ a b n some le e. includes.every a b n some le ((is.exact a b n some le).1 e);
-}
+IsEarlyHeld-some zone other early last is includes = search rules
 
 pub IsEarlyHeld-none : (zone other : ZoneBounds) (last : ℤ)
     → GivesZone None (Early zone last) → IsEarlyHeld zone other last
-IsEarlyHeld-none zone other last none = record {
-  held = λ a b n some le e. absurd (none.never a b n some le e);
-}
+IsEarlyHeld-none zone other last none = search rules
 
 pub TrimsBehind-late : (zone other : ZoneBounds) (last : ℤ) (rest : Option ZoneBounds)
     → IsEarlyHeld zone other last → GivesZone rest (Late zone last)
@@ -188,25 +146,16 @@ TrimsBehind-late zone other last rest early late = record {
 
 pub TrimsBehind-itself : (zone other : ZoneBounds) → TrimsBehind zone other (Some zone)
 unfolding FoundHolds
-TrimsBehind-itself zone other = record {
-  within = λ a b n some le h. h;
-  covers = λ a b n some le h. inr h;
-}
+TrimsBehind-itself zone other = search rules
 
 pub Trims-none : (zone : ZoneBounds) → Trims zone None (Some zone)
 unfolding FoundHolds
-Trims-none zone = record {
-  within = λ a b n some le h. h;
-  covers = λ a b n some le h. inr h;
-}
+Trims-none zone = search rules
 
 pub Trims-some : (zone other : ZoneBounds) (rest : Option ZoneBounds)
     → TrimsBehind zone other rest → Trims zone (Some other) rest
 unfolding FoundHolds
-Trims-some zone other rest behind = record {
-  within = λ a b n some le h. behind.within a b n some le h;
-  covers = λ a b n some le h. behind.covers a b n some le h;
-}
+Trims-some zone other rest behind = search rules
 
 -- ---- the list
 
@@ -219,11 +168,7 @@ pub record IsTrimmed (zones : List ZoneBounds) (before : Option ZoneBounds)
 
 pub IsTrimmed-none : IsTrimmed [] None []
 unfolding AreCanonical FoundHolds
-IsTrimmed-none = record {
-  canonical = tt;
-  held = record { exact = λ a b n some le. ((λ h. h), (λ h. h)) };
-  last = λ a b n h. absurd h;
-}
+IsTrimmed-none = search rules
 
 pub IsTrimmed-more : (zones : List ZoneBounds) (i : ℕ) (zone : ZoneBounds)
     (before rest : Option ZoneBounds) (old new : List ZoneBounds) → i < length zones
@@ -258,30 +203,18 @@ IsTrimmed-all zones i before kept past now =
 
 pub HaveSamePairs-exact : (set kept : List ZoneBounds) → AreCanonical set → AreCanonical kept
     → HoldExactly kept (SetHolds set) → HaveSamePairs set kept
-HaveSamePairs-exact set kept canonical canonical' held = record {
-  same = λ a b n some. (
-    (λ h. (held.exact a b n some (set_framed set canonical a b n some h).rising).1 h),
-    (λ h. (held.exact a b n some (set_framed kept canonical' a b n some h).rising).0 h),
-  );
-}
+HaveSamePairs-exact set kept canonical canonical' held =
+    search (rules, held, set_framed, canonical, held.exact)
 
 pub HaveSamePairs-trans : (one two three : List ZoneBounds) → HaveSamePairs one two
     → HaveSamePairs two three → HaveSamePairs one three
-HaveSamePairs-trans one two three first second = record {
-  same = λ a b n some.
-      let x = first.same a b n some in
-      let y = second.same a b n some in
-      ((λ h. y.0 (x.0 h)), (λ h. x.1 (y.1 h)));
-}
+HaveSamePairs-trans one two three first second = search rules
 
 -- ---- bounds within limits
 
 within_min : (limit : ℕ) (one other : ℤ) → IsKeyWithin limit one → neg_ℤ (pos limit) ≤ℤ other
     → IsKeyWithin limit (int_min one other)
-within_min limit one other within low =
-    let lower = within.low in
-    let upper = within.high in
-    record { low = omega (arith, ints, clamps); high = omega (arith, ints, clamps) }
+within_min limit one other within low = search rules
 
 pub value_min : (one other key : ℤ) → key ≡ int_min one other → IsKeyWithin (2 ^ 42) one
     → neg_ℤ (pos (2 ^ 42)) ≤ℤ other → IsValueWithin (2 ^ 42) key
@@ -295,11 +228,4 @@ value_of_key key within = IsValueWithin-key (2 ^ 42) (2 ^ 42) (omega arith) key 
 pub begun-values : (zone : ZoneBounds) (low high : ℤ) → AreKeysWithin (2 ^ 42) zone
     → IsValueWithin (2 ^ 42) low → IsValueWithin (2 ^ 42) high
     → AreValuesWithin (2 ^ 42) (begun zone low high)
-begun-values zone low high keys is_low is_high = record {
-  begin_low = is_low;
-  begin_high = is_high;
-  end_low = value_of_key _ keys.end_low;
-  end_high = value_of_key _ keys.end_high;
-  dur_low = value_of_key _ keys.dur_low;
-  dur_high = value_of_key _ keys.dur_high;
-}
+begun-values zone low high keys is_low is_high = search (rules, value_of_key)

@@ -1,5 +1,5 @@
 -- At the end of the pass all strips are found, and hold exactly the pairs.
-use Rattle.std.proofs.Common.{◌≡◌, ◌≢◌, ℕ, ◌-◌, ◌*◌, ◌<◌, ◌≤◌, ◌⊎◌, ◌↔◌, Bool, true, List, [], ◌∷◌, refl, ap, subst, ◌∙◌, arith, inl, inr, ⊎_elim, mul-le-mul_right}
+use Rattle.std.proofs.Common.{◌≡◌, ◌≢◌, ℕ, ◌-◌, ◌*◌, ◌<◌, ◌≤◌, ◌⊎◌, ◌↔◌, Bool, true, List, [], ◌∷◌, refl, ap, subst, ◌∙◌, arith, inl, inr, ⊎_elim, mul-le-mul_right, rules}
 use Rattle.std.specs.Prelude.{All, Contains}
 use Rattle.std.specs.List.Sorted.{IsNonDecreasingBy, IsPermutation}
 use Rattle.std.proofs.lemmas.List.Elements.{All-cons, All-nil, All-head, All-tail}
@@ -45,15 +45,7 @@ IsProfile-pairs M N same bars from until profile = record {
 pub IsColumn-same : (set zones : List ZoneBounds) (column : Column) → HaveSamePairs set zones
     → IsColumn (SetHolds zones) column → IsColumn (SetHolds set) column
 IsColumn-same set zones column same is =
-    let both : (a b n : ℕ) → 0 < n → SetHolds zones a b n ↔ SetHolds set a b n =
-    λ a b n some. ((same.same a b n some).1, (same.same a b n some).0) in
-    record {
-      rising = is.rising;
-      there = IsProfile-pairs (SetHolds zones) (SetHolds set) both column.there.items column.time
-          column.time is.there;
-      behind = IsProfile-pairs (SetHolds zones) (SetHolds set) both column.behind.items column.time
-          column.until is.behind;
-    }
+    search (rules, IsProfile-pairs, same.same, column.there.items, column.time, column.behind.items)
 
 -- ---- bars without a pair
 
@@ -87,11 +79,7 @@ module _ (zones : List ZoneBounds) (canonical : AreCanonical zones) where
       ((is.exact a b n some le).0 h)
 
   none_past : (a b n : ℕ) → 0 < n → TIME_MAX * n < a → SetHolds zones a b n → ⊥
-  none_past a b n some past h =
-      let frame = set_framed zones canonical a b n some h in
-      let rises = frame.rising in
-      let ends = frame.ends in
-      omega arith
+  none_past a b n some past h = search (rules, set_framed)
 
   -- Nor over times past all that can be named.
   no_bars_past : (bars : List Bar) (from until : ℕ) → from < until → TIME_MAX < until
@@ -104,8 +92,7 @@ module _ (zones : List ZoneBounds) (canonical : AreCanonical zones) where
       (inr (omega arith, omega arith))).exact p).0 h))
 
   no_bar : (bars : List Bar) (bar : Bar) → bars ≡ [] → Contains bars bar → ⊥
-  no_bar bars bar e has =
-      let none = subst (λ (l : List Bar). Contains l bar) e has in omega (arith, none.1)
+  no_bar bars bar e has = search rules
 
   module _ (bars : List Bar) (from : ℕ) (takes : Bool) (found : List ZoneBounds) (time : ℕ)
       (spun : IsSpun zones bars from takes found time) (past : TIME_MAX < time) where
@@ -216,15 +203,9 @@ canonical_again (zone ∷ zones) each = (
 
 pub AreInTurn-sorted : (zones sorted : List ZoneBounds) → IsPermutation zones sorted
     → AreCanonical zones → IsNonDecreasingBy begin_of sorted → BeginInTurn sorted
-AreInTurn-sorted zones sorted order canonical rising = record {
-  order = rising;
-  canonical = canonical_again sorted
-      (All-permutation IsCanonical zones sorted order (canonical_each zones canonical));
-}
+AreInTurn-sorted zones sorted order canonical rising =
+    search (rules, canonical_again, All-permutation, canonical_each)
 
 pub HaveSamePairs-permutation : (zones sorted : List ZoneBounds) → IsPermutation zones sorted
     → HaveSamePairs zones sorted
-HaveSamePairs-permutation zones sorted order = record {
-  same = λ a b n some.
-      let both = SetHolds-permutation zones sorted a b n order in (both.1, both.0);
-}
+HaveSamePairs-permutation zones sorted order = search (rules, SetHolds-permutation)

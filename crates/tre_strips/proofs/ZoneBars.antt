@@ -1,5 +1,5 @@
 -- The bars of zones over some times.
-use Rattle.std.proofs.Common.{◌≡◌, ℕ, ◌+◌, ◌-◌, ◌*◌, ◌<◌, ◌≤◌, ◌↔◌, ◌==◌, Bool, true, false, cond, not, MatchBool, Option, Some, None, List, [], ◌∷◌, ◌++◌, length, get_or, take, nat_abs, ℤ, option_to_list, append-nil, subst, ◌∙◌, sym, arith, inl, inr, ⊎_elim}
+use Rattle.std.proofs.Common.{◌≡◌, ℕ, ◌+◌, ◌-◌, ◌*◌, ◌<◌, ◌≤◌, ◌↔◌, ◌==◌, Bool, true, false, cond, not, MatchBool, Option, Some, None, List, [], ◌∷◌, ◌++◌, length, get_or, take, nat_abs, ℤ, option_to_list, arith, inl, inr, ⊎_elim, rules}
 use Rattle.std.proofs.lemmas.List.{take_all}
 use Rattle.tre_zone.specs.Bound.{value_of, weakness_of}
 use Rattle.tre_zone.specs.Zone.{ZoneHolds, IsCanonical}
@@ -11,7 +11,7 @@ use Rattle.tre_zoneset.proofs.Members.{SetHolds-more}
 use Rattle.tre_strips.specs.Bar.{place_of}
 use Rattle.tre_strips.specs.Profile.{IsProfile}
 use Rattle.tre_strips.specs.Profiles.{low_of, bar_end_of, Begin, IsBarOf, AreFilledOver, AreBarsOf, IsUnionOfBars}
-use Rattle.tre_strips.specs.Times.{IsAmongTimes, Narrows, Compares, IsLater, IsEarlier}
+use Rattle.tre_strips.specs.Times.{Narrows, Compares, IsLater, IsEarlier}
 use Rattle.tre_strips.specs.declared.bar.Bar.{Bar}
 use Rattle.tre_strips.specs.declared.bar.BarEnd.{BarEnd}
 use Rattle.tre_strips.specs.declared.times.Times.{Times}
@@ -163,12 +163,7 @@ at_begin a n = omega arith
 
 pub Begin-before : (times : Times) (low high : ℤ) → Compares true times the_begin (low_of low false)
     → Begin false times low high
-Begin-before times low high less = record {
-  each = λ a n time from until.
-      let at = at_begin a n in
-      let before = less.told a n time in
-      omega arith;
-}
+Begin-before times low high less = search (rules, at_begin, less.told)
 
 pub Begin-told : (old times : Times) (low high : ℤ) (within : Bool) → Narrows old times
     → Compares false old the_begin (low_of low false)
@@ -180,21 +175,12 @@ Begin-told old times low high true cut above less = record {
       let until = less.told a n time in
       (omega arith, omega arith);
 }
-Begin-told old times low high false cut above less = record {
-  each = λ a n time from until.
-      let at = at_begin a n in
-      let past = less.told a n time in
-      omega arith;
-}
+Begin-told old times low high false cut above less = search (rules, at_begin, less.told)
 
 -- ---- the bars of zones
 
 pub AreBarsOf-none : (times : Times) → AreBarsOf times [] []
-AreBarsOf-none times = record {
-  filled = λ a n time. AreFilled-nil a n;
-  exact = λ a n time b.
-      ((λ h. absurd (BarsHold-none a b n h)), (λ h. absurd (SetHolds-empty a b n h)));
-}
+AreBarsOf-none times = search (rules, AreFilled-nil, BarsHold-none, SetHolds-empty)
 
 AreBarsOf-some : (old new : Times) (zones : List ZoneBounds) (i : ℕ) (zone : ZoneBounds)
     (bars : List Bar) (bar : Bar) → i < length zones → zone ≡ get_or zones i zone
@@ -234,11 +220,9 @@ pub AreBarsOf-step : (old new : Times) (zones : List ZoneBounds) (i : ℕ) (zone
     → bars' ≡ bars ++ option_to_list found
     → AreBarsOf new (take (i + 1) zones) bars'
 AreBarsOf-step old new zones i zone bars bars' (Some bar) within is now cut found e =
-    subst (λ (l : List Bar). AreBarsOf new (take (i + 1) zones) l) (sym e)
-    (AreBarsOf-some old new zones i zone bars bar within is now cut found)
+    search (rules, AreBarsOf-some)
 AreBarsOf-step old new zones i zone bars bars' None within is now cut found e =
-    subst (λ (l : List Bar). AreBarsOf new (take (i + 1) zones) l) (sym (e ∙ append-nil bars))
-    (AreBarsOf-skip old new zones i zone bars within is now cut found)
+    search (rules, AreBarsOf-skip)
 
 pub AreBarsOf-all : (times : Times) (zones : List ZoneBounds) (i : ℕ) (bars : List Bar)
     → length zones ≤ i → AreBarsOf times (take i zones) bars → AreBarsOf times zones bars
@@ -254,14 +238,4 @@ AreBarsOf-filled times zones bars are = record { each = are.filled }
 pub IsProfile-union : (old times : Times) (zones : List ZoneBounds) (bars union : List Bar)
     → AreBarsOf old zones bars → Narrows old times → IsUnionOfBars times bars union
     → IsProfile (SetHolds zones) union times.from times.until
-IsProfile-union old times zones bars union are cut is = record {
-  each = λ a n some inside.
-      let time : IsAmongTimes times a n = record { some = some; inside = inside } in
-      record {
-        rising = is.rising a n time;
-        exact = λ b.
-            let one = is.exact a n time b in
-            let other = are.exact a n (Narrows-time old times cut a n time) b in
-            ((λ h. other.0 (one.0 h)), (λ h. one.1 (other.1 h)));
-      };
-}
+IsProfile-union old times zones bars union are cut is = search rules

@@ -1,5 +1,5 @@
 -- What each atom matches before a cut, behind it and across it.
-use Rattle.std.proofs.Common.{ℕ, ◌+◌, ◌*◌, ◌<◌, ◌≤◌, ◌↔◌, List, [], ◌∷◌, ◌++◌, Option, Some, refl, sym, inl, inr, ⊎_elim, mul-lt-mul_of_pos_right, arith}
+use Rattle.std.proofs.Common.{ℕ, ◌+◌, ◌*◌, ◌<◌, ◌≤◌, ◌↔◌, List, [], ◌∷◌, ◌++◌, Option, Some, refl, sym, inl, inr, ⊎_elim, mul-lt-mul_of_pos_right, arith, rules}
 use Rattle.std.proofs.lemmas.Bool.{cases_lt}
 use Rattle.std.proofs.Math.Nat.{mul-le-mul_right}
 use Rattle.tre_pairs.specs.Cuts.{IsMoment, Crossing, JoinedAt, Passing}
@@ -96,21 +96,8 @@ module _ (start : ℕ) (before : Option ℕ) (u : List Segment) (next : Timeline
   pub Implies-behind : (x : Atom)
       → Implies (AtomMatches (rest_of (end_of start u) (last_of before u) next) x)
       (AtomMatches (rest_of start before (prefixed u next)) x)
-  Implies-behind empty = record {
-    at = λ a b n h. record {
-      begin = begins_before a n h.begin;
-      same = h.same;
-      end = ends_same b n h.end;
-    };
-  }
-  Implies-behind (literal s) = record {
-    at = λ a b n h. record {
-      begin = begins_before a n h.begin;
-      some_time = h.some_time;
-      end = ends_same b n h.end;
-      throughout = between_behind (HoldsOn s) a b n start u next.segments h.begin h.throughout;
-    };
-  }
+  Implies-behind empty = search (rules, begins_before, ends_same)
+  Implies-behind (literal s) = search (rules, begins_before, ends_same, between_behind)
   Implies-behind (rise s) = edge_implies_behind (λ w. ¬ HoldsOn s w) (HoldsOn s)
   Implies-behind (fall s) = edge_implies_behind (HoldsOn s) (λ w. ¬ HoldsOn s w)
   Implies-behind (event i) =
@@ -158,53 +145,15 @@ pub crossing_empty : (start : ℕ) (before : Option ℕ) (u : List Segment) (nex
     (a b n : ℕ)
     → Crossing (end_of start u) (EmptyMatches (rest_of start before (prefixed u next))) a b n
     ↔ IsMoment (end_of start u) a b n
-crossing_empty start before u next a b n = (
-  λ h.
-      let same = h.related.same in
-      record {
-        begin = omega (arith, same, h.begin, h.end);
-        end = omega (arith, same, h.begin, h.end);
-      },
-  λ h.
-      let begin = h.begin in
-      let end = h.end in
-      record {
-        related = record {
-          begin = omega (arith, begin, mul-le-mul_right n (end_of-le start u));
-          same = omega (arith, begin, end);
-          end = ends_same start before u next b n
-              (omega (arith, end, mul-le-mul_right n (end_of-le (end_of start u) next.segments)));
-        };
-        begin = omega (arith, begin);
-        end = omega (arith, end);
-      },
-)
+crossing_empty start before u next a b n =
+    search (rules, mul-le-mul_right, end_of-le, ends_same, end_of)
 
 -- the instants that cross are those of the back at the cut
 module _ (cut : ℕ) (M N : ℕ → Type 0) where
   crossing_instant : Implies (InstantMatches N) (InstantMatches M)
       → ImpliesFrom cut (InstantMatches M) (InstantMatches N) → (a b n : ℕ) → 0 < n
       → Crossing cut (InstantMatches M) a b n ↔ Both (IsMoment cut) (InstantMatches N) a b n
-  crossing_instant behind from a b n some = (
-    λ h.
-        let begin = h.related.begin in
-        let end = h.related.end in
-        record {
-          left = record {
-            begin = omega (arith, begin, end, h.begin, h.end);
-            end = omega (arith, begin, end, h.begin, h.end);
-          };
-          right = from.at a b n some (omega (arith, begin, end, h.begin, h.end)) h.related;
-        },
-    λ h.
-        let begin = h.left.begin in
-        let end = h.left.end in
-        record {
-          related = behind.at a b n h.right;
-          begin = omega (arith, begin);
-          end = omega (arith, end);
-        },
-  )
+  crossing_instant behind from a b n some = search rules
 
 pub crossing_edge : (P Q : ℕ → Type 0) (start : ℕ) (before : Option ℕ) (u : List Segment)
     (next : Timeline) → AreLong u → (a b n : ℕ) → 0 < n
@@ -292,21 +241,7 @@ module _ (P : ℕ → Type 0) (start : ℕ) (before : Option ℕ) (u : List Segm
   until_cut : (a b n : ℕ) → Crossing (end_of start u) (LiteralMatches P start (u ++ next.segments)) a b n
       → Until a (end_of start u * n) n
   unfolding Until
-  until_cut a b n h =
-      let cut = end_of start u * n in
-      ⊎_elim
-      (λ early. inl (record {
-        begin = h.related.begin;
-        some_time = early;
-        end = omega arith;
-        throughout = between_sooner P a b n start cut u h.end
-            (between_cut P a b n start u next.segments h.related.throughout);
-      }))
-      (λ late. let begin = h.begin in inr (record {
-        begin = omega (arith, begin, late);
-        end = refl;
-      }))
-      (cases_lt a cut)
+  until_cut a b n h = search (rules, end_of, between_sooner, between_cut, cases_lt, h.begin)
 
   from_cut : (a b n : ℕ) → Crossing (end_of start u) (LiteralMatches P start (u ++ next.segments)) a b n
       → From (end_of start u * n) b n

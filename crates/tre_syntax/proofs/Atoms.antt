@@ -1,6 +1,6 @@
 -- The laws of the atoms over a rest: they scale, are ordered and bounded, and don't see where a
 -- segment is cut in two.
-use Rattle.std.proofs.Common.{ℕ, ◌+◌, ◌*◌, ◌<◌, ◌≤◌, List, [], ◌∷◌, Option, Some, ap, ⊎_elim, arith}
+use Rattle.std.proofs.Common.{ℕ, ◌+◌, ◌*◌, ◌<◌, ◌≤◌, List, [], ◌∷◌, Option, Some, ap, ⊎_elim, arith, rules}
 use Rattle.std.proofs.Math.Nat.{mul-lt-mul_of_pos_left, lt_of_mul-lt-mul_left, eq_of_mul-eq-mul_left}
 use Rattle.tre_pairs.proofs.Laws.{Scales, IsOrdered, IsInstant, IsBounded}
 use Rattle.tre_pairs.proofs.Ticks.{le_up, le_down, ge_up, ge_down, lt_up, lt_down, gt_up, gt_down}
@@ -131,21 +131,12 @@ module _ (rest : Rest) where
 
   IsBounded-Edge : (P Q : ℕ → Type 0)
       → IsBounded rest.start (end_of rest.start rest.segments) (EdgeMatches P Q rest)
-  IsBounded-Edge P Q =
-      IsBounded-Instant (EdgeTime P Q) rest.start (end_of rest.start rest.segments)
-      (HasEdge-begin P Q rest.start rest.before rest.segments)
-      (HasEdge-end P Q rest.start rest.before rest.segments)
+  IsBounded-Edge P Q = search (rules, IsBounded-Instant, end_of, HasEdge-begin, HasEdge-end)
 
   pub IsBounded-Atom : (x : Atom)
       → IsBounded rest.start (end_of rest.start rest.segments) (AtomMatches rest x)
-  IsBounded-Atom empty = record {
-    begin = λ a b n h. h.begin;
-    end = λ a b n h. h.end;
-  }
+  IsBounded-Atom empty = search rules
   IsBounded-Atom (literal s) = IsBounded-Literal (HoldsOn s) rest.start rest.segments
   IsBounded-Atom (rise s) = IsBounded-Edge (λ v. ¬ HoldsOn s v) (HoldsOn s)
   IsBounded-Atom (fall s) = IsBounded-Edge (HoldsOn s) (λ v. ¬ HoldsOn s v)
-  IsBounded-Atom (event i) =
-      IsBounded-Instant (EventTime i) rest.start (end_of rest.start rest.segments)
-      (HasEvent-begin i rest.start rest.segments rest.last)
-      (HasEvent-end i rest.start rest.segments rest.last)
+  IsBounded-Atom (event i) = search (rules, IsBounded-Instant, end_of, HasEvent-begin, HasEvent-end)

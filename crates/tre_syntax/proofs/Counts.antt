@@ -1,5 +1,5 @@
 -- The count of nodes, and what is read of a list of numbers in the order of their first use.
-use Rattle.std.proofs.Common.{◌≡◌, ◌↔◌, ℕ, ◌+◌, ◌<◌, Bool, true, false, List, [], ◌∷◌, ◌++◌, Option, Some, None, IsTrue, refl, sym, ap, ◌∙◌, true≢false, arith}
+use Rattle.std.proofs.Common.{◌≡◌, ◌↔◌, ℕ, ◌+◌, ◌<◌, Bool, true, false, List, [], ◌∷◌, ◌++◌, Option, Some, None, IsTrue, refl, sym, ap, ◌∙◌, arith, rules}
 use Rattle.std.specs.Prelude.{nat_lt, ◌==◌, if◌then◌else◌}
 use Rattle.tre_state.specs.StateTree as state
 use Rattle.tre_state.specs.StateTree.{StateTree, always, proposition, negation, conjunction, disjunction}
@@ -67,7 +67,4 @@ seen_after_parts seen xs ys m all = parted seen xs ys m (seen_after seen xs) ref
 -- a list that is not read through has no count
 pub none_is_no_count : (seen : Option ℕ) (count : ℕ) → seen ≡ None
     → IsTrue false ↔ (seen ≡ Some count)
-none_is_no_count seen count none = (
-  (λ is. absurd (true≢false (sym is))),
-  (λ some. let no : None ≡ Some count = sym none ∙ some in absurd (cc)),
-)
+none_is_no_count seen count none = search rules

@@ -1,5 +1,5 @@
 -- Where a trace ends, an expression matches that one moment or nothing.
-use Rattle.std.proofs.Common.{◌≡◌, ℕ, ◌*◌, ◌-◌, ◌<◌, ◌↔◌, [], Option, refl, sym, subst, inl, inr, ⊎_elim, arith, mul-pos}
+use Rattle.std.proofs.Common.{◌≡◌, ℕ, ◌*◌, ◌-◌, ◌<◌, ◌↔◌, [], Option, refl, subst, inl, inr, ⊎_elim, arith, mul-pos, rules}
 use Rattle.tre_pairs.specs.Cuts.{IsMoment}
 use Rattle.tre_pairs.proofs.Chains.{Composed-at, Chain-none}
 use Rattle.tre_trace.specs.Trace.{timeline_of}
@@ -22,11 +22,7 @@ no_time_up ends n some h =
 
 no_time_down : (ends : IntervalEnds) (n : ℕ) → 0 < n → LastsWithin ends 0 n
     → LastsWithin ends 0 1
-no_time_down ends n some h =
-    let none : 0 ≡ n * 0 = omega arith in
-    let same : n ≡ n * 1 = omega arith in
-    (DurationScales-LastsWithin ends).down n 0 1 some
-    (subst (λ k. LastsWithin ends (n * 0) k) same (subst (λ d. LastsWithin ends d n) none h))
+no_time_down ends n some h = search rules
 
 module _ (start : ℕ) (before : Option ℕ) (last : ℕ) where
   abbrev end_rest : Rest
@@ -42,11 +38,7 @@ module _ (start : ℕ) (before : Option ℕ) (last : ℕ) where
 
   atom_told : (x : Atom) (a b n : ℕ) → 0 < n → AtomMatches end_rest x a b n → AtomAtEnd last x
   atom_told empty a b n some h = tt
-  atom_told (literal s) a b n some h =
-      let begin = h.begin in
-      let passes = h.some_time in
-      let end = h.end in
-      absurd (omega (arith, begin, passes, end))
+  atom_told (literal s) a b n some h = search rules
   atom_told (rise s) a b n some h = h.there
   atom_told (fall s) a b n some h = h.there
   atom_told (event i) a b n some h = h.there.1
@@ -78,12 +70,7 @@ module _ (start : ℕ) (before : Option ℕ) (last : ℕ) where
   atom_at_end (literal s) n h = absurd h
   atom_at_end (rise s) n h = absurd h
   atom_at_end (fall s) n h = absurd h
-  atom_at_end (event i) n h = record {
-    time = start;
-    begin = refl;
-    end = refl;
-    there = (refl, h);
-  }
+  atom_at_end (event i) n h = search rules
 
   at_end : (tree : PatternTree) (n : ℕ) → 0 < n → MatchesAtEnd last tree
       → MatchesRest tree end_rest (start * n) (start * n) n
@@ -109,10 +96,4 @@ module _ (start : ℕ) (before : Option ℕ) (last : ℕ) where
 
   pub matches_at_end : (tree : PatternTree) (a b n : ℕ) → 0 < n
       → MatchesRest tree end_rest a b n ↔ (IsMoment start a b n × MatchesAtEnd last tree)
-  matches_at_end tree a b n some = (
-    λ h. (moment_of tree a b n h, told tree a b n some h),
-    λ h.
-        let at = at_end tree n some h.1 in
-        subst (λ x. MatchesRest tree end_rest x b n) (sym h.0.begin)
-        (subst (λ y. MatchesRest tree end_rest (start * n) y n) (sym h.0.end) at),
-  )
+  matches_at_end tree a b n some = search (rules, moment_of, told, at_end)

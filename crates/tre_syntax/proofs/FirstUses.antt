@@ -1,9 +1,9 @@
 -- Numbers that were read in order stand in the order of their first use, and only those.
-use Rattle.std.proofs.Common.{◌≡◌, ℕ, ◌+◌, ◌<◌, ◌≤◌, ◌↔◌, ◌⊎◌, List, [], ◌∷◌, ◌++◌, Some, refl, sym, ap, subst, ◌∙◌, inl, inr, ⊎_elim, arith}
+use Rattle.std.proofs.Common.{◌≡◌, ℕ, ◌+◌, ◌<◌, ◌≤◌, ◌↔◌, ◌⊎◌, List, [], ◌∷◌, ◌++◌, Some, refl, sym, ap, ◌∙◌, ⊎_elim, arith, rules}
 use Rattle.std.specs.Prelude.{All, Contains}
 use Rattle.std.proofs.lemmas.Bool.{cases_lt}
 use Rattle.std.proofs.lemmas.Bool.Decides.{nat_tests}
-use Rattle.std.proofs.lemmas.List.Elements.{All-nil, All-cons, All-contains, Contains-append_left, Contains-append_right, Contains-append_cases, Contains-push, Contains-push_cases}
+use Rattle.std.proofs.lemmas.List.Elements.{All-nil, All-cons, All-contains, Contains-append_right}
 use Rattle.tre_syntax.specs.FirstUse.{AreInOrderOfUse}
 use Rattle.tre_syntax.specs.PatternTree.{seen_after}
 use Rattle.tre_syntax.proofs.Counts.{seen_after_parts}
@@ -26,21 +26,13 @@ Contains-later : (x : ℕ) (xs : List ℕ) (i : ℕ) → Contains xs i → Conta
 Contains-later x xs i h = Contains-append_right (x ∷ []) xs i h
 
 Contains-first : (x : ℕ) (xs : List ℕ) (i : ℕ) → x ≡ i → Contains (x ∷ xs) i
-Contains-first x xs i is =
-    subst (λ (y : ℕ). Contains (x ∷ xs) y) is
-    (Contains-append_left (x ∷ []) xs x (Contains-push [] x))
+Contains-first x xs i is = search rules
 
 Contains-none : (i : ℕ) → Contains [] i → ⊥
 Contains-none i (k, below, at) = absurd (omega (arith, below))
 
 Contains-cases : (x : ℕ) (xs : List ℕ) (i : ℕ) → Contains (x ∷ xs) i → (x ≡ i) ⊎ Contains xs i
-Contains-cases x xs i h =
-    ⊎_elim
-    (λ one.
-    inl
-    (⊎_elim (λ none. absurd (Contains-none i none)) (λ is. is)
-    (Contains-push_cases [] x i one))) (λ more. inr more)
-    (Contains-append_cases (x ∷ []) xs i h)
+Contains-cases x xs i h = search rules
 
 -- each number that was read was seen in the end
 pub all_seen : (seen : ℕ) (xs : List ℕ) (m : ℕ) → seen_after seen xs ≡ Some m

@@ -78,19 +78,10 @@ module _ (start : ℕ) (before : Option ℕ) (u : List Segment) (next : Timeline
       → Implies (AtomMatches (rest_of start before (quiet u)) x)
       (AtomMatches (rest_of start before (prefixed u next)) x)
   Implies-grown empty = search (rules, grown_end)
-  Implies-grown (literal s) = record {
-    at = λ a b n h. record {
-      begin = h.begin;
-      some_time = h.some_time;
-      end = grown_end b n h.end;
-      throughout = between_grows (HoldsOn s) a b n start u next.segments h.end h.throughout;
-    };
-  }
+  Implies-grown (literal s) = search (rules, grown_end, between_grows)
   Implies-grown (rise s) = edge_implies (λ w. ¬ HoldsOn s w) (HoldsOn s)
   Implies-grown (fall s) = edge_implies (HoldsOn s) (λ w. ¬ HoldsOn s w)
-  Implies-grown (event i) = Implies-Instant (HasEvent i start u 0)
-      (HasEvent i start (u ++ next.segments) next.last)
-      (event_grows i start u next.segments next.last)
+  Implies-grown (event i) = search (rules, Implies-Instant, event_grows)
 
   edge_implies_before : (P Q : ℕ → Type 0)
       → ImpliesBefore (end_of start u) (EdgeMatches P Q (rest_of start before (prefixed u next)))

@@ -1,6 +1,6 @@
 -- What the atoms say of a whole trace, by the places of its segments.
 use Rattle.std.specs.Int.{bit_at}
-use Rattle.std.proofs.Common.{◌⊎◌, ◌≡◌, ℕ, ◌+◌, ◌*◌, ◌<◌, ◌≤◌, ◌↔◌, List, [], ◌∷◌, ◌++◌, Option, Some, None, refl, sym, ap, subst, inl, inr, ⊎_elim, arith}
+use Rattle.std.proofs.Common.{◌⊎◌, ◌≡◌, ℕ, ◌+◌, ◌*◌, ◌<◌, ◌≤◌, ◌↔◌, List, [], ◌∷◌, ◌++◌, Option, Some, None, refl, ap, inl, inr, ⊎_elim, arith, rules}
 use Rattle.std.proofs.Math.Nat.{mul-lt-mul_of_pos_right}
 use Rattle.tre_trace.specs.declared.segment.Segment.{Segment}
 use Rattle.tre_trace.specs.Literal.{HoldsBetween, LiteralMatches}
@@ -60,27 +60,11 @@ module _ (P Q : ℕ → Type 0) where
   edge_of : (segments : List Segment) (t : ℕ) → MeetAt P Q 0 segments t
       → HasEdge P Q 0 None segments t
   edge_of segments t m =
-      let there = edge_where 0 None m.front m.one m.other m.back m.ends m.begins in
-      let timed = subst (λ (x : ℕ). HasEdge P Q 0 None (m.front ++ m.one ∷ m.other ∷ m.back) x)
-      (sym m.time) there in
-      subst (λ (xs : List Segment). HasEdge P Q 0 None xs t) (sym m.parts) timed
+      search (rules, edge_where, m.front, m.one, m.other, m.back, m.ends, m.begins)
 
   pub edge_iff : (trace : Timeline) (a b n : ℕ) → EdgeMatches P Q (whole trace) a b n
       ↔ IsBetweenNeighbours P Q trace.segments a b n
-  edge_iff trace a b n = (
-    λ h. record {
-      time = h.time;
-      begin = h.begin;
-      end = h.end;
-      meet = meet_in trace.segments h.time h.there;
-    },
-    λ h. record {
-      time = h.time;
-      begin = h.begin;
-      end = h.end;
-      there = edge_of trace.segments h.time h.meet;
-    },
-  )
+  edge_iff trace a b n = search (rules, meet_in, edge_of, trace.segments)
 
   -- where each segment is some ticks long, neighbours meet neither at the start nor at the end
   long_pair : (front : List Segment) (one other : Segment) (back : List Segment)
@@ -91,11 +75,7 @@ module _ (P Q : ℕ → Type 0) where
   meet_inside : (segments : List Segment) (t : ℕ) → AreLong segments → MeetAt P Q 0 segments t
       → (0 < t) × (t < end_of 0 segments)
   meet_inside segments t long m =
-      let pair = long_pair m.front m.one m.other m.back (subst AreLong m.parts long) in
-      let whole_end = ap (end_of 0) m.parts in
-      let behind = end_of-append 0 m.front (m.one ∷ m.other ∷ m.back) in
-      let later = end_of-le (end_of 0 m.front + m.one.len + m.other.len) m.back in
-      (omega (arith, m.time, pair.0), omega (arith, m.time, pair.1, whole_end, behind, later))
+      search (rules, long_pair, end_of, end_of-append, end_of-le, m.front, m.one, m.other, m.back)
 
   pub edge_inside : (trace : Timeline) (a b n : ℕ) → 0 < n → AreLong trace.segments
       → EdgeMatches P Q (whole trace) a b n
@@ -154,33 +134,11 @@ module _ (number : ℕ) where
   event_of : (segments : List Segment) (last t : ℕ) → HasEventAt number 0 segments t
       ⊎ ((t ≡ end_of 0 segments) × (bit_at last number ≡ 1))
       → HasEvent number 0 segments last t
-  event_of segments last t h =
-      ⊎_elim
-      (λ m.
-      let there = event_where 0 m.front m.segment m.back last m.happens in
-      let timed = subst (λ (x : ℕ). HasEvent number 0 (m.front ++ m.segment ∷ m.back) last x)
-      (sym m.time) there in
-      subst (λ (xs : List Segment). HasEvent number 0 xs last t) (sym m.parts) timed)
-      (λ at. subst (λ (x : ℕ). HasEvent number 0 segments last x) (sym at.0)
-      (event_last 0 segments last at.1))
-      h
+  event_of segments last t h = search (rules, event_where, event_last)
 
   pub event_iff : (trace : Timeline) (a b n : ℕ) → EventMatches number (whole trace) a b n
       ↔ IsWhereHappens number trace a b n
-  event_iff trace a b n = (
-    λ h. record {
-      time = h.time;
-      begin = h.begin;
-      end = h.end;
-      there = event_in 0 trace.segments trace.last h.time h.there;
-    },
-    λ h. record {
-      time = h.time;
-      begin = h.begin;
-      end = h.end;
-      there = event_of trace.segments trace.last h.time h.there;
-    },
-  )
+  event_iff trace a b n = search (rules, event_in, event_of, trace.segments, trace.last)
 
 module _ (P : ℕ → Type 0) (a b n : ℕ) where
   holds_at : (start : ℕ) (front : List Segment) (segment : Segment) (back : List Segment)
@@ -205,20 +163,4 @@ module _ (P : ℕ → Type 0) (a b n : ℕ) where
 
   pub literal_iff : (segments : List Segment) → LiteralMatches P 0 segments a b n
       ↔ IsThroughout P segments a b n
-  literal_iff segments = (
-    λ h. record {
-      some_time = h.some_time;
-      end = h.end;
-      each = λ front segment back parts begins ends.
-          holds_at 0 front segment back
-          (subst (λ (xs : List Segment). HoldsBetween P 0 xs a b n) parts h.throughout) begins
-          ends;
-    },
-    λ h. record {
-      begin = omega arith;
-      some_time = h.some_time;
-      end = h.end;
-      throughout =
-          holds_each 0 segments h.each;
-    },
-  )
+  literal_iff segments = search (rules, holds_at, holds_each)

@@ -1,5 +1,5 @@
 -- The numbers of a pattern's propositions and events are below the count of its names.
-use Rattle.std.proofs.Common.{ℕ, ◌<◌, ◌≤◌, List, [], ◌∷◌, ◌++◌, arith}
+use Rattle.std.proofs.Common.{ℕ, ◌<◌, ◌≤◌, List, [], ◌∷◌, ◌++◌, rules}
 use Rattle.std.specs.Prelude.{All}
 use Rattle.std.proofs.lemmas.List.Elements.{All-nil, All-cons, All-head, All-tail, All-weaker}
 use Rattle.tre_state.specs.StateTree as state
@@ -65,9 +65,7 @@ module _ (bound : ℕ) where
 
 numbers_few : (kind : NameKind) (e : PatternTree) (count : ℕ) → IsNumbered kind e count
     → count ≤ NAMES_MAX → All (λ i. i < NAMES_MAX) (numbers_of kind e)
-numbers_few kind e count numbered few =
-    All-weaker (λ i. i < count) (λ i. i < NAMES_MAX) (λ i lt. omega (arith, lt, few))
-    (numbers_of kind e) (all_seen 0 (numbers_of kind e) count numbered).0
+numbers_few kind e count numbered few = search (rules, All-weaker, numbers_of, all_seen)
 
 module _ (e : PatternTree) (names events : ℕ) (numbered : IsNumbered Proposition e names)
     (events_numbered : IsNumbered Event e events) (few : names ≤ NAMES_MAX)

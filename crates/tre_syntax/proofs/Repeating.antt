@@ -38,6 +38,5 @@ ends_within e rest a b n h =
 pub repetition_nested : (e : PatternTree) (rest : Rest) (a b n : ℕ)
     → MatchesRest (repetition (repetition e)) rest a b n ↔ MatchesRest (repetition e) rest a b n
 repetition_nested e rest a b n =
-    Chain-Chain (MatchesRest e rest) (EmptyMatches rest)
-    (Scales-Meaning (AtomMatches rest) (Scales-Atom rest) e) (Scales-Atom rest empty)
-    (IsInstant-Empty rest) (ends_within e rest) a b n
+    Chain-Chain (MatchesRest _ _) (EmptyMatches _) (Scales-Meaning (AtomMatches _) (Scales-Atom _)
+    _) (Scales-Atom _ empty) (IsInstant-Empty _) (ends_within _ _) _ _ _

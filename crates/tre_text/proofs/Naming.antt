@@ -1,8 +1,7 @@
 -- The bits of the names that stand among fields.
-use Rattle.std.proofs.Common.{◌≡◌, ◌≢◌, ◌↔◌, ℕ, suc, ◌+◌, ◌*◌, ◌/◌, ◌%◌, ◌^◌, ◌<◌, nat_lt, Bool, true, false, ◌||◌, cond, not, List, [], ◌∷◌, ◌++◌, length, get_or, Option, None, Some, All, AllPairs, Contains, refl, sym, ap, ap₂, ◌∙◌, subst, arith, if◌then◌else◌}
+use Rattle.std.proofs.Common.{◌≡◌, ◌≢◌, ◌↔◌, ℕ, suc, ◌+◌, ◌*◌, ◌/◌, ◌%◌, ◌^◌, ◌<◌, nat_lt, Bool, true, false, ◌||◌, cond, not, List, [], ◌∷◌, ◌++◌, length, get_or, Option, None, Some, All, AllPairs, Contains, refl, sym, ap, ap₂, ◌∙◌, arith, if◌then◌else◌, rules}
 use Rattle.std.proofs.Math.Nat.{pow-suc}
 use Rattle.std.proofs.lemmas.Bool.{false_from_ne_true}
-use Rattle.std.proofs.lemmas.Bool.Decides.{nat_tests}
 use Rattle.std.proofs.lemmas.List.Elements.{All-tail}
 use Rattle.std.proofs.lemmas.List.Folds.{Any-from_list_any, list_any_at}
 use Rattle.std.proofs.lemmas.Slice.Eq.{bytes_eq-Decides}
@@ -32,52 +31,25 @@ abbrev placed : Bool → ℕ → ℕ → Option ℕ
 placed same n m =
     cond (nat_lt (cond (not same) (1 + n) 0) (suc m)) (Some (cond (not same) (1 + n) 0)) None
 
-placed-first : (n m : ℕ) → placed true n m ≡ Some 0
-placed-first n m =
-    let some : nat_lt 0 (suc m) ≡ true = grind (arith, nat_tests) in
-    ap (λ (b : Bool). cond b (Some 0) None) some
-
-placed-later : (n m : ℕ) (less : Bool) → nat_lt n m ≡ less
-    → placed false n m ≡ option_map suc (cond less (Some n) None)
-placed-later n m true is =
-    let one : 1 + n ≡ suc n = omega arith in
-    let more : nat_lt (1 + n) (suc m) ≡ true = grind (arith, nat_tests) in
-    ap (λ (b : Bool). cond b (Some (1 + n)) None) more ∙ ap Some one
-placed-later n m false is =
-    let no_more : nat_lt (1 + n) (suc m) ≡ false = grind (arith, nat_tests) in
-    ap (λ (b : Bool). cond b (Some (1 + n)) None) no_more
-
 module _ (names : List (List ℕ)) (name field : List ℕ) where
   abbrev here : Bool → Option ℕ
   here same = placed same (position_or_len (bytes_eq field) names) (length names)
 
   place-first : bytes_eq field name ≡ true → place_of (name ∷ names) field ≡ Some 0
-  place-first same =
-      ap here same ∙ placed-first (position_or_len (bytes_eq field) names) (length names)
+  place-first same = search rules
 
   place-later : bytes_eq field name ≡ false
       → place_of (name ∷ names) field ≡ option_map suc (place_of names field)
-  place-later apart =
-      ap here apart
-      ∙ placed-later (position_or_len (bytes_eq field) names) (length names)
-      (nat_lt (position_or_len (bytes_eq field) names) (length names)) refl
+  place-later apart = search rules
 
 -- ---- a bit that is set besides
 
 set_low : (bit rest : ℕ) → bit < 2 → bit_or (bit + 2 * rest) (2 ^ 0) ≡ 1 + 2 * rest
-set_low bit rest is =
-    let high : bit_or ((bit + 2 * rest) / 2) (1 / 2) ≡ rest =
-    ap (λ n. bit_or n 0) (other_bits bit rest is) ∙ or_zero_r rest in
-    omega (arith, or_step (bit + 2 * rest) 1, high, low_bit bit rest is)
+set_low bit rest is = search (rules, bit_or, other_bits, or_zero_r, or_step, low_bit)
 
 set_high : (bit rest place : ℕ) → bit < 2
     → bit_or (bit + 2 * rest) (2 ^ suc place) ≡ bit + 2 * bit_or rest (2 ^ place)
-set_high bit rest place is =
-    let half : 2 ^ suc place / 2 ≡ 2 ^ place = omega (arith, pow-suc 2 place) in
-    let even : 2 ^ suc place % 2 ≡ 0 = omega (arith, pow-suc 2 place) in
-    let high : bit_or ((bit + 2 * rest) / 2) (2 ^ suc place / 2) ≡ bit_or rest (2 ^ place) =
-    ap₂ bit_or (other_bits bit rest is) half in
-    omega (arith, or_step (bit + 2 * rest) (2 ^ suc place), high, even, low_bit bit rest is)
+set_high bit rest place is = search (rules, pow-suc, bit_or, other_bits, or_step, low_bit)
 
 with_bit-later : (bit rest : ℕ) (place : Option ℕ) → bit < 2
     → with_bit (bit + 2 * rest) (option_map suc place) ≡ bit + 2 * with_bit rest place
@@ -165,8 +137,7 @@ pub bits-behind : (test : List ℕ → Bool) (fields names : List (List ℕ))
     → AllPairs (λ name other. name ≢ other) names
     → bits_after names (bits_of test names) fields
     ≡ bits_of (λ name. test name || is_among fields name) names
-bits-behind test [] names distinct =
-    bits-alike test (λ name. test name || false) names (λ name. sym (or-false (test name)))
+bits-behind test [] names distinct = search rules
 bits-behind test (field ∷ fields) names distinct =
     ap (λ bits. bits_after names bits fields) (bits-with test field names distinct)
     ∙ bits-behind (λ name. test name || bytes_eq field name) fields names distinct
@@ -198,9 +169,7 @@ pub bits-said : (said fields names : List (List ℕ)) → AllPairs (λ name othe
     → bits_after names (bits_of (is_among said) names) fields
     ≡ bits_of (is_among (said ++ fields)) names
 bits-said said fields names distinct =
-    bits-behind (is_among said) fields names distinct
-    ∙ bits-alike (λ name. is_among said name || is_among fields name) (is_among (said ++ fields))
-    names (λ name. sym (among-append said fields name))
+    search (rules, bits-behind, is_among, bits-alike, among-append)
 
 -- segments of the same parts
 pub segment-with : (len val ev one other : ℕ) → val ≡ one → ev ≡ other
@@ -212,11 +181,4 @@ segment-with len val ev one other is also = ap₂ (λ v e. segment_with len v e)
 -- a name is among the fields exactly where it is one of them
 pub among-is : (fields : List (List ℕ)) (name : List ℕ)
     → Contains fields name ↔ (is_among fields name ≡ true)
-among-is fields name = (
-  λ one. list_any_at (λ field. bytes_eq field name) fields one.0 name one.1
-      (ap (λ field. bytes_eq field name) one.2 ∙ (bytes_eq-Decides name name).1 refl),
-  λ is.
-      let one = Any-from_list_any (λ field. bytes_eq field name) fields is in
-      let same : one.1 ≡ name = (bytes_eq-Decides one.1 name).0 one.4 in
-      (one.0, one.2, subst (λ field. get_or fields one.0 field ≡ field) same one.3),
-)
+among-is fields name = search (rules, list_any_at, bytes_eq-Decides, Any-from_list_any)

@@ -74,10 +74,6 @@ word-no_blank (byte ∷ rest) whole =
     All-cons (λ b. is_blank b ≡ false) byte rest (blank_byte byte parts.0)
     (word-no_blank rest parts.1)
 
-pub word-none : (word : List ℕ) → (length word == 0) ≡ true → fields_among word ≡ []
-word-none [] none = refl
-word-none (byte ∷ rest) none = absurd (grind (arith, nat_tests))
-
 pub word-one : (word : List ℕ) → (length word == 0) ≡ false → list_all continues_name word ≡ true
     → fields_among word ≡ word ∷ []
 word-one word some whole = fields-field word (record {

@@ -1,8 +1,8 @@
 -- Names among the bytes of a line.
-use Rattle.std.proofs.Common.{◌≡◌, ℕ, zero, suc, ◌+◌, ◌-◌, ◌<◌, ◌≤◌, nat_lt, Bool, true, false, not, ◌||◌, ◌==◌, List, [], ◌∷◌, ◌++◌, append-nil, length, length-drop, length-take, take, drop, cond, drop-cons, get_or, ⊎_elim, refl, sym, ap, subst, ◌∙◌, arith, take-append-drop}
+use Rattle.std.proofs.Common.{◌≡◌, ℕ, zero, suc, ◌+◌, ◌-◌, ◌<◌, ◌≤◌, nat_lt, Bool, true, false, not, ◌||◌, ◌==◌, List, [], ◌∷◌, ◌++◌, append-nil, length, length-drop, length-take, take, drop, cond, drop-cons, get_or, ⊎_elim, refl, sym, ap, subst, ◌∙◌, arith, take-append-drop, rules}
 use Rattle.std.proofs.Math.ListN.{drop_of_length-le}
 use Rattle.std.proofs.Math.Seq.{take-length}
-use Rattle.std.proofs.lemmas.Bool.{agree_below_at, and_from, and_parts, or_parts, or_cases, cases_lt, false_from_ne_true}
+use Rattle.std.proofs.lemmas.Bool.{and_from, and_parts, or_parts, or_cases, cases_lt, false_from_ne_true}
 use Rattle.std.proofs.lemmas.Bool.Decides.{nat_tests}
 use Rattle.std.proofs.lemmas.List.{get_or-take, get_or-drop, drop-drop, take_more}
 use Rattle.std.proofs.lemmas.List.Elements.{All-nil, All-cons}
@@ -21,19 +21,14 @@ byte_is : (a b : ℕ) → (a == b) ≡ true → a ≡ b
 byte_is a b same = grind (arith, nat_tests)
 
 blank_ends : (byte : ℕ) → is_blank byte ≡ true → continues_name byte ≡ false
-blank_ends byte blank =
-    ⊎_elim (λ space. rw (byte_is byte 32 space) refl) (λ tab. rw (byte_is byte 9 tab) refl)
-    (or_cases (byte == 32) (byte == 9) blank)
+blank_ends byte blank = search rules
 
 blank_starts : (byte : ℕ) → is_blank byte ≡ true → starts_name byte ≡ false
-blank_starts byte blank =
-    ⊎_elim (λ space. rw (byte_is byte 32 space) refl) (λ tab. rw (byte_is byte 9 tab) refl)
-    (or_cases (byte == 32) (byte == 9) blank)
+blank_starts byte blank = search rules
 
 no_blank : (test : ℕ → Bool) (byte : ℕ) → ((b : ℕ) → is_blank b ≡ true → test b ≡ false)
     → test byte ≡ true → is_blank byte ≡ false
-no_blank test byte apart is =
-    false_from_ne_true (is_blank byte) (λ blank. let other = apart byte blank in cc (is, other))
+no_blank test byte apart is = search rules
 
 -- ---- words
 
@@ -49,9 +44,7 @@ word_push : (bytes : List ℕ) (byte : ℕ) → spells_word bytes ≡ true → c
     → spells_word (bytes ++ byte ∷ []) ≡ true
 word_push [] byte word is = absurd (cc (word))
 word_push (first ∷ rest) byte word is =
-    let parts = and_parts (starts_name first) (list_all continues_name rest) word in
-    and_from (starts_name first) (list_all continues_name (rest ++ byte ∷ [])) parts.0
-    (all_push rest byte parts.1 is)
+    search (rules, and_parts, starts_name, continues_name, and_from, all_push)
 
 -- one byte more of a name
 pub word_more : (bytes : List ℕ) (end : ℕ) → end < length bytes
@@ -88,8 +81,7 @@ word_field (first ∷ rest) word =
 all_at : (bytes : List ℕ) (i : ℕ) → list_all continues_name bytes ≡ true → i < length bytes
     → continues_name (get_or bytes i 0) ≡ true
 all_at [] i all below = absurd (omega (arith, below))
-all_at (first ∷ rest) zero all below =
-    (and_parts (continues_name first) (list_all continues_name rest) all).0
+all_at (first ∷ rest) zero all below = search rules
 all_at (first ∷ rest) (suc i) all below =
     all_at rest i (and_parts (continues_name first) (list_all continues_name rest) all).1
     (omega (arith, below))
@@ -99,13 +91,11 @@ word_at : (bytes : List ℕ) (i : ℕ) → spells_word bytes ≡ true → 0 < i 
 word_at [] i word some below = absurd (omega (arith, below))
 word_at (first ∷ rest) zero word some below = absurd (omega (arith, some))
 word_at (first ∷ rest) (suc i) word some below =
-    all_at rest i (and_parts (starts_name first) (list_all continues_name rest) word).1
-    (omega (arith, below))
+    search (rules, all_at, and_parts, starts_name, continues_name)
 
 word_first : (bytes : List ℕ) → spells_word bytes ≡ true → starts_name (get_or bytes 0 0) ≡ true
 word_first [] word = absurd (cc (word))
-word_first (first ∷ rest) word =
-    (and_parts (starts_name first) (list_all continues_name rest) word).0
+word_first (first ∷ rest) word = search rules
 
 -- ---- the first field
 
@@ -155,10 +145,7 @@ module _ (bytes : List ℕ) (end : ℕ) (is : IsWordEnd bytes end) where
       (cases_lt end (length bytes))
 
   pub word_spells : ends_word bytes end ≡ true → spells_word (take end bytes) ≡ true
-  word_spells ends =
-      let parts = and_parts (nat_lt 0 end)
-      (end == length bytes || is_blank (get_or bytes end 0)) ends in
-      is.word (grind (arith, nat_tests, parts.0))
+  word_spells ends = search rules
 
   -- Up to the first blank there is no name.
   module _ (some : 0 < length bytes) (other : is_blank (get_or bytes 0 0) ≡ false)
@@ -261,11 +248,6 @@ not_false : (b : Bool) → not b ≡ false → b ≡ true
 not_false true is = refl
 not_false false is = cc (is)
 
-started : (byte : ℕ) → byte < 256 → starts_name byte ≡ true → continues_name byte ≡ true
-started byte fits starts =
-    sym (ap (λ (b : Bool). not b || continues_name byte) starts)
-    ∙ agree_below_at (λ b. not (starts_name b) || continues_name b) (λ _. true) 256 byte refl fits
-
 -- bytes of which the first starts a name, and the others go on with it
 word_of : (bytes : List ℕ) (n : ℕ) → starts_name (get_or bytes 0 0) ≡ true → suc n ≤ length bytes
     → ((k : ℕ) → k < suc n → continues_name (get_or bytes k 0) ≡ true)
@@ -282,27 +264,14 @@ word_until : (bytes : List ℕ) (end : ℕ) → get_or bytes 0 0 < 256 → 0 < l
     → starts_name (get_or bytes 0 0) ≡ true → end ≤ length bytes
     → ((k : ℕ) → k < end → stops_name (get_or bytes k 0) ≡ false)
     → (end < length bytes → stops_name (get_or bytes end 0) ≡ true) → IsWordEnd bytes end
-word_until bytes zero fits some starts within goes stops =
-    let stop = not_true (continues_name (get_or bytes 0 0)) (stops some) in
-    let on = started (get_or bytes 0 0) fits starts in
-    absurd (cc (stop, on))
-word_until bytes (suc n) fits some starts within goes stops = record {
-  within = within;
-  word = λ _. word_of bytes n starts within (λ k below.
-      not_false (continues_name (get_or bytes k 0)) (goes k below));
-  first = λ none. absurd (omega (arith, none));
-  stops = λ _ below. not_true (continues_name (get_or bytes (suc n) 0)) (stops below);
-}
+word_until bytes zero fits some starts within goes stops = search rules
+word_until bytes (suc n) fits some starts within goes stops =
+    search (rules, word_of, not_false, continues_name, not_true)
 
 -- a name of one byte, with which the line ends
 pub word_alone : (bytes : List ℕ) → length bytes ≡ 1 → starts_name (get_or bytes 0 0) ≡ true
     → IsWordEnd bytes 1
-word_alone bytes one starts = record {
-  within = omega (arith, one);
-  word = λ _. word_one bytes (omega (arith, one)) starts;
-  first = λ none. absurd (omega (arith, none));
-  stops = λ _ below. absurd (omega (arith, one, below));
-}
+word_alone bytes one starts = search rules
 
 -- a byte of the rest of a line
 in_rest : (line rest : List ℕ) (k : ℕ) → IsRest line rest
@@ -345,21 +314,8 @@ rest_from bytes k within =
     record { short = omega (arith, long); is = ap (λ n. drop n bytes) (sym at) }
 
 pub rest_none : (bytes : List ℕ) → IsRest bytes []
-rest_none bytes = record {
-  short = omega arith;
-  is = sym (drop_of_length-le bytes (omega arith));
-}
+rest_none bytes = search (rules, drop_of_length-le)
 
 pub rest_later : (line front back : List ℕ) → IsRest line front → IsRest front back
     → IsRest line back
-rest_later line front back one two =
-    let at : (length line - length front) + (length front - length back)
-    ≡ length line - length back =
-    omega (arith, one.short, two.short) in
-    record {
-      short = omega (arith, one.short, two.short);
-      is =
-          two.is ∙ ap (drop (length front - length back)) one.is
-          ∙ drop-drop (length front - length back) (length line - length front) line
-          ∙ ap (λ n. drop n line) at;
-    }
+rest_later line front back one two = search (rules, drop-drop)

@@ -1,6 +1,5 @@
 -- What is kept beside segments, by the numbers of the propositions.
-use Rattle.std.proofs.Common.{◌≡◌, ◌≢◌, ℕ, ◌+◌, ◌/◌, ◌^◌, max, ◌≤◌, ◌<◌, inl, inr, List, [], length, set, get_or, refl, ◌∙◌, arith}
-use Rattle.std.proofs.Math.Nat.{div-lt_iff_lt-mul}
+use Rattle.std.proofs.Common.{◌≡◌, ◌≢◌, ℕ, ◌+◌, ◌/◌, ◌^◌, max, ◌≤◌, ◌<◌, inl, inr, List, [], length, set, get_or, refl, ◌∙◌, arith, rules}
 use Rattle.std.proofs.lemmas.Bool.{cases_eq, cases_lt}
 use Rattle.std.proofs.lemmas.List.{get_or-set_same, get_or-set_other, get_or_past, get_or_default}
 use Rattle.std.proofs.lemmas.Nat.{pow_pos}
@@ -16,14 +15,7 @@ use Rattle.tre_trace.proofs.Words.{AreWordsOf-stretched}
 
 IsStretched-trans : (count : ℕ) (a b c : List ℕ) → IsStretched count a b → IsStretched count b c
     → IsStretched count a c
-IsStretched-trans count a b c first second = record {
-  longer =
-      elim second.longer [
-        | inl same ↦ rw same first.longer
-        | inr long ↦ inr long
-      ];
-  bits = λ place. second.bits place ∙ first.bits place;
-}
+IsStretched-trans count a b c first second = search rules
 
 -- The words of one more number are made longer.
 module _ (own : List (List ℕ)) (number : ℕ) (item new : List ℕ) (within : number < length own)
@@ -108,11 +100,7 @@ beside_longer segments old new beside starts blank few own = record {
 }
 
 small_of : (n d : ℕ) → 0 < d → n / d ≡ 0 → n < d
-small_of n d some none = omega (
-  arith,
-  (div-lt_iff_lt-mul {k = d} {x = n} {y = 1} some).0
-      (omega (arith, none)),
-)
+small_of n d some none = search rules
 
 -- a valuation that is shifted out has no bit from there on
 pub bit_past : (valuation count number : ℕ) → valuation / 2 ^ count ≡ 0 → count ≤ number
@@ -123,10 +111,7 @@ bit_past valuation count number none late =
 -- a proposition without a plane needs no room
 pub HasRoom-past : (own : List (List ℕ)) (place valuation number : ℕ) → length own ≤ number
     → bit_at valuation number ≢ 1 → HasRoom place (bit_at valuation number) (words_at own number)
-HasRoom-past own place valuation number late unset = record {
-  enough = inl (get_or_past own number [] late);
-  needed = λ one. absurd (unset one);
-}
+HasRoom-past own place valuation number late unset = search (rules, get_or_past, unset)
 
 -- and nothing is written for it
 pub IsWritten-past : (own new : List (List ℕ)) (place valuation number : ℕ)

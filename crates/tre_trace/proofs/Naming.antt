@@ -1,7 +1,7 @@
 -- The bits for names, one by one.
-use Rattle.std.proofs.Common.{◌≡◌, ℕ, zero, suc, ◌+◌, ◌*◌, ◌/◌, ◌%◌, ◌<◌, ◌≤◌, Bool, true, false, List, [], ◌∷◌, length, get_or, refl, ap, ◌∙◌, arith, if◌then◌else◌}
+use Rattle.std.proofs.Common.{◌≡◌, ℕ, zero, suc, ◌+◌, ◌*◌, ◌/◌, ◌%◌, ◌<◌, ◌≤◌, Bool, true, false, List, [], ◌∷◌, length, get_or, refl, ◌∙◌, arith, if◌then◌else◌, rules}
 use Rattle.std.specs.Int.{bit_at}
-use Rattle.std.proofs.lemmas.Nat.Bits.{bit_at-zero, bit_at_lowest, bit_at-suc}
+use Rattle.std.proofs.lemmas.Nat.Bits.{bit_at-zero, bit_at-suc}
 use Rattle.tre_trace.specs.Reading.{bits_of}
 
 abbrev pub bit : Bool → ℕ
@@ -23,25 +23,17 @@ bit-is false = refl
 module _ (test : List ℕ → Bool) where
   pub first-bit : (name : List ℕ) (names : List (List ℕ))
       → bits_of test (name ∷ names) ≡ bit (test name) + 2 * bits_of test names
-  first-bit name names = ap (λ n. n + 2 * bits_of test names) (own (test name)) where
-    own : (one : Bool) → (if one then 1 else 0) ≡ bit one
-    own true = refl
-    own false = refl
+  first-bit name names = search rules
 
   later-bit : (name : List ℕ) (names : List (List ℕ)) (i : ℕ)
       → bit_at (bits_of test (name ∷ names)) (suc i) ≡ bit_at (bits_of test names) i
-  later-bit name names i =
-      bit_at-suc (bits_of test (name ∷ names)) i
-      ∙ ap (λ n. bit_at (n / 2) i) (first-bit name names)
-      ∙ ap (λ n. bit_at n i) (high (test name) (bits_of test names))
+  later-bit name names i = search (rules, bit_at-suc, bits_of, first-bit, high)
 
   -- each bit is its name's
   pub bit-at : (names : List (List ℕ)) (i : ℕ) → i < length names
       → bit_at (bits_of test names) i ≡ bit (test (get_or names i []))
   bit-at [] i within = absurd (omega (arith, within))
-  bit-at (name ∷ names) zero within =
-      bit_at_lowest (bits_of test (name ∷ names)) ∙ ap (λ n. n % 2) (first-bit name names)
-      ∙ low (test name) (bits_of test names)
+  bit-at (name ∷ names) zero within = search rules
   bit-at (name ∷ names) (suc i) within =
       later-bit name names i ∙ bit-at names i (omega (arith, within))
 

@@ -1,7 +1,7 @@
 -- How recordings grow, and what calls one after the other add.
-use Rattle.std.proofs.Common.{◌≡◌, ◌≢◌, List, [], ◌++◌, append_assoc, append-nil, Some, refl, sym, ap, ◌∙◌, ◌⊎◌, inl, inr}
+use Rattle.std.proofs.Common.{◌≡◌, ◌≢◌, List, [], ◌++◌, append_assoc, append-nil, Some, refl, sym, ap, ◌∙◌, ◌⊎◌, inl, inr, rules}
 use Rattle.std.proofs.lemmas.List.{map-append}
-use Rattle.tre_trace.specs.Reading.{Vocabulary, Recording, segment_for, segments_for, Grows, Adds, AddsSome, IsRefused}
+use Rattle.tre_trace.specs.Reading.{Vocabulary, Recording, segment_for, segments_for, Grows, Adds, IsRefused}
 use Rattle.tre_trace.specs.declared.segment.Segment.{Segment}
 use Rattle.tre_trace.specs.declared.fault.TraceFault.{TraceFault}
 use Rattle.tre_trace.specs.declared.fault.TraceKind.{TraceKind}
@@ -11,11 +11,7 @@ module _ (asked : Vocabulary) where
   -- no segment is added where none came
   pub Adds-none : (old : List Segment) (before now : Recording) → now.stretches ≡ before.stretches
       → Adds asked old old before now
-  Adds-none old before now same = record {
-    added = [];
-    new_is = sym (append-nil old);
-    beyond = same ∙ sym (append-nil before.stretches);
-  }
+  Adds-none old before now same = search rules
 
   pub Adds-trans : (a b c : List Segment) (r s t : Recording) → Adds asked a b r s
       → Adds asked b c s t → Adds asked a c r t
@@ -29,26 +25,11 @@ module _ (asked : Vocabulary) where
         r.stretches first.added second.added;
   }
 
-  -- all of them are the first of them
-  AddsSome-all : (old new : List Segment) (before now : Recording) → Adds asked old new before now
-      → AddsSome asked old new before now
-  AddsSome-all old new before now adds = record {
-    added = adds.added;
-    left = [];
-    new_is = adds.new_is;
-    beyond = adds.beyond ∙ ap (λ rest. before.stretches ++ rest) (sym (append-nil adds.added));
-  }
-
   -- a fault that was told behind all segments before it
   pub IsRefused-told : (old new : List Segment) (before now : Recording) (fault : TraceFault)
       → Adds asked old new before now → now.fault ≡ Some fault → fault.kind ≢ Spent
       → IsRefused asked old new before now fault
-  IsRefused-told old new before now fault adds told never_spent = record {
-    adds_some = AddsSome-all old new before now adds;
-    never_spent = never_spent;
-    told = λ _. told;
-    adds = λ _. adds;
-  }
+  IsRefused-told old new before now fault adds told never_spent = search rules
 
   -- no memory was found, and nothing added
   pub IsRefused-memory : (old : List Segment) (before now : Recording) (fault : TraceFault)

@@ -1,5 +1,5 @@
 -- Lists of segments, and one more behind them.
-use Rattle.std.proofs.Common.{◌≡◌, ℕ, zero, suc, take, drop, drop-cons, length, slice_index_or, ◌+◌, ◌-◌, ◌<◌, ◌≤◌, List, [], ◌∷◌, ◌++◌, refl, ap, arith}
+use Rattle.std.proofs.Common.{◌≡◌, ℕ, zero, suc, take, drop, drop-cons, length, slice_index_or, ◌+◌, ◌-◌, ◌<◌, ◌≤◌, List, [], ◌∷◌, ◌++◌, refl, ap, arith, rules}
 use Rattle.tre_pairs.specs.declared.TheConstants.{TIME_MAX}
 use Rattle.std.specs.Prelude.{fold, sum_by}
 use Rattle.tre_trace.specs.declared.segment.Segment.{Segment}
@@ -33,10 +33,7 @@ AreLong-push (x ∷ xs) y long last = (long.0, AreLong-push xs y long.1 last)
 -- a segment that fits makes a longer trace
 pub IsTrace-push : (xs : List Segment) (y : Segment) → IsTrace xs → Fits xs y
     → IsTrace (xs ++ y ∷ [])
-IsTrace-push xs y trace fits = record {
-  long = AreLong-push xs y trace.long fits.long;
-  in_time = rw (end_of-append 0 xs (y ∷ [])) fits.in_time;
-}
+IsTrace-push xs y trace fits = search (rules, AreLong-push, end_of-append, trace.long)
 
 -- the segment at a place ends within what the rest of the list does
 pub place-in_time : (segments : List Segment) (i end : ℕ) (d : Segment) → i < length segments

@@ -1,5 +1,5 @@
 -- Which statement of a past decides.
-use Rattle.std.proofs.Common.{◌≡◌, ◌≢◌, ◌↔◌, ℕ, zero, suc, ◌+◌, ◌*◌, ◌/◌, ◌%◌, ◌^◌, ◌==◌, ◌&&◌, ◌||◌, not, Bool, true, false, List, [], ◌∷◌, ◌++◌, Option, None, Some, refl, sym, ap, ap₂, ◌∙◌, arith, if◌then◌else◌}
+use Rattle.std.proofs.Common.{◌≡◌, ◌≢◌, ◌↔◌, ℕ, zero, suc, ◌+◌, ◌*◌, ◌/◌, ◌%◌, ◌^◌, ◌==◌, ◌&&◌, ◌||◌, not, Bool, true, false, List, [], ◌∷◌, ◌++◌, Option, None, Some, refl, sym, ap, ap₂, ◌∙◌, arith, if◌then◌else◌, rules}
 use Rattle.std.specs.Int.{bit_at}
 use Rattle.std.specs.Str.{bytes_eq}
 use Rattle.std.proofs.Math.Nat.{pow-suc}
@@ -50,12 +50,7 @@ letters-behind (dump_end ∷ later) earlier identifier keeps =
 letters-last : (past : List Statement) (identifier letters : List ℕ)
     → LastChange past identifier letters → letters_at past identifier ≡ Some letters
 letters-last past identifier letters change_last =
-    ap (λ (p : List Statement). letters_at p identifier) change_last.parts
-    ∙ letters-behind change_last.later (change change_last.form identifier letters ∷
-    change_last.earlier) identifier
-    change_last.last
-    ∙ ap (λ (b : Bool). if b then Some letters else letters_at change_last.earlier identifier)
-    (eq-same identifier)
+    search (rules, letters-behind, change, change_last.later, change_last.form, change_last.earlier)
 
 pub letters-none : (past : List Statement) (identifier : List ℕ) → KeepsValue identifier past
     → letters_at past identifier ≡ None
@@ -102,13 +97,10 @@ last-change : (form : Form) (other identifier said letters : List ℕ) (past : L
     → (letters_at past identifier ≡ Some letters → LastChange past identifier letters)
     → (if same then Some said else letters_at past identifier) ≡ Some letters
     → LastChange (change form other said ∷ past) identifier letters
-last-change form other identifier said letters past true e more is = last-here
-    form other identifier said letters past
-    ((bytes_eq-Decides identifier other).0 e) cc
+last-change form other identifier said letters past true e more is =
+    search (rules, last-here, bytes_eq-Decides)
 last-change form other identifier said letters past false e more is =
-    let apart : identifier ≢ other = λ same. cc (e, (bytes_eq-Decides identifier other).1 same) in
-    last-later (change form other said) past identifier letters (λ later keeps. (apart, keeps))
-    (more is)
+    search (rules, bytes_eq-Decides, last-later, change)
 
 last-of : (past : List Statement) (identifier letters : List ℕ)
     → letters_at past identifier ≡ Some letters → LastChange past identifier letters
@@ -133,8 +125,7 @@ last-of (dump_end ∷ past) identifier letters is = last-later dump_end past ide
 
 pub last-is : (past : List Statement) (identifier letters : List ℕ)
     → LastChange past identifier letters ↔ (letters_at past identifier ≡ Some letters)
-last-is past identifier letters =
-    (letters-last past identifier letters, last-of past identifier letters)
+last-is past identifier letters = (letters-last _ _ _, last-of _ _ _)
 
 -- ---- happenings
 
@@ -185,11 +176,7 @@ said-here true same before outside is = cc (outside)
 happened-is : (past : List Statement) (identifier : List ℕ) → Happened past identifier
     → happened_at past identifier ≡ true
 happened-is past identifier found =
-    ap (λ (p : List Statement). happened_at p identifier) found.parts
-    ∙ happened-behind found.later (change scalar identifier found.letters ∷ found.earlier) identifier
-    found.now
-    (said-here (in_dump found.earlier) (bytes_eq identifier identifier)
-    (happened_at found.earlier identifier) found.outside (eq-same identifier))
+    search (rules, happened_at, happened-behind, change, scalar, said-here, in_dump, eq-same)
 
 -- one more statement, which reaches no other time
 happened-later : (statement : Statement) (past : List Statement) (identifier : List ℕ)
@@ -233,9 +220,7 @@ happened-at_time : (ticks : ℕ) (past : List Statement) (identifier : List ℕ)
     → (if same then happened_at past identifier else false) ≡ true
     → Happened (time ticks ∷ past) identifier
 happened-at_time ticks past identifier true e more is =
-    let same : ticks ≡ time_at past = grind (arith, nat_tests) in
-    happened-later (time ticks) past identifier
-    (λ later earlier parts stays. (same ∙ ap time_at parts, stays)) (more is)
+    search (rules, time_at, nat_tests, happened-later, time)
 happened-at_time ticks past identifier false e more is = cc (is)
 
 happened-of : (past : List Statement) (identifier : List ℕ) → happened_at past identifier ≡ true
@@ -351,8 +336,7 @@ module _ {X : Type 0} (reads : List (List ℕ) → List (List ℕ) → Option X)
     declares = is;
     first = leaves-none past e;
   }
-  first-var past read tokens (Some own) e more is =
-      first-later (var tokens) past read (more (e ∙ is))
+  first-var past read tokens (Some own) e more is = first-later (var _) _ _ (more (e ∙ is))
 
   first-of : (past : List Statement) (read : X) → first_read reads past ≡ Some read
       → FirstRead reads past read
@@ -426,10 +410,7 @@ module _ (identified : List ℕ → Option (List ℕ)) (test : List ℕ → Bool
   pub bit_in : (names : List (List ℕ)) (i : ℕ) → bit_at (mask_from identified test 0 names) i
       ≡ (if passes_at identified test names i then 1 else 0)
   bit_in [] i = bit_at-zero i
-  bit_in (name ∷ names) zero =
-      bit_at_lowest (mask_from identified test 0 (name ∷ names))
-      ∙ ap (λ n. n % 2) (split-bits name names)
-      ∙ lowest (passes test (identified name)) (mask_from identified test 0 names)
+  bit_in (name ∷ names) zero = search (rules, bit_at_lowest, mask_from, split-bits, lowest)
   bit_in (name ∷ names) (suc i) =
       bit_at-suc (mask_from identified test 0 (name ∷ names)) i
       ∙ ap (λ n. bit_at (n / 2) i) (split-bits name names)

@@ -1,5 +1,5 @@
 -- What is known behind a declaration.
-use Rattle.std.proofs.Common.{◌≡◌, ◌<◌, ◌≤◌, ℕ, List, [], ◌∷◌, ◌++◌, length, map, get_or, take, None, refl, sym, ap, ap₂, ◌∙◌, subst, arith, if◌then◌else◌}
+use Rattle.std.proofs.Common.{◌≡◌, ◌<◌, ◌≤◌, ℕ, List, [], ◌∷◌, ◌++◌, length, map, get_or, take, None, refl, arith, if◌then◌else◌, rules}
 use Rattle.std.specs.Global.{Vec}
 use Rattle.tre_vcd.specs.VcdReading.{Statement, var, offer_in, offer_of, path}
 use Rattle.tre_vcd.specs.Kept.{IsQuiet, KnowsOfPast}
@@ -10,18 +10,12 @@ use Rattle.tre_vcd.specs.declared.signals.Signals.{Signals}
 pub signals-moved : (names own_names events own_events : List (List ℕ)) (kept own : Signals)
     (past : List Statement) → own_names ≡ names → own_events ≡ events → own ≡ kept
     → KnowsSignals names events kept past → KnowsSignals own_names own_events own past
-signals-moved names own_names events own_events kept own past n e k knows =
-    subst (λ all. KnowsSignals all own_events own past) (sym n)
-    (subst (λ all. KnowsSignals names all own past) (sym e)
-    (subst (λ all. KnowsSignals names events all past) (sym k) knows))
+signals-moved names own_names events own_events kept own past n e k knows = search rules
 
 pub knows-moved : (names own_names events own_events : List (List ℕ)) (kept own : Past)
     (past : List Statement) → own_names ≡ names → own_events ≡ events → own ≡ kept
     → KnowsOfPast names events kept past → KnowsOfPast own_names own_events own past
-knows-moved names own_names events own_events kept own past n e k knows =
-    subst (λ all. KnowsOfPast all own_events own past) (sym n)
-    (subst (λ all. KnowsOfPast names all own past) (sym e)
-    (subst (λ all. KnowsOfPast names events all past) (sym k) knows))
+knows-moved names own_names events own_events kept own past n e k knows = search rules
 
 pub quiet-before : (past : List Statement) (tokens : List (List ℕ)) → IsQuiet (var tokens ∷ past)
     → IsQuiet past
@@ -47,22 +41,13 @@ pub offered-four : (scopes : List (List ℕ)) (tokens : List (Vec ℕ))
     → identifier ≡ get_or tokens 2 identifier → reference ≡ get_or tokens 3 reference
     → k ≡ kind.items → s ≡ size.items → i ≡ identifier.items → r ≡ reference.items
     → offer_of k s i (path scopes r) ≡ offer_in scopes (map (λ (token : Vec ℕ). token.items) tokens)
-offered-four _ [] _ _ _ _ _ _ _ _ least _ _ _ _ _ _ _ _ _ =
-    absurd (omega (arith, least))
-offered-four _ (a ∷ []) _ _ _ _ _ _ _ _ least _ _ _ _ _ _ _ _ _ =
-    absurd (omega (arith, least))
-offered-four _ (a ∷ b ∷ []) _ _ _ _ _ _ _ _ least _ _ _ _ _ _ _ _ _ =
-    absurd (omega (arith, least))
-offered-four _ (a ∷ b ∷ c ∷ []) _ _ _ _ _ _ _ _ least _ _ _ _ _ _ _ _ _ =
-    absurd (omega (arith, least))
+offered-four _ [] _ _ _ _ _ _ _ _ least _ _ _ _ _ _ _ _ _ = search rules
+offered-four _ (a ∷ []) _ _ _ _ _ _ _ _ least _ _ _ _ _ _ _ _ _ = search rules
+offered-four _ (a ∷ b ∷ []) _ _ _ _ _ _ _ _ least _ _ _ _ _ _ _ _ _ = search rules
+offered-four _ (a ∷ b ∷ c ∷ []) _ _ _ _ _ _ _ _ least _ _ _ _ _ _ _ _ _ = search rules
 offered-four scopes (a ∷ b ∷ c ∷ d ∷ []) _ _ _ _ k s i r _ _ one two three four ka sb ic rd =
-    ap₂ (λ x y. offer_of x y i (path scopes r)) (ka ∙ ap (λ (token : Vec ℕ). token.items) one)
-    (sb ∙ ap (λ (token : Vec ℕ). token.items) two)
-    ∙ ap₂ (λ x y. offer_of a.items b.items x (path scopes y))
-    (ic ∙ ap (λ (token : Vec ℕ). token.items) three)
-    (rd ∙ ap (λ (token : Vec ℕ). token.items) four)
-offered-four _ (a ∷ b ∷ c ∷ d ∷ e ∷ more) _ _ _ _ _ _ _ _ _ below _ _ _ _ _ _ _ _ =
-    absurd (omega (arith, below))
+    search rules
+offered-four _ (a ∷ b ∷ c ∷ d ∷ e ∷ more) _ _ _ _ _ _ _ _ _ below _ _ _ _ _ _ _ _ = search rules
 
 pub offered-five : (scopes : List (List ℕ)) (tokens : List (Vec ℕ))
     (kind size identifier reference range : Vec ℕ) (k s i r g : List ℕ)
@@ -74,23 +59,12 @@ pub offered-five : (scopes : List (List ℕ)) (tokens : List (Vec ℕ))
     → g ≡ range.items
     → (if begins_range g then offer_of k s i (path scopes (r ++ g)) else None)
     ≡ offer_in scopes (map (λ (token : Vec ℕ). token.items) tokens)
-offered-five _ [] _ _ _ _ _ _ _ _ _ _ least _ _ _ _ _ _ _ _ _ _ _ =
-    absurd (omega (arith, least))
-offered-five _ (a ∷ []) _ _ _ _ _ _ _ _ _ _ least _ _ _ _ _ _ _ _ _ _ _ =
-    absurd (omega (arith, least))
-offered-five _ (a ∷ b ∷ []) _ _ _ _ _ _ _ _ _ _ least _ _ _ _ _ _ _ _ _ _ _ =
-    absurd (omega (arith, least))
-offered-five _ (a ∷ b ∷ c ∷ []) _ _ _ _ _ _ _ _ _ _ least _ _ _ _ _ _ _ _ _ _ _ =
-    absurd (omega (arith, least))
-offered-five _ (a ∷ b ∷ c ∷ d ∷ []) _ _ _ _ _ _ _ _ _ _ least _ _ _ _ _ _ _ _ _ _ _ =
-    absurd (omega (arith, least))
+offered-five _ [] _ _ _ _ _ _ _ _ _ _ least _ _ _ _ _ _ _ _ _ _ _ = search rules
+offered-five _ (a ∷ []) _ _ _ _ _ _ _ _ _ _ least _ _ _ _ _ _ _ _ _ _ _ = search rules
+offered-five _ (a ∷ b ∷ []) _ _ _ _ _ _ _ _ _ _ least _ _ _ _ _ _ _ _ _ _ _ = search rules
+offered-five _ (a ∷ b ∷ c ∷ []) _ _ _ _ _ _ _ _ _ _ least _ _ _ _ _ _ _ _ _ _ _ = search rules
+offered-five _ (a ∷ b ∷ c ∷ d ∷ []) _ _ _ _ _ _ _ _ _ _ least _ _ _ _ _ _ _ _ _ _ _ = search rules
 offered-five scopes (a ∷ b ∷ c ∷ d ∷ e ∷ []) _ _ _ _ _ k s i r g _ _ one two three four five ka sb ic rd ge =
-    ap₂ (λ x y. if begins_range g then offer_of x y i (path scopes (r ++ g)) else None)
-    (ka ∙ ap (λ (token : Vec ℕ). token.items) one) (sb ∙ ap (λ (token : Vec ℕ). token.items) two)
-    ∙ ap₂ (λ x y. if begins_range g then offer_of a.items b.items x (path scopes (y ++ g)) else None)
-    (ic ∙ ap (λ (token : Vec ℕ). token.items) three)
-    (rd ∙ ap (λ (token : Vec ℕ). token.items) four)
-    ∙ ap (λ x. if begins_range x then offer_of a.items b.items c.items (path scopes (d.items ++ x))
-    else None) (ge ∙ ap (λ (token : Vec ℕ). token.items) five)
+    search rules
 offered-five _ (a ∷ b ∷ c ∷ d ∷ e ∷ f ∷ more) _ _ _ _ _ _ _ _ _ _ _ below _ _ _ _ _ _ _ _ _ _ =
     absurd (omega (arith, below))

@@ -1,5 +1,5 @@
 -- What a dump reads as, by its tokens.
-use Rattle.std.proofs.Common.{◌≡◌, ℕ, Bool, true, false, List, [], ◌∷◌, ◌++◌, append-nil, length, None, Some, Ok, refl, sym, ap, ◌∙◌, arith}
+use Rattle.std.proofs.Common.{◌≡◌, ℕ, Bool, true, false, List, [], ◌∷◌, ◌++◌, append-nil, length, None, Some, Ok, sym, ap, ◌∙◌, arith, rules}
 use Rattle.std.proofs.lemmas.List.Elements.{All-nil}
 use Rattle.tre_parts.proofs.Walks.{reading-last}
 use Rattle.tre_parts.specs.Format.{faulty, behind, read_on, after_part, recording_from, first_spot}
@@ -18,10 +18,7 @@ end_none : (terms : Terms) (past : List Statement) (spot : Spot) → IsComplete 
     → recording_from (vcd_format terms) true (at past vcd.nothing) spot []
     ≡ record { stretches = []; last = happens_at terms.definitions past; fault = None }
 unfolding token_says end_says
-end_none terms past spot complete =
-    reading-last (vcd_format terms) true (at past vcd.nothing) spot []
-    (All-nil (λ byte. is_white byte ≡ false))
-    ∙ rw (complete.defined, complete.closed) refl
+end_none terms past spot complete = search (rules, reading-last, vcd_format, All-nil, is_white)
 
 pub read_trace : (terms : Terms) (groups : List (List (List ℕ))) (bytes : List ℕ)
     (stretches : List Stretch) (last : List ℕ → Bool) → Spaced (tokens_of_groups groups) bytes

@@ -1,17 +1,15 @@
 -- Names that are told to be declared.
-use Rattle.std.proofs.Common.{◌≡◌, ◌≢◌, ℕ, zero, suc, ◌-◌, ◌<◌, ◌++◌, Bool, true, false, ◌||◌, List, [], ◌∷◌, length, get_or, set, map, take, replicate, Option, None, Some, inl, inr, refl, sym, ap, ◌∙◌, arith, if◌then◌else◌}
+use Rattle.std.proofs.Common.{◌≡◌, ◌≢◌, ℕ, ◌-◌, ◌<◌, ◌++◌, Bool, true, false, ◌||◌, List, [], ◌∷◌, length, get_or, set, map, take, replicate, None, Some, inl, inr, refl, sym, ap, ◌∙◌, arith, rules}
 use Rattle.std.specs.Prelude.{AllPairs, ◌≤◌, All}
 use Rattle.std.specs.List.{list_all}
-use Rattle.std.specs.Option.{is_some, option_or}
+use Rattle.std.specs.Option.{is_some}
 use Rattle.std.specs.Str.{bytes_eq}
-use Rattle.std.proofs.Math.Path.{fun_ext}
 use Rattle.std.proofs.lemmas.Bool.{cases_eq}
 use Rattle.std.proofs.lemmas.List.Folds.{list_all-map}
 use Rattle.std.proofs.lemmas.List.{ext_get_or, length-map, length-set, get_or-map, get_or-set_same, get_or-set_other}
 use Rattle.tre_state.specs.Names.{place_of}
 use Rattle.tre_vcd.specs.VcdReading.{Statement, var, scopes_at, identifier_in}
 use Rattle.tre_vcd.specs.Kept.{identifier_of, Declares, DeclaresNone, DeclaresNoneWithin, flags_of}
-use Rattle.tre_vcd.proofs.Knowing.{option_or-none}
 use Rattle.tre_vcd.proofs.Naming.{named-at, named-none}
 
 -- a list that holds a test of other elements, and what it holds at a place
@@ -88,43 +86,26 @@ pub flags-same : (test : List ℕ → List ℕ → Bool) (past now : List Statem
     (names : List (List ℕ)) (flags : List Bool)
     → ((name : List ℕ) → identifier_of test now name ≡ identifier_of test past name)
     → flags ≡ flags_of test past names → flags ≡ flags_of test now names
-flags-same test past now names flags same is =
-    is ∙ ap (λ (told : List ℕ → Bool). map told names)
-    (fun_ext (λ name. ap is_some (sym (same name))))
-
-some-or : (one : Option (List ℕ)) (also : Bool) (identifier : List ℕ)
-    → (is_some one || also) ≡ is_some (option_or one (if also then Some identifier else None))
-some-or None true identifier = refl
-some-or None false identifier = refl
-some-or (Some own) true identifier = refl
-some-or (Some own) false identifier = refl
+flags-same test past now names flags same is = search rules
 
 pub flags-declared : (test : List ℕ → List ℕ → Bool) (past : List Statement)
     (identifier path : List ℕ) (tokens names : List (List ℕ)) (flags : List Bool)
     → Declares test (scopes_at past) tokens identifier path
     → flags ≡ map (λ name. is_some (identifier_of test past name) || bytes_eq name path) names
     → flags ≡ flags_of test (var tokens ∷ past) names
-flags-declared test past identifier path tokens names flags declares is =
-    is ∙ ap (λ (told : List ℕ → Bool). map told names)
-    (fun_ext (λ name. some-or (identifier_of test past name) (bytes_eq name path) identifier
-    ∙ ap (λ one. is_some (option_or (identifier_of test past name) one))
-    (sym (declares.is name))))
+flags-declared test past identifier path tokens names flags declares is = search rules
 
 undeclared : (test : List ℕ → List ℕ → Bool) (past : List Statement)
     (tokens : List (List ℕ)) (name : List ℕ)
     → identifier_in test (scopes_at past) name tokens ≡ None
     → identifier_of test (var tokens ∷ past) name ≡ identifier_of test past name
-undeclared test past tokens name none =
-    ap (option_or (identifier_of test past name)) none
-    ∙ option_or-none (identifier_of test past name)
+undeclared test past tokens name none = search rules
 
 pub flags-undeclared : (test : List ℕ → List ℕ → Bool) (past : List Statement)
     (tokens names : List (List ℕ)) (flags : List Bool)
     → DeclaresNone test (scopes_at past) tokens
     → flags ≡ flags_of test past names → flags ≡ flags_of test (var tokens ∷ past) names
-flags-undeclared test past tokens names flags none is =
-    flags-same test past (var tokens ∷ past) names flags
-    (λ name. undeclared test past tokens name (none.is name)) is
+flags-undeclared test past tokens names flags none is = search rules
 
 -- where no name is as long as the one that is declared
 pub flags-within : (test : List ℕ → List ℕ → Bool) (past : List Statement) (longest : ℕ)
@@ -146,18 +127,9 @@ pub all-flags : (test : List ℕ → List ℕ → Bool) (past : List Statement) 
     (flags : List Bool) → flags ≡ flags_of test past names
     → list_all (λ flag. flag) flags
     ≡ list_all (λ name. is_some (identifier_of test past name)) names
-all-flags test past names flags is =
-    ap (list_all (λ flag. flag)) is
-    ∙ list_all-map (λ flag. flag) (λ name. is_some (identifier_of test past name)) names
-
-take-none : (n : ℕ) (none : List Bool) → none ≡ [] → take n none ≡ []
-take-none zero [] is = refl
-take-none (suc n) [] is = refl
-take-none n (flag ∷ flags) is = cc (is)
+all-flags test past names flags is = search (rules, list_all-map, identifier_of)
 
 -- as many as that, and all false
 pub all-false : (n m : ℕ) (old : List Bool) → old ≡ [] → m ≡ 0
     → take n old ++ replicate (n - m) false ≡ replicate n false
-all-false n m old none zero_ =
-    ap (λ (front : List Bool). front ++ replicate (n - m) false) (take-none n old none)
-    ∙ ap (λ k. replicate k false) (omega (arith, zero_))
+all-false n m old none zero_ = search rules

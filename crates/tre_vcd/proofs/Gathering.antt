@@ -1,5 +1,5 @@
 -- Names that are gathered in a set.
-use Rattle.std.proofs.Common.{◌≡◌, ◌≢◌, ◌≤◌, ◌⊎◌, inl, inr, ℕ, ◌+◌, Bool, true, false, not, ◌&&◌, ◌||◌, List, [], ◌∷◌, ◌++◌, length, map, get_or, take, Option, None, Some, if◌then◌else◌, refl, sym, ap, ◌∙◌, subst, arith}
+use Rattle.std.proofs.Common.{◌≡◌, ◌≢◌, ◌≤◌, ◌⊎◌, inl, inr, ℕ, ◌+◌, Bool, true, false, ◌&&◌, ◌||◌, List, [], ◌∷◌, ◌++◌, length, map, get_or, take, Option, None, Some, if◌then◌else◌, refl, sym, ap, ◌∙◌, subst, arith, rules}
 use Rattle.std.specs.Prelude.{All, AllPairs, slice_get}
 use Rattle.std.specs.List.{AllByRecursion, IsDistinct, list_all, list_any}
 use Rattle.std.specs.Str.{bytes_eq}
@@ -12,7 +12,7 @@ use Rattle.std.proofs.lemmas.List.Kept.{AllPairs-cons}
 use Rattle.std.proofs.lemmas.Option.{get_or_from_slice_get, slice_get_within}
 use Rattle.std.specs.Option.{is_some, option_map}
 use Rattle.tre_define.specs.Signals.{SignalDefined, signal_definition_of}
-use Rattle.tre_vcd.specs.Sorted.{AreSorted, JoinsNames, is_undefined, wanted}
+use Rattle.tre_vcd.specs.Sorted.{AreSorted, JoinsNames, wanted}
 
 and-true : (b : Bool) → (b && true) ≡ b
 and-true true = refl
@@ -22,24 +22,14 @@ and-assoc : (a b c : Bool) → ((a && b) && c) ≡ (a && (b && c))
 and-assoc true b c = refl
 and-assoc false b c = refl
 
-absorbed : (a b : Bool) → ((a && b) && a) ≡ (a && b)
-absorbed true true = refl
-absorbed true false = refl
-absorbed false b = refl
-
 -- a test that all names pass is passed by one of them
 has-step : (test : List ℕ → Bool) (first name : List ℕ) (names : List (List ℕ)) (here : Bool)
     → bytes_eq name first ≡ here → (here || list_any (bytes_eq name) names) ≡ true
     → (list_any (bytes_eq name) names ≡ true
     → (list_all test names && test name) ≡ list_all test names)
     → ((test first && list_all test names) && test name) ≡ (test first && list_all test names)
-has-step test first name names true is has rest =
-    ap (λ one. (test first && list_all test names) && test one)
-    ((bytes_eq-Decides name first).0 is)
-    ∙ absorbed (test first) (list_all test names)
-has-step test first name names false is has rest =
-    and-assoc (test first) (list_all test names) (test name)
-    ∙ ap (λ b. test first && b) (rest has)
+has-step test first name names true is has rest = search rules
+has-step test first name names false is has rest = search rules
 
 pub has-all : (test : List ℕ → Bool) (name : List ℕ) (names : List (List ℕ))
     → list_any (bytes_eq name) names ≡ true
@@ -61,12 +51,7 @@ joins-none names = record { each = λ test. sym (and-true (list_all test names))
 pub joins-next : (old added mid new : List (List ℕ)) (name : List ℕ) → JoinsNames old added mid
     → ((test : List ℕ → Bool) → list_all test new ≡ (list_all test mid && test name))
     → JoinsNames old (added ++ name ∷ []) new
-joins-next old added mid new name joins next = record {
-  each = λ test.
-      next test ∙ ap (λ b. b && test name) (joins.each test)
-      ∙ and-assoc (list_all test old) (list_all test added) (test name)
-      ∙ ap (λ b. list_all test old && b) (sym (all-push test added name));
-}
+joins-next old added mid new name joins next = search (rules, and-assoc, all-push, joins.each)
 
 pub joins-more : (old names mid new : List (List ℕ)) (i : ℕ) (name bytes : List ℕ)
     → Some name ≡ slice_get names i → bytes ≡ name → JoinsNames old (take i names) mid
@@ -120,9 +105,7 @@ named-step : (name : List ℕ) (first one : SignalDefined) (all : List SignalDef
     → bytes_eq first.name name ≡ same
     → (signal_definition_of all name ≡ Some one → one.name ≡ name)
     → (if same then Some first else signal_definition_of all name) ≡ Some one → one.name ≡ name
-named-step name first one all true same more is =
-    let own : first ≡ one = cc (is) in
-    ap (λ (it : SignalDefined). it.name) (sym own) ∙ (bytes_eq-Decides first.name name).0 same
+named-step name first one all true same more is = search rules
 named-step name first one all false same more is = more is
 
 pub named-is : (name : List ℕ) (one : SignalDefined) (all : List SignalDefined)
@@ -141,11 +124,8 @@ among-step : (test : List ℕ → Bool) (name own : List ℕ) (rest : Bool) (her
     → bytes_eq own name ≡ here
     → (here ≡ false → (rest && test name) ≡ rest)
     → ((test own && rest) && test name) ≡ (test own && rest)
-among-step test name own rest true is more =
-    ap (λ text. (test own && rest) && test text) (sym ((bytes_eq-Decides own name).0 is))
-    ∙ absorbed (test own) rest
-among-step test name own rest false is more =
-    and-assoc (test own) rest (test name) ∙ ap (λ b. test own && b) (more refl)
+among-step test name own rest true is more = search rules
+among-step test name own rest false is more = search rules
 
 found-later : (name : List ℕ) (first : SignalDefined) (all : List SignalDefined) (here : Bool)
     → bytes_eq first.name name ≡ here
@@ -183,11 +163,7 @@ pub wanted-defined : (names : List (List ℕ)) (old new : List SignalDefined) (n
     → (test : List ℕ → Bool) → list_all test (wanted names new)
     ≡ (list_all test (wanted names old) && test name)
 wanted-defined names old new name own is joins test =
-    wanted-parts test names new
-    ∙ ap (λ b. list_all test names && b) (joins test)
-    ∙ sym (and-assoc (list_all test names) (list_all test (map (λ one. one.name) old)) (test own))
-    ∙ ap (λ b. b && test own) (sym (wanted-parts test names old))
-    ∙ ap (λ text. list_all test (wanted names old) && test text) is
+    search (rules, wanted-parts, and-assoc, wanted)
 
 swapped : (a b c : Bool) → ((a && c) && b) ≡ ((a && b) && c)
 swapped true true true = refl
@@ -196,46 +172,15 @@ swapped true false true = refl
 swapped true false false = refl
 swapped false b c = refl
 
-pub wanted-plain : (old new : List (List ℕ)) (own : List SignalDefined) (name : List ℕ)
-    → ((test : List ℕ → Bool) → list_all test new ≡ (list_all test old && test name))
-    → (test : List ℕ → Bool) → list_all test (wanted new own)
-    ≡ (list_all test (wanted old own) && test name)
-wanted-plain old new own name joins test =
-    let rest = list_all test (map (λ one. one.name) own) in
-    wanted-parts test new own
-    ∙ ap (λ b. b && rest) (joins test)
-    ∙ swapped (list_all test old) rest (test name)
-    ∙ ap (λ b. b && test name) (sym (wanted-parts test old own))
-
 -- one more of the definitions, or one more of the other names
 pub sorted-defined : (all : List SignalDefined) (names : List (List ℕ))
     (old new : List SignalDefined) (one : SignalDefined) (name : List ℕ)
     → signal_definition_of all name ≡ Some one
     → (new ≡ old) ⊎ (new ≡ old ++ one ∷ []) → AreSorted all names old → AreSorted all names new
-sorted-defined all names old new one name is (inl same) sorted =
-    subst (AreSorted all names) (sym same) sorted
+sorted-defined all names old new one name is (inl same) sorted = search rules
 sorted-defined all names old new one name is (inr more) sorted =
     subst (AreSorted all names) (sym more) (record {
       plain = sorted.plain;
       defined = All-push (λ it. signal_definition_of all it.name ≡ Some it) old one sorted.defined
           (ap (signal_definition_of all) (named-is name one all is) ∙ is);
-    })
-
-pub sorted-plain : (all : List SignalDefined) (old new : List (List ℕ))
-    (own : List SignalDefined) (name : List ℕ) → signal_definition_of all name ≡ None
-    → ((test : List ℕ → Bool) → list_all test new ≡ (list_all test old && test name))
-    → AreSorted all old own → AreSorted all new own
-sorted-plain all old new own name none joins sorted = record {
-  plain = joins (is_undefined all)
-      ∙ ap (λ b. b && is_undefined all name) sorted.plain
-      ∙ ap (λ (d : Option SignalDefined). not (is_some d)) none;
-  defined = sorted.defined;
-}
-
-pub sorted-none : (all : List SignalDefined) (names : List (List ℕ)) (own : List SignalDefined)
-    → names ≡ [] → own ≡ [] → AreSorted all names own
-sorted-none all names own empty none =
-    rw (empty, none) (record {
-      plain = refl;
-      defined = All-nil (λ one. signal_definition_of all one.name ≡ Some one);
     })

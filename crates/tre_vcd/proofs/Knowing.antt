@@ -1,9 +1,8 @@
 -- What is kept of the identifiers of names, one declaration later.
-use Rattle.std.proofs.Common.{◌≡◌, ◌≢◌, ◌⊎◌, ℕ, zero, suc, ◌<◌, ◌≤◌, Bool, true, false, ◌&&◌, List, [], ◌∷◌, ◌++◌, length, get_or, set, Option, None, Some, refl, sym, ap, ◌∙◌, inl, inr, arith, if◌then◌else◌}
+use Rattle.std.proofs.Common.{◌≡◌, ◌≢◌, ℕ, zero, suc, ◌<◌, ◌≤◌, Bool, true, false, List, [], ◌∷◌, ◌++◌, length, get_or, set, Option, None, Some, refl, sym, ap, ◌∙◌, arith, rules}
 use Rattle.std.specs.Prelude.{All}
 use Rattle.std.specs.Option.{option_or}
 use Rattle.std.specs.Str.{bytes_eq}
-use Rattle.std.proofs.lemmas.Bool.{cases_lt}
 use Rattle.tre_vcd.specs.Kept.{AreKnown, IsSieveOf, KeepsNames, and_declared, identifier_kept}
 use Rattle.tre_vcd.specs.declared.variable.Variable.{Variable}
 use Rattle.tre_vcd.specs.declared.variables.Variables.{Variables}
@@ -33,8 +32,7 @@ keeps-among old new names kept same keeps = record {
 pub keeps-same : (old new : List ℕ → Option (List ℕ)) (names : List (List ℕ)) (kept : Variables)
     → ((name : List ℕ) → new name ≡ old name) → KeepsNames old names kept
     → KeepsNames new names kept
-keeps-same old new names kept same keeps =
-    keeps-among old new names kept (λ k d below. same (get_or names k d)) keeps
+keeps-same old new names kept same keeps = search rules
 
 known-none : (names : List (List ℕ)) → AreKnown (λ name. None) names []
 known-none [] = refl
@@ -45,10 +43,7 @@ sieve-none sieve = record { each = λ k identifier at. cc }
 
 pub keeps-none : (names : List (List ℕ)) (kept : Variables) → kept.list.items ≡ []
     → KeepsNames (λ name. None) names kept
-keeps-none names kept empty = record {
-  known = rw empty (known-none names);
-  sieve = rw empty (sieve-none kept.sieve);
-}
+keeps-none names kept empty = search (rules, known-none, sieve-none)
 
 -- one more variable, for a name that has none
 pub known-push : (identified : List ℕ → Option (List ℕ)) (names : List (List ℕ))
@@ -56,8 +51,7 @@ pub known-push : (identified : List ℕ → Option (List ℕ)) (names : List (Li
     → length variables < length names → AreKnown identified names variables
     → AreKnown identified names (variables ++ variable ∷ [])
 known-push identified [] variables variable new below known = absurd (omega (arith, below))
-known-push identified (name ∷ names) [] variable new below known =
-    (ap identifier_kept new ∙ sym known.0, known.1)
+known-push identified (name ∷ names) [] variable new below known = search rules
 known-push identified (name ∷ names) (first ∷ variables) variable new below known = (
   known.0,
   known-push identified names variables variable new (omega (arith, below)) known.1,
@@ -71,10 +65,6 @@ known-few identified (name ∷ names) [] known = omega arith
 known-few identified (name ∷ names) (variable ∷ variables) known =
     omega (arith, known-few identified names variables known.1)
 
-pub not-both : (a : Bool) → (a && false) ≡ false
-not-both true = refl
-not-both false = refl
-
 -- ---- a declaration
 
 pub option_or-none : (o : Option (List ℕ)) → option_or o None ≡ o
@@ -84,15 +74,12 @@ option_or-none (Some identifier) = refl
 -- the declaration of another name
 declared-other : (identified : List ℕ → Option (List ℕ)) (bytes identifier name : List ℕ)
     → bytes_eq name bytes ≡ false → and_declared identified bytes identifier name ≡ identified name
-declared-other identified bytes identifier name other =
-    ap (λ (b : Bool). option_or (identified name) (if b then Some identifier else None)) other
-    ∙ option_or-none (identified name)
+declared-other identified bytes identifier name other = search rules
 
 declared-own : (identified : List ℕ → Option (List ℕ)) (bytes identifier name : List ℕ)
     → bytes_eq name bytes ≡ true
     → and_declared identified bytes identifier name ≡ option_or (identified name) (Some identifier)
-declared-own identified bytes identifier name same =
-    ap (λ (b : Bool). option_or (identified name) (if b then Some identifier else None)) same
+declared-own identified bytes identifier name same = search rules
 
 pub known-other : (identified : List ℕ → Option (List ℕ)) (bytes identifier : List ℕ)
     (names : List (List ℕ)) (variables : List Variable)
@@ -138,13 +125,6 @@ known-set identified bytes identifier (name ∷ names) (variable ∷ variables) 
           (λ k within other. others (suc k) (omega (arith, within)) (λ e. other (omega (arith, e))))
           made known.1,
     )
-
-pub cases_ne : (a b : ℕ) → a ≢ b → (a < b) ⊎ (b < a)
-cases_ne a b other =
-    elim (cases_lt a b) [
-      | inl below ↦ inl below
-      | inr above ↦ inr (omega (arith, above, other))
-    ]
 
 pub false_of : (b : Bool) → (b ≡ true → ⊥) → b ≡ false
 false_of true wrong = absurd (wrong refl)

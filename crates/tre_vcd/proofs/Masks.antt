@@ -1,5 +1,5 @@
 -- What is kept for some names is what holds of each.
-use Rattle.std.proofs.Common.{◌≡◌, ℕ, Bool, List, [], ◌∷◌, Option, refl, ap, ap₂, ◌∙◌, arith}
+use Rattle.std.proofs.Common.{◌≡◌, ℕ, Bool, List, [], ◌∷◌, Option, refl, arith, rules}
 use Rattle.tre_trace.specs.Reading.{bits_of}
 use Rattle.tre_trace.specs.Segments.{segment_with}
 use Rattle.tre_vcd.specs.Kept.{is_of, mask_from}
@@ -19,6 +19,4 @@ mask-bits identified test (name ∷ names) =
 pub segment-with : (one_len other_len one_val other_val one_ev other_ev : ℕ)
     → one_len ≡ other_len → one_val ≡ other_val → one_ev ≡ other_ev
     → segment_with one_len one_val one_ev ≡ segment_with other_len other_val other_ev
-segment-with one_len other_len one_val other_val one_ev other_ev len val ev =
-    ap (λ n. segment_with n one_val one_ev) len
-    ∙ ap₂ (λ v e. segment_with other_len v e) val ev
+segment-with one_len other_len one_val other_val one_ev other_ev len val ev = search rules

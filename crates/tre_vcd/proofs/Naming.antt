@@ -1,5 +1,5 @@
 -- The one name that has some bytes.
-use Rattle.std.proofs.Common.{◌≡◌, ◌≢◌, ℕ, zero, suc, ◌+◌, ◌<◌, ◌≤◌, Bool, true, false, not, nat_lt, cond, inl, inr, List, [], ◌∷◌, length, get_or, None, Some, refl, sym, ◌∙◌, arith}
+use Rattle.std.proofs.Common.{◌≡◌, ◌≢◌, ℕ, zero, suc, ◌+◌, ◌<◌, ◌≤◌, Bool, true, false, not, nat_lt, cond, List, [], ◌∷◌, length, get_or, None, Some, refl, sym, arith, rules}
 use Rattle.std.specs.List.{position_or_len}
 use Rattle.std.specs.Prelude.{AllPairs}
 use Rattle.std.specs.Str.{bytes_eq}
@@ -7,21 +7,13 @@ use Rattle.std.proofs.lemmas.Bool.Decides.{nat_tests}
 use Rattle.std.proofs.lemmas.List.Quantifiers.{position-Some}
 use Rattle.std.proofs.lemmas.Slice.Eq.{bytes_eq-Decides}
 use Rattle.tre_state.specs.Names.{place_of}
-use Rattle.tre_vcd.proofs.Knowing.{cases_ne, false_of}
 
 -- of names that differ only one has some bytes
 pub others-differ : (names : List (List ℕ)) (bytes : List ℕ) (i : ℕ)
     → AllPairs (λ name other. name ≢ other) names → i < length names
     → bytes_eq (get_or names i []) bytes ≡ true → (k : ℕ) → k < length names → k ≢ i
     → bytes_eq (get_or names k []) bytes ≡ false
-others-differ names bytes i distinct below here k within other =
-    false_of (bytes_eq (get_or names k []) bytes) (λ also.
-    let first : get_or names k [] ≡ bytes = (bytes_eq-Decides (get_or names k []) bytes).0 also in
-    let second : get_or names i [] ≡ bytes = (bytes_eq-Decides (get_or names i []) bytes).0 here in
-    elim (cases_ne k i other) [
-      | inl before ↦ distinct k i [] before below (first ∙ sym second)
-      | inr behind ↦ distinct i k [] behind within (second ∙ sym first)
-    ])
+others-differ names bytes i distinct below here k within other = search rules
 
 -- The name at the place has the bytes, and no other has them.
 pub record IsNamedAt (names : List (List ℕ)) (bytes : List ℕ) (place : ℕ) : Type 0 where
@@ -50,8 +42,7 @@ none-step : (p : List ℕ → Bool) (x : List ℕ) (xs : List (List ℕ)) (here 
     → (k : ℕ) → k < suc (length xs) → p (get_or (x ∷ xs) k []) ≡ false
 none-step p x xs true is late rest k below = absurd (omega (arith, late))
 none-step p x xs false is late rest zero below = is
-none-step p x xs false is late rest (suc k) below =
-    rest (omega (arith, late)) k (omega (arith, below))
+none-step p x xs false is late rest (suc k) below = search rules
 
 none-before : (p : List ℕ → Bool) (xs : List (List ℕ)) → length xs ≤ position_or_len p xs
     → (k : ℕ) → k < length xs → p (get_or xs k []) ≡ false
@@ -68,14 +59,4 @@ not-below a b is = grind (arith, nat_tests)
 
 pub named-none : (names : List (List ℕ)) (bytes : List ℕ) → None ≡ place_of names bytes
     → (k : ℕ) → k < length names → bytes_eq (get_or names k []) bytes ≡ false
-named-none names bytes none k within =
-    let late =
-    not-below (position_or_len (bytes_eq bytes) names) (length names)
-    (test-fails (nat_lt (position_or_len (bytes_eq bytes) names) (length names)) _ none) in
-    let differs = none-before (bytes_eq bytes) names late k within in
-    false_of (bytes_eq (get_or names k []) bytes) (λ same.
-    let turned : bytes_eq bytes (get_or names k []) ≡ true =
-    (bytes_eq-Decides bytes (get_or names k [])).1
-    (sym ((bytes_eq-Decides (get_or names k []) bytes).0 same)) in
-    let wrong : false ≡ true = sym differs ∙ turned in
-    cc)
+named-none names bytes none k within = search (rules, not-below, test-fails, none-before, within)

@@ -1,5 +1,5 @@
 -- What is known of the names that must be declared.
-use Rattle.std.proofs.Common.{◌≡◌, ◌≤◌, ℕ, Bool, refl, List, [], ◌∷◌, ◌++◌, length, map, take, drop, sym, ap, ap₂, ◌∙◌, subst, arith}
+use Rattle.std.proofs.Common.{◌≡◌, ◌≤◌, ℕ, Bool, refl, List, [], ◌∷◌, ◌++◌, length, map, take, drop, sym, ap, ap₂, ◌∙◌, subst, arith, rules}
 use Rattle.std.specs.Global.{Vec}
 use Rattle.std.specs.Prelude.{All}
 use Rattle.std.proofs.Math.Seq.{take-append_seam}
@@ -63,13 +63,7 @@ offers-more all past (first ∷ others) found knows more =
 pub offers-found : (all : List SignalDefined) (past : List Statement) (found : Found)
     (names events : Vec Bool) → KnowsOffers all past found
     → KnowsOffers all past (record found { names = names; events = events })
-offers-found all past found names events knows = record {
-  same = knows.same;
-  tests = knows.tests;
-  changes = knows.changes;
-  names = knows.names;
-  events = knows.events;
-}
+offers-found all past found names events knows = search rules
 
 pub offers-none : (all : List SignalDefined) (past : List Statement) (own : List Found)
     → own ≡ [] → KnowOffers all past own
@@ -87,10 +81,7 @@ needed-none past (first ∷ others) none = cc (none)
 -- where all are written back into the vector that they came from
 pub written-back : (P : List Found → Type 0) (now all : List Found) (len : ℕ)
     → length now ≡ len → P now → P (take len (now ++ drop (length now) all))
-written-back P now all len same knows =
-    subst P
-    (sym (ap (λ n. take n (now ++ drop (length now) all)) (sym same)
-    ∙ take-append_seam now (drop (length now) all))) knows
+written-back P now all len same knows = search (rules, take-append_seam)
 
 -- what is asked of the reader, by what changes of it
 abbrev pub terms_of : ℕ → List Vocabulary → List SignalDefined → Terms
@@ -109,10 +100,7 @@ longer : (a b : ℕ) (names : List (List ℕ)) → a ≤ b → All (λ name. len
 longer a b names more all = λ k d below. omega (arith, all k d below, more)
 
 pub within-more : (a b : ℕ) (asked : Vocabulary) → a ≤ b → AreNoLonger a asked → AreNoLonger b asked
-within-more a b asked more is = record {
-  names = longer a b asked.names more is.names;
-  events = longer a b asked.events more is.events;
-}
+within-more a b asked more is = search rules
 
 -- with one list of names more, and where longer names are let in
 pub all-within : (a b : ℕ) (all : List Vocabulary) (asked : Vocabulary) → a ≤ b
@@ -124,10 +112,7 @@ all-within a b (first ∷ others) asked more are is =
 pub within-same : (longest now : ℕ) (asked own : Vocabulary) (all others : List Vocabulary)
     → now ≡ longest → own ≡ asked → others ≡ all → AreWithin longest (asked ∷ all)
     → AreWithin now (own ∷ others)
-within-same longest now asked own all others same names needed is =
-    subst (λ n. AreWithin n (own ∷ others)) (sym same)
-    (subst (λ (one : Vocabulary). AreWithin longest (one ∷ others)) (sym names)
-    (subst (λ (rest : List Vocabulary). AreWithin longest (asked ∷ rest)) (sym needed) is))
+within-same longest now asked own all others same names needed is = search rules
 
 pub within-push : (a b : ℕ) (all new : List Found) (found : Found) → a ≤ b
     → new ≡ all ++ found ∷ [] → AreWithin a (map plain_of all)
@@ -141,7 +126,4 @@ within-push a b all new found more is are also =
 pub within-both : (names events : List (List ℕ)) (a b n : ℕ) → a ≤ n → b ≤ n
     → All (λ name. length name ≤ a) names → All (λ name. length name ≤ b) events
     → AreNoLonger n (record { names = names; events = events })
-within-both names events a b n one two first second = record {
-  names = longer a n names one first;
-  events = longer b n events two second;
-}
+within-both names events a b n one two first second = search rules

@@ -1,17 +1,16 @@
 -- Where a token stops the reading.
-use Rattle.std.proofs.Common.{◌≡◌, inl, inr, ⊎_elim, ℕ, ◌*◌, ◌^◌, ◌<◌, ◌≤◌, nat_lt, ◌==◌, ◌||◌, ◌&&◌, not, Bool, true, false, List, [], ◌∷◌, ◌++◌, append_assoc, append-nil, length, replicate, codes, Result, Err, refl, sym, ap, subst, ◌∙◌, arith, if◌then◌else◌}
+use Rattle.std.proofs.Common.{◌≡◌, inl, inr, ⊎_elim, ℕ, ◌*◌, ◌^◌, ◌<◌, ◌≤◌, nat_lt, ◌==◌, ◌||◌, ◌&&◌, not, Bool, true, false, List, [], ◌∷◌, ◌++◌, append_assoc, length, replicate, codes, Result, Err, refl, sym, ap, subst, ◌∙◌, arith, if◌then◌else◌, rules}
 use Rattle.std.proofs.lemmas.Bool.{cases_Bool, or_parts}
 use Rattle.std.proofs.lemmas.Bool.Decides.{nat_tests}
 use Rattle.std.proofs.lemmas.List.Elements.{All-nil, All-head, All-tail, All-replicate}
 use Rattle.std.specs.Str.{bytes_eq}
 use Rattle.std.specs.Str.Parse.{digits_value}
-use Rattle.tre_pairs.specs.declared.TheConstants.{TIME_MAX}
 use Rattle.tre_parts.specs.Format.{Step}
 use Rattle.tre_decimal.specs.Decimal.{is_numeral}
 use Rattle.tre_trace.specs.declared.fault.TraceKind.{TraceKind}
 use Rattle.tre_trace.specs.declared.fault.TraceKind.TheVariants.{LineTooLong, BadNumber, Zero, TooLate, BadName, BadToken, UnknownName, TimeBack, CutShort, Spent, Memory}
-use Rattle.tre_vcd.specs.Dumps.{AreInner, IsTimeToken, is_vector, is_number, AreSilent, FitsNoRule, EndsEarly, LacksName, TokenHasFault}
-use Rattle.tre_vcd.specs.VcdReading.{is_end, is_dump, is_command, is_scalar, is_defined, in_dump, scopes_at, time_at, Terms, scalar, wide, Statement, scope, upscope, var, definitions, time, change, dump, dump_end, Open, nothing, section, Place, goes_to, scope_says, section_says, command_says, time_says, ticks_say, keyword_says, scalar_says, vector_says, value_says, token_at}
+use Rattle.tre_vcd.specs.Dumps.{AreInner, IsTimeToken, is_vector, is_number, AreSilent, FitsNoRule, EndsEarly, TokenHasFault}
+use Rattle.tre_vcd.specs.VcdReading.{is_end, is_dump, is_command, is_scalar, is_defined, in_dump, scopes_at, Terms, scalar, wide, Statement, scope, upscope, var, definitions, time, change, dump, dump_end, Open, nothing, section, Place, goes_to, scope_says, section_says, command_says, time_says, ticks_say, keyword_says, scalar_says, vector_says, value_says, token_at}
 use Rattle.tre_vcd.specs.Sections.{dump_says, dump_end_says}
 use Rattle.tre_vcd.proofs.Groups.{at, is_word}
 use Rattle.tre_vcd.proofs.TokenRuns.{with_front-none, then_run, stay, run}
@@ -237,18 +236,13 @@ no_rule terms past (byte ∷ bytes) true defined some none =
 first_stops : (terms : Terms) (past : List Statement) (begun : List (List ℕ))
     (token : List ℕ) (kind : TraceKind) → begun ≡ [] → token_at terms past nothing token ≡ Err kind
     → Stops terms past begun token kind
-first_stops terms past begun token kind none stops = record {
-  inside = nothing;
-  runs = rw none refl;
-  stops = stops;
-}
+first_stops terms past begun token kind none stops = search rules
 
 inner_open : (terms : Terms) (past : List Statement) (command : List ℕ)
     (kept inner : List (List ℕ)) → AreInner inner
     → run terms (at past (section command kept)) inner
     ≡ stay (at past (section command (kept ++ inner)))
-inner_open terms past command kept [] closed =
-    ap (λ all. stay (at past (section command all))) (sym (append-nil kept))
+inner_open terms past command kept [] closed = search rules
 inner_open terms past command kept (token ∷ inner) closed =
     ap (λ (ends : Bool). then_run (if ends then section_says past command kept
     else goes_to past (section command (kept ++ token ∷ [])))
@@ -264,11 +258,7 @@ section_open : (terms : Terms) (past : List Statement) (command : List ℕ)
     → command_says terms past command ≡ goes_to past (section command []) → AreInner inner
     → run terms (at past nothing) (command ∷ inner) ≡ stay (at past (section command inner))
 section_open terms past command inner defined opens closed =
-    ap (λ (is : Bool). then_run (if is then value_says terms past command
-    else command_says terms past command) (λ place. run terms place inner)) defined
-    ∙ ap (λ said. then_run said (λ place. run terms place inner)) opens
-    ∙ with_front-none (run terms (at past (section command [])) inner)
-    ∙ inner_open terms past command [] inner closed
+    search (rules, then_run, value_says, command_says, run, with_front-none, section, inner_open)
 
 short_scope : (past : List Statement) (inner : List (List ℕ)) → length inner < 2
     → scope_says past inner ≡ Err BadToken
@@ -299,10 +289,6 @@ early_stops terms past begun token early =
     })
     early.short
 
-lacks_name : (terms : Terms) (past : List Statement) (token : List ℕ)
-    → LacksName terms past token → token_at terms past nothing token ≡ Err UnknownName
-lacks_name terms past token lacks = rw (lacks.defined, lacks.ends, lacks.lacks) refl
-
 below : (a b : ℕ) → a < b → nat_lt a b ≡ true
 below a b lt = grind (arith, nat_tests)
 
@@ -313,31 +299,17 @@ timed : (terms : Terms) (past : List Statement) (token : List ℕ) (ticks : ℕ)
     (said : Result (Step Place) TraceKind) → is_defined past ≡ true
     → IsTimeToken terms.scale ticks (token ∷ [])
     → time_says terms.definitions past ticks ≡ said → token_at terms past nothing token ≡ said
-timed terms past token ticks said defined one says =
-    let token_is : token ≡ 35 ∷ one.digits = cc (one.is) in
-    rw (defined, token_is, one.numeral, ← one.value) says
+timed terms past token ticks said defined one says = search rules
 
 pub fault_stops : (terms : Terms) (past : List Statement) (begun : List (List ℕ))
     (token : List ℕ) (kind : TraceKind) → 0 < length token → TokenHasFault terms past begun token kind
     → Stops terms past begun token kind
 fault_stops terms past begun token BadToken some (inl none) =
-    first_stops terms past begun token BadToken none.0
-    (no_rule terms past token (is_defined past) refl some none.1)
-fault_stops terms past begun token BadToken some (inr early) =
-    early_stops terms past begun token early
-fault_stops terms past begun token UnknownName some has =
-    first_stops terms past begun token UnknownName has.0 (lacks_name terms past token has.1)
-fault_stops terms past begun token TimeBack some has =
-    let back = has.1 in
-    first_stops terms past begun token TimeBack has.0
-    (timed terms past token back.ticks (Err TimeBack) back.defined back.time
-    (rw (below back.ticks (time_at past) back.holds) refl))
-fault_stops terms past begun token TooLate some has =
-    let late = has.1 in
-    first_stops terms past begun token TooLate has.0
-    (timed terms past token late.ticks (Err TooLate) late.defined late.time
-    (rw (not_below late.ticks (time_at past) late.holds.0, below TIME_MAX late.ticks late.holds.1)
-    refl))
+    search (rules, first_stops, no_rule, is_defined)
+fault_stops terms past begun token BadToken some (inr early) = early_stops _ _ _ _ early
+fault_stops terms past begun token UnknownName some has = search rules
+fault_stops terms past begun token TimeBack some has = search rules
+fault_stops terms past begun token TooLate some has = search rules
 fault_stops terms past begun token LineTooLong some has = absurd has
 fault_stops terms past begun token BadNumber some has = absurd has
 fault_stops terms past begun token Zero some has = absurd has

@@ -1,5 +1,5 @@
 -- Which names that are needed are declared, some of them by definitions.
-use Rattle.std.proofs.Common.{◌≡◌, ℕ, zero, suc, ◌+◌, ◌<◌, ◌≤◌, ◌&&◌, ◌||◌, not, Bool, true, false, List, [], ◌∷◌, ◌++◌, length, map, get_or, set, Option, None, Some, refl, sym, ap, ap₂, ◌∙◌, arith, if◌then◌else◌}
+use Rattle.std.proofs.Common.{◌≡◌, ℕ, zero, suc, ◌+◌, ◌<◌, ◌≤◌, ◌&&◌, ◌||◌, not, Bool, true, false, List, [], ◌∷◌, ◌++◌, length, map, get_or, set, Option, None, Some, refl, sym, ap, ap₂, ◌∙◌, arith, if◌then◌else◌, rules}
 use Rattle.std.proofs.Math.Path.{fun_ext}
 use Rattle.std.specs.Prelude.{All}
 use Rattle.std.specs.List.{list_all}
@@ -12,7 +12,7 @@ use Rattle.tre_vcd.specs.Signals.{test_read, part_read}
 use Rattle.tre_vcd.specs.Sorted.{AreSorted, is_undefined, wanted}
 use Rattle.tre_vcd.proofs.Flagging.{all-flags}
 use Rattle.tre_vcd.proofs.Testing.{plain-read, test-next}
-use Rattle.tre_vcd.proofs.Watching.{part-next, plain-event}
+use Rattle.tre_vcd.proofs.Watching.{plain-event}
 
 -- ---- flags of definitions, the first of which were looked at
 
@@ -38,8 +38,7 @@ pub flagged-set : (i : ℕ) (old new : SignalDefined → Bool) (all : List Signa
     (d : SignalDefined) → i < length all → new (get_or all i d) ≡ true
     → set (flagged i old new all) i true ≡ flagged (suc i) old new all
 flagged-set i old new [] d below is = absurd (omega (arith, below))
-flagged-set zero old new (one ∷ all) d below is =
-    ap (λ flag. flag ∷ flagged zero old new all) (sym is)
+flagged-set zero old new (one ∷ all) d below is = search rules
 flagged-set (suc i) old new (one ∷ all) d below is =
     ap (λ flags. new one ∷ flags) (flagged-set i old new all d (omega (arith, below)) is)
 
@@ -47,8 +46,7 @@ pub flagged-kept : (i : ℕ) (old new : SignalDefined → Bool) (all : List Sign
     (d : SignalDefined) → i < length all → new (get_or all i d) ≡ old (get_or all i d)
     → flagged i old new all ≡ flagged (suc i) old new all
 flagged-kept i old new [] d below is = absurd (omega (arith, below))
-flagged-kept zero old new (one ∷ all) d below is =
-    ap (λ flag. flag ∷ flagged zero old new all) (sym is)
+flagged-kept zero old new (one ∷ all) d below is = search rules
 flagged-kept (suc i) old new (one ∷ all) d below is =
     ap (λ flags. new one ∷ flags) (flagged-kept i old new all d (omega (arith, below)) is)
 
@@ -76,10 +74,7 @@ pub flagged-raised : (i : ℕ) (old new : SignalDefined → Bool) (all : List Si
     → flags ≡ flagged i old new all
     → new (get_or all i d) ≡ (old (get_or all i d) || raised)
     → (if raised then set flags i true else flags) ≡ flagged (i + 1) old new all
-flagged-raised i old new all d raised flags below is one =
-    ap (λ now. if raised then set now i true else now) is
-    ∙ raised-next i old new all d raised below one
-    ∙ ap (λ n. flagged n old new all) (omega arith)
+flagged-raised i old new all d raised flags below is one = search (rules, raised-next)
 
 pub flagged-long : (i : ℕ) (old new : SignalDefined → Bool) (all : List SignalDefined)
     → length (flagged i old new all) ≡ length all
@@ -94,15 +89,11 @@ module _ (i : ℕ) (old hits : SignalDefined → Bool) (all : List SignalDefined
       → raised ≡ hits own → i < length all
       → (if raised then set flags i true else flags)
       ≡ flagged (i + 1) old (λ one. old one || hits one) all
-  flagged-or own raised is found below =
-      flagged-raised i old (λ one. old one || hits one) all own raised flags below before
-      (ap (λ b. old (get_or all i own) || b) (sym (found ∙ ap hits is)))
+  flagged-or own raised is found below = search (rules, flagged-raised)
 
   pub flagged-end : (length flags ≡ length all → length all ≤ i)
       → flags ≡ map (λ one. old one || hits one) all
-  flagged-end past =
-      let long = ap length before ∙ flagged-long i old (λ one. old one || hits one) all in
-      before ∙ flagged-all i old (λ one. old one || hits one) all (past long)
+  flagged-end past = search (rules, flagged-long, flagged-all)
 
 -- ---- one declaration later
 
@@ -136,11 +127,7 @@ pub parts-flagged : (past : List Statement) (tokens : List (List ℕ)) (offer : 
     || is_some (changes_in one offer.full_name offer.size)) own
     → flags ≡ map (λ one. is_some (part_read (var tokens ∷ past) (Some one))) own
 parts-flagged past tokens offer own flags offered is =
-    is ∙ ap (λ (f : SignalDefined → Bool). map f own) (fun_ext (λ one.
-    ap (λ b. is_some (part_read past (Some one)) || b)
-    (map-some _ (changes_in one offer.full_name offer.size) ∙ asked-some (occasion_in one) offer)
-    ∙ or-some (part_read past (Some one)) (asked_in (occasion_in one) offer)
-    ∙ ap is_some (sym (part-next past tokens one offer offered))))
+    search (rules, fun_ext, part_read, map-some, changes_in, asked-some, occasion_in)
 
 -- ---- all names
 
@@ -171,29 +158,23 @@ signal-plain : (all : List SignalDefined) (past : List Statement) (name : List �
     → signal_definition_of all name ≡ None
     → is_some (identifier_of is_signal past name) ≡ is_some (signal_of all past name)
 signal-plain all past name none =
-    map-some _ (identifier_of is_signal past name)
-    ∙ ap is_some (sym (plain-read past name))
-    ∙ ap (λ (d : Option SignalDefined). is_some (first_read (signal_in d name) past)) (sym none)
+    search (rules, map-some, identifier_of, is_signal, plain-read, first_read, signal_in)
 
 event-plain : (all : List SignalDefined) (past : List Statement) (name : List ℕ)
     → signal_definition_of (of_changes all) name ≡ None
     → is_some (identifier_of is_event past name) ≡ is_some (event_asked all past name)
 event-plain all past name none =
-    map-some _ (identifier_of is_event past name)
-    ∙ ap is_some (sym (plain-event past name))
-    ∙ ap (λ (d : Option SignalDefined). is_some (first_read (event_read_by d name) past)) (sym none)
+    search (rules, map-some, identifier_of, is_event, plain-event, first_read, event_read_by)
 
 signal-own : (all : List SignalDefined) (past : List Statement) (one : SignalDefined)
     → signal_definition_of all one.name ≡ Some one
     → is_some (test_read past (Some one)) ≡ is_some (signal_of all past one.name)
-signal-own all past one some =
-    ap (λ (d : Option SignalDefined). is_some (first_read (signal_in d one.name) past)) (sym some)
+signal-own all past one some = search rules
 
 event-own : (all : List SignalDefined) (past : List Statement) (one : SignalDefined)
     → signal_definition_of (of_changes all) one.name ≡ Some one
     → is_some (part_read past (Some one)) ≡ is_some (event_asked all past one.name)
-event-own all past one some =
-    ap (λ (d : Option SignalDefined). is_some (first_read (event_read_by d one.name) past)) (sym some)
+event-own all past one some = search rules
 
 both-true : (a b : Bool) → (a && b) ≡ true → (a ≡ true) × (b ≡ true)
 both-true true true is = (refl, refl)
@@ -220,10 +201,7 @@ both-declared : (plain : List ℕ → Bool) (own : SignalDefined → Bool) (whol
     → All (λ one. own one ≡ whole one.name) defined
     → (list_all plain names && list_all own defined) ≡ list_all whole (wanted names defined)
 both-declared plain own whole names defined one other =
-    ap₂ (λ a b. a && b) one
-    (all-alike own (λ x. whole x.name) defined other
-    ∙ sym (all-map whole (λ x. x.name) defined))
-    ∙ sym (all-append whole names (map (λ x. x.name) defined))
+    search (rules, all-alike, all-map, all-append)
 
 all-flagged : (own : SignalDefined → Bool) (defined : List SignalDefined) (flags : List Bool)
     → flags ≡ map own defined → list_all (λ flag. flag) flags ≡ list_all own defined

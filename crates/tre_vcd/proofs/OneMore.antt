@@ -1,7 +1,6 @@
 -- What holds of those in front of one holds of this one too.
-use Rattle.std.proofs.Common.{◌≡◌, ℕ, ◌+◌, ◌<◌, List, [], ◌∷◌, ◌++◌, length, length-take, take, Option, None, Some, inl, inr, sym, ap, ◌∙◌, subst, arith}
+use Rattle.std.proofs.Common.{◌≡◌, ℕ, ◌+◌, ◌<◌, List, [], ◌∷◌, ◌++◌, length, length-take, take, Option, None, Some, sym, ap, ◌∙◌, subst, arith, rules}
 use Rattle.std.specs.List.{slice_get}
-use Rattle.std.proofs.lemmas.Bool.{cases_eq}
 use Rattle.std.proofs.lemmas.List.{take_more}
 use Rattle.std.proofs.lemmas.Option.{get_or_from_slice_get, slice_get-get_or}
 
@@ -10,11 +9,7 @@ pub places-more : {A : Type 0} (at : ℕ → Option A) (P : A → ℕ → Type 0
     → ((asked : A) → at number ≡ Some asked → P asked number)
     → ((k : ℕ) (asked : A) → k < number → at k ≡ Some asked → P asked k)
     → (k : ℕ) (asked : A) → k < number + 1 → at k ≡ Some asked → P asked k
-places-more at P number here before = λ k asked below is.
-    elim (cases_eq k number) [
-      | inl same ↦ subst (P asked) (sym same) (here asked (ap at (sym same) ∙ is))
-      | inr other ↦ before k asked (omega (arith, below, other)) is
-    ]
+places-more at P number here before = search rules
 
 -- of the names in front of one
 pub front-more : (Knows : List (List ℕ) → Type 0) (names : List (List ℕ)) (number : ℕ)

@@ -1,8 +1,6 @@
 -- What is known of the past, one statement later.
-use Rattle.std.proofs.Common.{◌≡◌, ◌≢◌, ℕ, ◌==◌, ◌≤◌, ◌||◌, ◌&&◌, not, Bool, true, false, None, List, ◌∷◌, [], Option, Some, length, get_or, refl, sym, ap, ◌∙◌, arith, if◌then◌else◌}
+use Rattle.std.proofs.Common.{◌≡◌, ◌≢◌, ℕ, ◌==◌, ◌≤◌, ◌&&◌, not, Bool, true, false, None, List, ◌∷◌, [], Option, length, get_or, refl, sym, ap, ◌∙◌, arith, if◌then◌else◌, rules}
 use Rattle.std.specs.Int.{bit_at}
-use Rattle.std.specs.Str.{bytes_eq}
-use Rattle.std.proofs.lemmas.Slice.Eq.{bytes_eq-Decides}
 use Rattle.std.proofs.lemmas.Bool.Decides.{nat_tests}
 use Rattle.std.specs.Option.{option_or, option_map_or}
 use Rattle.std.specs.Prelude.{All}
@@ -14,7 +12,7 @@ use Rattle.tre_vcd.specs.Kept.{ends_true, identifier_at, identifier_of, value_at
 use Rattle.tre_vcd.specs.declared.scopes.Scopes.{Scopes}
 use Rattle.tre_vcd.specs.declared.past.Past.{Past}
 use Rattle.tre_vcd.specs.declared.variables.Variables.{Variables}
-use Rattle.tre_vcd.proofs.Knowing.{keeps-among, keeps-same, option_or-none, false_of}
+use Rattle.tre_vcd.proofs.Knowing.{keeps-among, keeps-same, option_or-none}
 use Rattle.tre_vcd.proofs.Valuing.{mask-same, mask-quiet, mask-empty, mask-changed}
 
 abbrev value_of : Option (List ℕ) → Bool
@@ -29,40 +27,21 @@ pub record LooksSame (past now : List Statement) : Type 0 where
 
 values-same : (past now : List Statement) (names : List (List ℕ)) → LooksSame past now
     → valuation_behind past names ≡ valuation_behind now names
-values-same past now names same =
-    mask-same (identifier_of is_signal past) (identifier_of is_signal now) (value_at past)
-    (value_at now) 0 names (same.identifiers is_signal)
-    (λ identifier. ap value_of (same.values identifier))
+values-same past now names same = search rules
 
 events-same : (past now : List Statement) (names : List (List ℕ)) → LooksSame past now
     → events_at past names ≡ events_at now names
-events-same past now names same =
-    mask-same (identifier_of is_event past) (identifier_of is_event now) (happened_at past)
-    (happened_at now) 0 names (same.identifiers is_event) same.events
+events-same past now names same = search rules
 
 quiet-same : (past now : List Statement) → LooksSame past now → IsQuiet past → IsQuiet now
-quiet-same past now same quiet = record {
-  values = λ identifier. same.values identifier ∙ quiet.values identifier;
-  events = λ identifier. same.events identifier ∙ quiet.events identifier;
-}
+quiet-same past now same quiet = search rules
 
 -- where it is told anew which identifiers are short
 pub knows-brief : (names event_names : List (List ℕ)) (kept : Past) (past : List Statement)
     (brief : Brief) → IsBriefOf (identifier_at kept.propositions.list.items) brief
     → KnowsOfPast names event_names kept past
     → KnowsOfPast names event_names (record kept { brief = brief }) past
-knows-brief names event_names kept past brief told known = record {
-  defined = known.defined;
-  dump = known.dump;
-  time = known.time;
-  scopes = known.scopes;
-  propositions = known.propositions;
-  events = known.events;
-  values = known.values;
-  happened = known.happened;
-  quiet = known.quiet;
-  brief = λ e. told;
-}
+knows-brief names event_names kept past brief told known = search rules
 
 -- a statement that says nothing of names and times
 pub knows-later : (names event_names : List (List ℕ)) (kept : Past) (past : List Statement)
@@ -107,41 +86,12 @@ pub knows-begins : (names event_names : List (List ℕ)) (kept : Past) → kept.
     → KeepsNames (λ name. None) event_names kept.events → kept.values ≡ 0 → kept.happened ≡ 0
     → KnowsOfPast names event_names kept []
 knows-begins names event_names kept defined dumps ticks scopes propositions events values happened =
-    record {
-      defined = defined;
-      dump = dumps;
-      time = ticks;
-      scopes = scopes;
-      propositions =
-          keeps-same (λ name. None) (identifier_of is_signal []) names kept.propositions
-          (λ name. refl) propositions;
-      events =
-          keeps-same (λ name. None) (identifier_of is_event []) event_names kept.events
-          (λ name. refl) events;
-      values =
-          values
-          ∙ sym (mask-quiet (identifier_of is_signal []) (value_at []) 0 names
-          (λ identifier. refl));
-      happened =
-          happened
-          ∙ sym (mask-quiet (identifier_of is_event []) (happened_at []) 0 event_names
-          (λ identifier. refl));
-      quiet = λ e. record { values = λ identifier. refl; events = λ identifier. refl };
-      brief = λ e. absurd (cc (e));
-    }
+    search (rules, time, keeps-same, identifier_of, is_signal, events, is_event, values, mask-quiet)
 
 -- ---- times
 
-if_false : (same before : Bool) → before ≡ false → (if same then before else false) ≡ false
-if_false true before is = is
-if_false false before is = refl
-
 quiet-time : (past : List Statement) (ticks : ℕ) → IsQuiet past → IsQuiet (time ticks ∷ past)
-quiet-time past ticks quiet = record {
-  values = quiet.values;
-  events = λ identifier.
-      if_false (ticks == time_at past) (happened_at past identifier) (quiet.events identifier);
-}
+quiet-time past ticks quiet = search rules
 
 pub other_time : (ticks before : ℕ) → ticks ≢ before → (ticks == before) ≡ false
 other_time ticks before other = grind (arith, nat_tests)
@@ -187,47 +137,18 @@ pub knows-same_time : (names event_names : List (List ℕ)) (kept : Past) (past 
     (ticks : ℕ)
     → ticks ≡ kept.time → KnowsOfPast names event_names kept past
     → KnowsOfPast names event_names kept (time ticks ∷ past)
-knows-same_time names event_names kept past ticks is known =
-    let again : (ticks == time_at past) ≡ true =
-    same_time ticks (time_at past) (is ∙ known.time) in
-    let same : LooksSame past (time ticks ∷ past) = record {
-      identifiers = λ test name. refl;
-      values = λ identifier. refl;
-      events = λ identifier.
-          ap (λ (b : Bool). if b then happened_at past identifier else false) again;
-    } in
-    record {
-      defined = known.defined;
-      dump = known.dump;
-      time = sym is;
-      scopes = known.scopes;
-      propositions =
-          keeps-same (identifier_of is_signal past) (identifier_of is_signal (time ticks ∷ past))
-          names kept.propositions (same.identifiers is_signal) known.propositions;
-      events =
-          keeps-same (identifier_of is_event past) (identifier_of is_event (time ticks ∷ past))
-          event_names kept.events (same.identifiers is_event) known.events;
-      values = known.values ∙ values-same past (time ticks ∷ past) names same;
-      happened = known.happened ∙ events-same past (time ticks ∷ past) event_names same;
-      quiet = λ e. quiet-same past (time ticks ∷ past) same (known.quiet e);
-      brief = known.brief;
-    }
+knows-same_time names event_names kept past ticks is known = search rules
 
 -- ---- changes
 
 value-own : (past : List Statement) (form : Form) (identifier letters : List ℕ)
     → value_at (change form identifier letters ∷ past) identifier ≡ ends_true letters
-value-own past form identifier letters =
-    ap (λ (b : Bool). value_of (if b then Some letters else letters_at past identifier))
-    ((bytes_eq-Decides identifier identifier).1 refl)
+value-own past form identifier letters = search rules
 
 value-others : (past : List Statement) (form : Form) (identifier letters other : List ℕ)
     → other ≢ identifier
     → value_at (change form identifier letters ∷ past) other ≡ value_at past other
-value-others past form identifier letters other apart =
-    ap (λ (b : Bool). value_of (if b then Some letters else letters_at past other))
-    (false_of (bytes_eq other identifier)
-    (λ same. apart ((bytes_eq-Decides other identifier).0 same)))
+value-others past form identifier letters other apart = search rules
 
 -- what is known of a change but for the events
 pub knows-change : (names event_names : List (List ℕ)) (kept : Past) (past : List Statement)
@@ -278,42 +199,22 @@ pub events-stay : (names event_names : List (List ℕ)) (kept : Past) (past : Li
     ≡ happened_at past other)
     → KnowsOfPast names event_names kept past
     → kept.happened ≡ events_at (change form identifier letters ∷ past) event_names
-events-stay names event_names kept past form identifier letters same known =
-    known.happened
-    ∙ mask-same (identifier_of is_event past)
-    (identifier_of is_event (change form identifier letters ∷ past)) (happened_at past)
-    (happened_at (change form identifier letters ∷ past)) 0 event_names (λ name. refl) same
-
-said-inside : (past : List Statement) (identifier letters : List ℕ) → in_dump past ≡ true
-    → (other : List ℕ) → happened_at (change scalar identifier letters ∷ past) other
-    ≡ happened_at past other
-said-inside past identifier letters inside other =
-    ap (λ (b : Bool). (not b && bytes_eq other identifier) || happened_at past other) inside
+events-stay names event_names kept past form identifier letters same known = search rules
 
 said-own : (past : List Statement) (identifier letters : List ℕ) → in_dump past ≡ false
     → happened_at (change scalar identifier letters ∷ past) identifier ≡ true
-said-own past identifier letters outside =
-    ap (λ (b : Bool). (not b && bytes_eq identifier identifier) || happened_at past identifier)
-    outside
-    ∙ ap (λ (b : Bool). b || happened_at past identifier)
-    ((bytes_eq-Decides identifier identifier).1 refl)
+said-own past identifier letters outside = search rules
 
 said-others : (past : List Statement) (identifier letters : List ℕ)
     → in_dump past ≡ false → (other : List ℕ) → other ≢ identifier
     → happened_at (change scalar identifier letters ∷ past) other ≡ happened_at past other
-said-others past identifier letters outside other apart =
-    ap (λ (b : Bool). (not b && bytes_eq other identifier) || happened_at past other) outside
-    ∙ ap (λ (b : Bool). b || happened_at past other)
-    (false_of (bytes_eq other identifier)
-    (λ same. apart ((bytes_eq-Decides other identifier).0 same)))
+said-others past identifier letters outside other apart = search rules
 
 -- in a dump section
 pub events-inside : (names event_names : List (List ℕ)) (kept : Past) (past : List Statement)
     (identifier letters : List ℕ) → in_dump past ≡ true → KnowsOfPast names event_names kept past
     → kept.happened ≡ events_at (change scalar identifier letters ∷ past) event_names
-events-inside names event_names kept past identifier letters inside known =
-    events-stay names event_names kept past scalar identifier letters
-    (said-inside past identifier letters inside) known
+events-inside names event_names kept past identifier letters inside known = search rules
 
 pub no_items : {X : Type 0} (items : List X) → (length items == 0) ≡ true → items ≡ []
 no_items [] is = refl
@@ -405,32 +306,7 @@ pub knows-declared : (names event_names : List (List ℕ)) (kept : Past) (past :
     → KnowsOfPast names event_names (record kept { propositions = propositions; events = events })
     (var tokens ∷ past)
 knows-declared names event_names kept past tokens propositions events before signals said known =
-    let quiet = known.quiet before in
-    let now : List Statement = var tokens ∷ past in
-    let none : (identifier : List ℕ) → value_at past identifier ≡ false =
-    λ identifier. ap value_of (quiet.values identifier) in
-    record {
-      defined = known.defined;
-      dump = known.dump;
-      time = known.time;
-      scopes = known.scopes;
-      propositions = signals;
-      events = said;
-      values =
-          known.values
-          ∙ mask-quiet (identifier_of is_signal past) (value_at past) 0 names none
-          ∙ sym (mask-quiet (identifier_of is_signal now) (value_at now) 0 names none);
-      happened =
-          known.happened
-          ∙ mask-quiet (identifier_of is_event past) (happened_at past) 0 event_names
-          quiet.events
-          ∙ sym (mask-quiet (identifier_of is_event now) (happened_at now) 0 event_names
-          quiet.events);
-      quiet = λ e. record { values = quiet.values; events = quiet.events };
-      brief = λ e.
-          let wrong : true ≡ false = sym e ∙ before in
-          absurd (cc (wrong));
-    }
+    search rules
 
 keeps-within : (longest : ℕ) (test : List ℕ → List ℕ → Bool) (past : List Statement)
     (tokens names : List (List ℕ)) (kept : Variables)

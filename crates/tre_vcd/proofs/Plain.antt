@@ -1,5 +1,5 @@
 -- What the lowest bit of a value says.
-use Rattle.std.proofs.Common.{◌≡◌, ℕ, suc, ◌+◌, ◌==◌, ◌-◌, nat_le, Bool, true, false, ◌&&◌, ◌||◌, List, [], ◌∷◌, length, take, drop, None, Some, pos, refl, sym, ap, ap₂, subst, ◌∙◌, arith, if◌then◌else◌}
+use Rattle.std.proofs.Common.{◌≡◌, ℕ, suc, ◌+◌, ◌==◌, nat_le, Bool, true, false, ◌&&◌, ◌||◌, List, [], ◌∷◌, length, drop, None, Some, pos, refl, sym, ap, ◌∙◌, arith, if◌then◌else◌, rules}
 use Rattle.std.specs.List.{list_all}
 use Rattle.std.specs.Option.{option_map_or}
 use Rattle.std.specs.Str.Parse.{digits_value}
@@ -13,12 +13,8 @@ use Rattle.tre_vcd.specs.Kept.{ends_true}
 
 by-letter : (letter : ℕ) (zero one : Bool) → (letter == 48) ≡ zero → (letter == 49) ≡ one
     → passes plain_test (letter ∷ []) ≡ one
-by-letter letter true one is e =
-    let same : letter ≡ 48 = grind (arith, nat_tests) in
-    subst (λ n. passes plain_test (n ∷ []) ≡ (n == 49)) (sym same) refl ∙ e
-by-letter letter false true is e =
-    let same : letter ≡ 49 = grind (arith, nat_tests) in
-    subst (λ n. passes plain_test (n ∷ []) ≡ true) (sym same) refl
+by-letter letter true one is e = search rules
+by-letter letter false true is e = search rules
 by-letter letter false false is e = rw (is, e) refl
 
 plain-letter : (letter : ℕ) → passes plain_test (letter ∷ []) ≡ (letter == 49)
@@ -36,12 +32,7 @@ known-one letter rest = ap (λ b. b || is_bit letter) (le-one (length rest))
 
 last-of : (letter : ℕ) (rest : List ℕ)
     → letters_of lowest (letter ∷ rest) ≡ drop (length rest) (letter ∷ rest)
-last-of letter rest =
-    let letters = letter ∷ rest in
-    let one : length letters - (0 + 1) ≡ length rest = omega arith in
-    let all : take (length letters - 0) letters ≡ letters =
-    take_all (length letters - 0) letters (omega arith) in
-    ap (λ n. drop n (take (length letters - 0) letters)) one ∙ ap (drop (length rest)) all
+last-of letter rest = search (rules, take_all)
 
 compared : Bool → List ℕ → Bool
 compared known letters =
@@ -51,9 +42,7 @@ compared known letters =
 plain-longer : (first second : ℕ) (rest : List ℕ)
     → passes plain_test (first ∷ second ∷ rest) ≡ passes plain_test (second ∷ rest)
 unfolding compared
-plain-longer first second rest =
-    ap₂ compared (known-one first (second ∷ rest) ∙ sym (known-one second rest))
-    (last-of first (second ∷ rest) ∙ sym (last-of second rest))
+plain-longer first second rest = search (rules, compared, known-one, last-of)
 
 last-longer : (first second : ℕ) (rest : List ℕ)
     → ends_true (first ∷ second ∷ rest) ≡ ends_true (second ∷ rest)

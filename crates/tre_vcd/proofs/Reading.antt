@@ -1,11 +1,8 @@
 -- What a token says at a place that the reader holds.
-use Rattle.std.proofs.Common.{◌≡◌, ℕ, ◌-◌, ◌*◌, ◌^◌, ◌≤◌, min, nat_lt, ◌==◌, Bool, true, false, not, ◌&&◌, List, [], ◌∷◌, length, None, Some, Ok, refl, arith, if◌then◌else◌}
+use Rattle.std.proofs.Common.{◌≡◌, ℕ, ◌≤◌, nat_lt, ◌==◌, Bool, false, not, ◌&&◌, List, [], ◌∷◌, length, None, Some, refl, arith, if◌then◌else◌}
 use Rattle.std.proofs.lemmas.Bool.Decides.{nat_tests}
-use Rattle.std.specs.Str.Parse.{digits_value}
-use Rattle.tre_decimal.specs.Decimal.{is_numeral}
-use Rattle.tre_pairs.specs.declared.TheConstants.{TIME_MAX}
 use Rattle.tre_trace.specs.declared.fault.TraceKind.TheVariants.{CutShort}
-use Rattle.tre_vcd.specs.VcdReading.{Terms, scalar, Statement, time, change, Open, nothing, section, comment, vector, number, Place, time_at, stretch_until, goes_to, ticks_say, scalar_says, token_at, token_says, end_says, is_whole}
+use Rattle.tre_vcd.specs.VcdReading.{Terms, scalar, Statement, change, Open, nothing, section, comment, vector, number, Place, goes_to, scalar_says, token_at, token_says, end_says, is_whole}
 use Rattle.tre_vcd.specs.Kept.{ends_true}
 use Rattle.tre_vcd.specs.Sections.{Holds, inside_of, is_nothing, command_of}
 use Rattle.tre_vcd.specs.declared.command.Command.{Command}
@@ -107,25 +104,3 @@ scalar-says past letter (byte ∷ bytes) some = refl
 
 not_below : (a b : ℕ) → b ≤ a → nat_lt a b ≡ false
 not_below a b le = grind (arith, nat_tests)
-
--- a number that was cut to 64 bits, and is within the limit
-in_full : (units ticks : ℕ) → ticks ≡ min units (2 ^ 64 - 1) → ticks ≤ TIME_MAX → units ≡ ticks
-in_full units ticks value in_time = omega (arith, value, in_time)
-
--- A time within the limit that isn't below the last one says a segment, or nothing where it is the
--- same.
-pub time-says : (terms : Terms) (past : List Statement) (digits : List ℕ) (ticks : ℕ)
-    (same : Bool) → is_numeral digits ≡ true → ticks ≡ min
-    (digits_value 10 digits * 10 ^ terms.scale) (2 ^ 64 - 1)
-    → time_at past ≤ ticks → ticks ≤ TIME_MAX → (ticks == time_at past) ≡ same
-    → ticks_say terms past digits
-    ≡ (if same then goes_to (time ticks ∷ past) nothing
-    else Ok (record {
-      stretches = stretch_until terms.definitions past ticks ∷ [];
-      state = record { past = time ticks ∷ past; inside = nothing };
-    }))
-time-says terms past digits ticks same numeral value late in_time is =
-    let exact : digits_value 10 digits * 10 ^ terms.scale ≡ ticks =
-    in_full (digits_value 10 digits * 10 ^ terms.scale) ticks value in_time in
-    rw (numeral, exact, not_below ticks (time_at past) late, not_below TIME_MAX ticks in_time, is)
-    refl

@@ -1,24 +1,20 @@
 -- Tokens among the values, that are read one after the other.
-use Rattle.std.specs.Global.{Vec}
 use Rattle.std.specs.Str.Parse.{digits_value}
-use Rattle.std.proofs.Common.{◌≡◌, ◌≢◌, ℕ, ◌+◌, ◌-◌, ◌*◌, ◌^◌, ◌≤◌, ◌<◌, min, nat_lt, ◌==◌, true, false, List, [], ◌∷◌, append-nil, length, map, Result, refl, sym, ap, ◌∙◌, subst, arith, if◌then◌else◌}
-use Rattle.std.proofs.Math.Dec.{eqb-suc-zero}
+use Rattle.std.proofs.Common.{◌≡◌, ◌≢◌, ℕ, ◌+◌, ◌-◌, ◌*◌, ◌^◌, ◌≤◌, ◌<◌, min, nat_lt, ◌==◌, true, false, List, [], ◌∷◌, append-nil, length, Result, refl, sym, ◌∙◌, subst, arith, if◌then◌else◌, rules}
 use Rattle.std.proofs.lemmas.Bool.Decides.{nat_tests}
 use Rattle.tre_decimal.specs.Decimal.{is_numeral}
 use Rattle.tre_pairs.specs.declared.TheConstants.{TIME_MAX}
 use Rattle.tre_parts.specs.Bytes.{between, IsNextAt}
 use Rattle.tre_parts.specs.Format.{Step}
 use Rattle.tre_parts.specs.Skims.{Skims}
-use Rattle.tre_parts.specs.Walk.{AddsPart, IsWrong, PartGoesOn}
+use Rattle.tre_parts.specs.Walk.{AddsPart, PartGoesOn}
 use Rattle.tre_parts.specs.declared.TheConstants.{PART_MAX}
 use Rattle.tre_parts.specs.declared.skimmed.Skimmed.{Skimmed}
-use Rattle.tre_parts.proofs.Skimming.{skims-next, skims-kept}
+use Rattle.tre_parts.proofs.Skimming.{skims-next}
 use Rattle.tre_trace.specs.Reading.{Vocabulary}
 use Rattle.tre_trace.specs.declared.fault.TraceKind.{TraceKind}
-use Rattle.tre_trace.specs.declared.fault.TraceKind.TheVariants.{Spent, TimeBack}
 use Rattle.tre_trace.specs.declared.segment.Segment.{Segment}
 use Rattle.tre_vcd.specs.Kept.{KnowsOfPast}
-use Rattle.tre_vcd.specs.Offers.{KnowOffers}
 use Rattle.tre_vcd.specs.Sections.{Holds, KnowsPast}
 use Rattle.tre_vcd.specs.Signals.{KnowsChanges, KnowsSignals}
 use Rattle.tre_vcd.specs.VcdReading.{Terms, Form, scalar, wide, Statement, change, time, Open, nothing, vector, Place, is_defined, is_white, of_changes, time_at, stretch_until, goes_to, scalar_says, ticks_say, value_says, vector_says, token_says, vcd_format}
@@ -31,8 +27,6 @@ use Rattle.tre_vcd.specs.declared.skim.Taken.TheVariants.{Not, Vector}
 use Rattle.tre_vcd.specs.declared.token_reader.TokenReader.{TokenReader}
 use Rattle.tre_vcd.proofs.Changing.{past-changed}
 use Rattle.tre_vcd.proofs.Needing.{needed-same}
-use Rattle.tre_vcd.proofs.Pasts.{same_time, other_time}
-use Rattle.tre_vcd.proofs.Reading.{is-nothing, scalar-says, time-says}
 use Rattle.tre_vcd.proofs.Standing.{reads-no_var, stays-time}
 use Rattle.tre_vcd.proofs.Staying.{offers-stay, past-stays, tests-stay-time}
 
@@ -60,14 +54,7 @@ holds-on : (reader now : TokenReader) (past after : List Statement)
     → Holds reader (record { past = past; inside = nothing })
     → now.inside ≡ reader.inside → now.tokens ≡ reader.tokens → KnowsPast now after
     → Holds now (record { past = after; inside = nothing })
-holds-on reader now past after holds shut same knows = record {
-  knows = knows;
-  inside = shut ∙ holds.inside;
-  tokens = ap (λ (tokens : Vec (Vec ℕ)). map (λ token. token.items) tokens.items) same
-      ∙ holds.tokens;
-  suits = tt;
-  letters = tt;
-}
+holds-on reader now past after holds shut same knows = search rules
 
 -- behind a change
 pub holds-changed : (reader : TokenReader) (past : List Statement) (form : Form)
@@ -128,15 +115,7 @@ pub holds-still : (reader : TokenReader) (past : List Statement) (signals : Sign
     → signals.definitions ≡ reader.signals.definitions
     → Holds reader (record { past = past; inside = nothing })
     → Holds (record reader { signals = signals }) (record { past = past; inside = nothing })
-holds-still reader past signals read same holds =
-    holds-on reader (record reader { signals = signals }) past past holds refl refl (record {
-      past = holds.knows.past;
-      needed = holds.knows.needed;
-      signals = read;
-      offers = subst (λ all. KnowOffers all past reader.needed.items)
-          (ap (λ all. all.items) (sym same)) holds.knows.offers;
-      within = holds.knows.within;
-    })
+holds-still reader past signals read same holds = search rules
 
 -- ---- what was read of a token
 
@@ -145,11 +124,7 @@ pub change-told : {holds : Place → Type 0} (past : List Statement) (form : For
     (identifier letters : List ℕ)
     → holds (record { past = change form identifier letters ∷ past; inside = nothing })
     → PartGoesOn (goes_to (change form identifier letters ∷ past) nothing) [] holds
-change-told past form identifier letters held = record {
-  state = record { past = change form identifier letters ∷ past; inside = nothing };
-  says = refl;
-  is_held = held;
-}
+change-told past form identifier letters held = search rules
 
 -- a scalar change, which adds no stretch
 pub scalar-taken : {asked : Vocabulary} {holds : Place → Type 0} (past : List Statement)
@@ -157,15 +132,7 @@ pub scalar-taken : {asked : Vocabulary} {holds : Place → Type 0} (past : List 
     → (length identifier == 0) ≡ false
     → holds (record { past = change scalar identifier (letter ∷ []) ∷ past; inside = nothing })
     → AddsPart asked (scalar_says past letter identifier) holds segments segments
-scalar-taken past letter identifier segments some held = record {
-  stretches = [];
-  added = sym (append-nil segments);
-  goes_on = record {
-    state = record { past = change scalar identifier (letter ∷ []) ∷ past; inside = nothing };
-    says = scalar-says past letter identifier some;
-    is_held = held;
-  };
-}
+scalar-taken past letter identifier segments some held = search rules
 
 -- a vector, which is left where it is not empty
 pub vector-taken : (asked : Vocabulary) (holds : Place → Type 0) (past : List Statement)
@@ -175,9 +142,7 @@ pub vector-taken : (asked : Vocabulary) (holds : Place → Type 0) (past : List 
     → IsTaken asked said holds past letters segments segments
     (if length rest == 0 then Not else Vector)
 vector-taken asked holds past said [] letters segments is same held = (held, refl)
-vector-taken asked holds past said (byte ∷ rest) letters segments is same held =
-    rw (eqb-suc-zero (length rest))
-    (is ∙ ap (λ l. goes_to past (vector l)) (sym same), held, refl)
+vector-taken asked holds past said (byte ∷ rest) letters segments is same held = search rules
 
 module _ (terms : Terms) (past : List Statement) (digits : List ℕ) (ticks : ℕ)
     (numeral : is_numeral digits ≡ true)
@@ -187,41 +152,17 @@ module _ (terms : Terms) (past : List Statement) (digits : List ℕ) (ticks : �
   pub time-again : {holds : Place → Type 0} → ticks ≡ time_at past
       → holds (record { past = time ticks ∷ past; inside = nothing })
       → PartGoesOn (ticks_say terms past digits) [] holds
-  time-again same held = record {
-    state = record { past = time ticks ∷ past; inside = nothing };
-    says = time-says terms past digits ticks true numeral value (omega (arith, same)) in_time
-        (same_time ticks (time_at past) same);
-    is_held = held;
-  }
+  time-again same held = search rules
 
   -- a later one, which ends a stretch
   pub time-later : {holds : Place → Type 0} → time_at past ≤ ticks → ticks ≢ time_at past
       → holds (record { past = time ticks ∷ past; inside = nothing })
       → PartGoesOn (ticks_say terms past digits) (stretch_until terms.definitions past ticks ∷ [])
       holds
-  time-later late apart held = record {
-    state = record { past = time ticks ∷ past; inside = nothing };
-    says = time-says terms past digits ticks false numeral value late in_time
-        (other_time ticks (time_at past) apart);
-    is_held = held;
-  }
+  time-later late apart held = search rules
 
 below : (a b : ℕ) → a < b → nat_lt a b ≡ true
 below a b lt = grind (arith, nat_tests)
-
--- a time below the last one, which is a fault
-pub time-back : (terms : Terms) (past : List Statement) (digits : List ℕ) (ticks : ℕ)
-    → is_numeral digits ≡ true
-    → ticks ≡ min (digits_value 10 digits * 10 ^ terms.scale) (2 ^ 64 - 1)
-    → ticks < time_at past → time_at past < 2 ^ 64
-    → IsWrong (ticks_say terms past digits) TimeBack
-time-back terms past digits ticks numeral value back fits =
-    let exact : digits_value 10 digits * 10 ^ terms.scale ≡ ticks =
-    omega (arith, value, back, fits) in
-    record {
-      says = λ other. rw (numeral, exact, below ticks (time_at past) back) refl;
-      never_spent = λ (e : TimeBack ≡ Spent). cc;
-    }
 
 -- ---- one token more
 
@@ -229,15 +170,11 @@ time-back terms past digits ticks numeral value back fits =
 among : (reader : TokenReader) (place : Place)
     → (reader.past.is_defined ≡ true) × (reader.inside ≡ Nothing) → Holds reader place
     → (is_defined place.past ≡ true) × (place.inside ≡ nothing)
-among reader place is holds = (
-  sym holds.knows.past.defined ∙ is.0,
-  is-nothing place.inside (sym holds.inside ∙ is.1),
-)
+among reader place is holds = search rules
 
 held-nothing : (holds : Place → Type 0) (place : Place) → place.inside ≡ nothing → holds place
     → holds (record { past = place.past; inside = nothing })
-held-nothing holds place shut held =
-    subst (λ (o : Open). holds (record { past = place.past; inside = o })) shut held
+held-nothing holds place shut held = search rules
 
 pub taken-next : {asked : Vocabulary} (terms : Terms) {reader : TokenReader}
     {after : Place → Type 0} {place : Place} {bytes : List ℕ} {old mid new : List Segment}
@@ -269,13 +206,7 @@ pub taken-none : {asked : Vocabulary} (terms : Terms) {reader : TokenReader}
     → ((past : List Statement) → Holds reader (record { past = past; inside = nothing })
     → is_defined past ≡ true → after (record { past = past; inside = nothing }) × (new ≡ mid))
     → Skims asked (vcd_format terms) after place bytes old new read
-taken-none terms {reader = reader} {after = after} skims is kept =
-    let now = skims.now in
-    let at = among reader now is skims.is_held in
-    let still = kept now.past (held-nothing (Holds reader) now at.1 skims.is_held) at.0 in
-    skims-kept skims
-    (subst (λ (o : Open). after (record { past = now.past; inside = o })) (sym at.1) still.0)
-    still.1
+taken-none terms {reader = reader} {after = after} skims is kept = search rules
 
 -- the state is this one
 abbrev Waits : List Statement → List ℕ → Place → Type 0

@@ -1,60 +1,36 @@
 -- What tables tell of identifiers by their first bytes.
-use Rattle.std.proofs.Common.{◌≡◌, ◌≢◌, ◌↔◌, ℕ, ◌*◌, ◌%◌, ◌^◌, ◌<◌, ◌≤◌, Bool, true, false, List, [], ◌∷◌, length, get_or, set, replicate, Option, None, Some, inl, inr, refl, sym, ap, ◌∙◌, arith, w64, if◌then◌else◌}
+use Rattle.std.proofs.Common.{◌≡◌, ◌≢◌, ◌↔◌, ℕ, ◌*◌, ◌%◌, ◌^◌, ◌<◌, ◌≤◌, List, length, get_or, set, replicate, Option, None, Some, inl, inr, sym, ap, ◌∙◌, arith, w64, if◌then◌else◌, rules}
 use Rattle.std.specs.Prelude.{nat_lt}
 use Rattle.std.specs.Int.{bit_at}
 use Rattle.std.specs.Int.Bits.{bit_or, bit_and}
 use Rattle.std.specs.Option.{option_map}
 use Rattle.std.proofs.lemmas.Bool.{cases_eq, cases_lt}
-use Rattle.std.proofs.lemmas.Bool.Decides.{nat_tests}
 use Rattle.std.proofs.lemmas.List.{get_or-replicate, get_or_past, get_or-set_same, get_or-set_other, length-replicate}
 use Rattle.std.proofs.lemmas.Nat.Bits.{bit_at_set_same, bit_at_set_other, bit_at_and, bit_at-lt, bit_at-zero}
 use Rattle.tre_vcd.specs.Brief.{first_slot, second_slot, TellsSlots, IsBriefOf, and_told}
 use Rattle.tre_vcd.specs.Kept.{AreHaving, identifier_at}
 use Rattle.tre_vcd.specs.declared.brief.Brief.{Brief}
 use Rattle.tre_vcd.specs.declared.variable.Variable.{Variable}
-use Rattle.tre_vcd.proofs.Pasts.{same_time, other_time}
 use Rattle.tre_vcd.proofs.Valuing.{at-past}
 
 abbrev pub clear : ℕ → List ℕ
 clear count = replicate count 0
 
 zeros : (count slot : ℕ) → get_or (clear count) slot 0 ≡ 0
-zeros count slot = elim (cases_lt slot count) [
-  | inl within ↦ get_or-replicate count slot 0 0 within
-  | inr past ↦ get_or_past (clear count) slot 0 (omega (arith, past, length-replicate {A = ℕ} count 0))
-]
+zeros count slot = search (rules, cases_lt, get_or-replicate, get_or_past, length-replicate)
 
 -- where there is no identifier
 pub tells-none : (slot_of : List ℕ → ℕ) (count : ℕ)
     → TellsSlots slot_of (λ k. None) (clear count)
-tells-none slot_of count = record {
-  each = λ slot k. (
-    λ set.
-        let unset : bit_at (get_or (clear count) slot 0) k ≡ 0 =
-        ap (λ n. bit_at n k) (zeros count slot) ∙ bit_at-zero k in
-        absurd (omega (arith, unset, set)),
-    λ some. absurd (cc (some)),
-  );
-}
-
-pub tells-same : (slot_of : List ℕ → ℕ) (one other : ℕ → Option (List ℕ)) (masks : List ℕ)
-    → ((k : ℕ) → one k ≡ other k) → TellsSlots slot_of one masks → TellsSlots slot_of other masks
-tells-same slot_of one other masks same tells = record {
-  each = λ slot k.
-      let is : option_map slot_of (one k) ≡ option_map slot_of (other k) =
-      ap (option_map slot_of) (same k) in
-      (λ set. sym is ∙ (tells.each slot k).0 set, λ at. (tells.each slot k).1 (is ∙ at));
-}
+tells-none slot_of count = search (rules, zeros, bit_at-zero)
 
 pub told-here : (identified : ℕ → Option (List ℕ)) (number : ℕ) (identifier : List ℕ) (k : ℕ)
     → k ≡ number → and_told identified number identifier k ≡ Some identifier
-told-here identified number identifier k same =
-    ap (λ (b : Bool). if b then Some identifier else identified k) (same_time k number same)
+told-here identified number identifier k same = search rules
 
 pub told-other : (identified : ℕ → Option (List ℕ)) (number : ℕ) (identifier : List ℕ) (k : ℕ)
     → k ≢ number → and_told identified number identifier k ≡ identified k
-told-other identified number identifier k other =
-    ap (λ (b : Bool). if b then Some identifier else identified k) (other_time k number other)
+told-other identified number identifier k other = search rules
 
 -- The masks once a number is added to a slot.
 module _ (slot_of : List ℕ → ℕ) (identified : ℕ → Option (List ℕ)) (masks : List ℕ)
@@ -82,23 +58,7 @@ module _ (slot_of : List ℕ → ℕ) (identified : ℕ → Option (List ℕ)) (
 
   own-slot : TellsSlots slot_of identified masks → (slot : ℕ)
       → (bit_at (get_or now slot 0) number ≡ 1) ↔ (Some (slot_of identifier) ≡ Some slot)
-  own-slot tells slot = elim (cases_eq slot place) [
-    | inl same ↦ (
-      λ set. ap Some (sym is ∙ sym same),
-      λ some. ap (λ i. bit_at (get_or now i 0) number) same ∙ here-set,
-    )
-    | inr apart ↦ (
-      λ set.
-          let before : bit_at (get_or masks slot 0) number ≡ 1 =
-          sym (ap (λ n. bit_at n number) (get_or-set_other masks place slot _ 0 apart)) ∙ set in
-          let none : None ≡ Some slot =
-          sym (ap (option_map slot_of) absent) ∙ (tells.each slot number).0 before in
-          absurd (cc (none)),
-      λ some.
-          let at : slot_of identifier ≡ slot = cc in
-          absurd (apart (sym at ∙ sym is)),
-    )
-  ]
+  own-slot tells slot = search (rules, cases_eq, here-set, get_or-set_other, tells.each)
 
   pub tells-added : TellsSlots slot_of identified masks
       → TellsSlots slot_of (and_told identified number identifier) now
@@ -129,68 +89,32 @@ of_first count identified k = if nat_lt k count then identified k else None
 
 of-below : (count : ℕ) (identified : ℕ → Option (List ℕ)) (k : ℕ) → k < count
     → of_first count identified k ≡ identified k
-of-below count identified k below =
-    let is : nat_lt k count ≡ true = grind (arith, nat_tests) in
-    ap (λ (b : Bool). if b then identified k else None) is
+of-below count identified k below = search rules
 
 of-behind : (count : ℕ) (identified : ℕ → Option (List ℕ)) (k : ℕ) → count ≤ k
     → of_first count identified k ≡ None
-of-behind count identified k behind =
-    let is : nat_lt k count ≡ false = grind (arith, nat_tests) in
-    ap (λ (b : Bool). if b then identified k else None) is
+of-behind count identified k behind = search rules
 
 pub brief-begins : (identified : ℕ → Option (List ℕ)) (brief : Brief) → IsBriefOf (λ k. None) brief
     → IsBriefOf (of_first 0 identified) brief
-brief-begins identified brief told =
-    let same : (k : ℕ) → None ≡ of_first 0 identified k =
-    λ k. sym (of-behind 0 identified k (omega arith)) in
-    record {
-      firsts = tells-same first_slot _ _ brief.firsts same told.firsts;
-      seconds = tells-same second_slot _ _ brief.seconds same told.seconds;
-    }
+brief-begins identified brief told = search rules
 
 pub brief-same : (one other : ℕ → Option (List ℕ)) (brief : Brief)
     → ((k : ℕ) → one k ≡ other k) → IsBriefOf one brief → IsBriefOf other brief
-brief-same one other brief same told = record {
-  firsts = tells-same first_slot one other brief.firsts same told.firsts;
-  seconds = tells-same second_slot one other brief.seconds same told.seconds;
-}
+brief-same one other brief same told = search rules
 
 pub of-all : (count : ℕ) (variables : List Variable) → length variables ≤ count → (k : ℕ)
     → of_first count (identifier_at variables) k ≡ identifier_at variables k
-of-all count variables few k = elim (cases_lt k count) [
-  | inl below ↦ of-below count (identifier_at variables) k below
-  | inr behind ↦
-      of-behind count (identifier_at variables) k behind
-      ∙ sym (at-past variables k (omega (arith, few, behind)))
-]
+of-all count variables few k = search (rules, cases_lt, of-below, identifier_at, of-behind, at-past)
 
 -- ---- looking up
-
-same-short : (one other : List ℕ) → first_slot one ≡ first_slot other
-    → second_slot one ≡ second_slot other → second_slot other ≢ 0 → one ≡ other
-same-short one [] first second some = absurd (some refl)
-same-short one (a ∷ b ∷ c ∷ other) first second some = absurd (some refl)
-same-short [] (a ∷ []) first second some = absurd (omega (arith, second))
-same-short (x ∷ []) (a ∷ []) first second some = ap (λ byte. byte ∷ []) first
-same-short (x ∷ y ∷ []) (a ∷ []) first second some = absurd (omega (arith, second))
-same-short (x ∷ y ∷ z ∷ one) (a ∷ []) first second some = absurd (omega (arith, second))
-same-short [] (a ∷ b ∷ []) first second some = absurd (omega (arith, second))
-same-short (x ∷ []) (a ∷ b ∷ []) first second some = absurd (omega (arith, second))
-same-short (x ∷ y ∷ []) (a ∷ b ∷ []) first second some =
-    let next : y ≡ b = omega (arith, second) in
-    rw (first, next) refl
-same-short (x ∷ y ∷ z ∷ one) (a ∷ b ∷ []) first second some = absurd (omega (arith, second))
 
 own-of : (o : Option (List ℕ)) (identifier : List ℕ)
     → option_map first_slot o ≡ Some (first_slot identifier)
     → option_map second_slot o ≡ Some (second_slot identifier) → second_slot identifier ≢ 0
     → o ≡ Some identifier
 own-of None identifier first second some = absurd (cc (first))
-own-of (Some own) identifier first second some =
-    let one : first_slot own ≡ first_slot identifier = cc in
-    let two : second_slot own ≡ second_slot identifier = cc in
-    ap Some (same-short own identifier one two some)
+own-of (Some own) identifier first second some = search rules
 
 -- Where the bits of both slots of an identifier are.
 module _ (variables : List Variable) (identifier firsts seconds : List ℕ)
@@ -202,15 +126,6 @@ module _ (variables : List Variable) (identifier firsts seconds : List ℕ)
   set-first : (k : ℕ) → identifier_at variables k ≡ Some identifier
       → bit_at (begin identifier) k ≡ 1
   set-first k at = (first.each (first_slot identifier) k).1 (ap (option_map first_slot) at)
-
-  pub having-none : begin identifier ≡ 0 → AreHaving variables identifier 0
-  having-none none = record {
-    sound = λ k set. absurd (omega (arith, set, bit_at-zero k));
-    whole = λ k at.
-        let zero_too : bit_at (begin identifier) k ≡ 0 =
-        ap (λ n. bit_at n k) none ∙ bit_at-zero k in
-        absurd (omega (arith, zero_too, set-first k at));
-  }
 
   pub having-both : second_slot identifier ≢ 0 → AreHaving variables identifier
       (bit_and (begin identifier) (get_or seconds (second_slot identifier) 0))

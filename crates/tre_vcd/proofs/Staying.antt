@@ -1,17 +1,16 @@
 -- What is known by definitions, behind a statement that says nothing of them.
 use Rattle.std.specs.Global.{Vec}
-use Rattle.std.proofs.Common.{◌≡◌, ℕ, Bool, true, false, List, [], ◌∷◌, map, Option, None, Some, refl, sym, ap, ◌∙◌}
+use Rattle.std.proofs.Common.{◌≡◌, ℕ, Bool, true, false, List, [], ◌∷◌, map, Option, None, Some, refl, sym, ap, ◌∙◌, rules}
 use Rattle.std.proofs.Math.Path.{fun_ext}
 use Rattle.std.specs.Option.{is_some, option_map_or}
 use Rattle.std.specs.Int.{bit_at}
 use Rattle.tre_define.specs.Signals.{SignalDefined}
 use Rattle.tre_define.specs.declared.test.Test.{Test}
-use Rattle.tre_define.specs.declared.part.Part.{Part}
 use Rattle.tre_vcd.specs.VcdReading.{Statement, time, is_defined, letters_at, before_now, Asked, is_passed}
 use Rattle.tre_vcd.specs.Kept.{KnowsOfPast, identifier_of}
 use Rattle.tre_vcd.specs.Offers.{KnowOffers}
 use Rattle.tre_vcd.specs.Sections.{KnowsPast}
-use Rattle.tre_vcd.specs.Signals.{SignalsAreWatched, KnowsAt, KnowsChanges, KnowsSignals, KnowsTests, bit_of, has_changed, part_kept, part_read, test_at, test_read, watched_at}
+use Rattle.tre_vcd.specs.Signals.{SignalsAreWatched, KnowsAt, KnowsChanges, KnowsSignals, KnowsTests, bit_of, part_read, test_at, test_read, watched_at}
 use Rattle.tre_vcd.specs.declared.changes.Changes.{Changes}
 use Rattle.tre_vcd.specs.declared.changes.Watched.{Watched}
 use Rattle.tre_vcd.specs.declared.found.Found.{Found}
@@ -48,12 +47,6 @@ read-timed : (past : List Statement) (ticks : ℕ) (definition : Option SignalDe
 read-timed past ticks None = refl
 read-timed past ticks (Some one) = refl
 
-passed-timed : (past : List Statement) (ticks : ℕ) (asked : Option (Asked Test))
-    → option_map_or (is_passed past) asked false
-    ≡ option_map_or (is_passed (time ticks ∷ past)) asked false
-passed-timed past ticks None = refl
-passed-timed past ticks (Some asked) = refl
-
 pub tests-stay : (past now : List Statement) (all : List SignalDefined) (names : List (List ℕ))
     (kept : Tests) → StaysSame past now → KnowsTests all names kept past
     → KnowsTests all names kept now
@@ -71,14 +64,7 @@ tests-stay past now all names kept same knows = record {
 pub tests-stay-time : (past : List Statement) (ticks : ℕ) (all : List SignalDefined)
     (names : List (List ℕ)) (kept : Tests) → KnowsTests all names kept past
     → KnowsTests all names kept (time ticks ∷ past)
-tests-stay-time past ticks all names kept knows = record {
-  few = knows.few;
-  definitions = knows.definitions;
-  tests = tested-same past (time ticks ∷ past) kept.list.items (read-timed past ticks) knows.tests;
-  sieve = knows.sieve;
-  defined = knows.defined;
-  values = λ k. knows.values k ∙ ap bit_of (passed-timed past ticks (test_at kept.list.items k));
-}
+tests-stay-time past ticks all names kept knows = search rules
 
 pub watched-same : (past now : List Statement) (list : List Watched)
     → ((definition : Option SignalDefined) → part_read now definition ≡ part_read past definition)
@@ -87,27 +73,10 @@ watched-same past now [] same are = tt
 watched-same past now (watched ∷ list) same are =
     (are.0 ∙ sym (same watched.definition), watched-same past now list same are.1)
 
-changed-same : (past now : List Statement) → StaysSame past now → (asked : Option (Asked Part))
-    → option_map_or (has_changed past) asked false ≡ option_map_or (has_changed now) asked false
-changed-same past now same None = refl
-changed-same past now same (Some asked) =
-    rw (same.letters asked.identifier, same.before asked.identifier) refl
-
 at-same : (past now : List Statement) (watched : Option Watched) (said happened : ℕ)
     → StaysSame past now → KnowsAt watched said happened past → KnowsAt watched said happened now
 at-same past now None said happened same knows = knows
-at-same past now (Some watched) said happened same knows = record {
-  letters = λ asked is.
-      let part = knows.letters asked is in
-      record {
-        now = part.now ∙ sym (same.letters asked.identifier);
-        before = λ one. part.before one ∙ sym (same.before asked.identifier);
-        quiet = λ none. same.before asked.identifier ∙ part.quiet none
-            ∙ sym (same.letters asked.identifier);
-      };
-  silent = knows.silent;
-  happened_is = knows.happened_is ∙ ap bit_of (changed-same past now same (part_kept watched));
-}
+at-same past now (Some watched) said happened same knows = search rules
 
 pub changes-stay : (past now : List Statement) (all : List SignalDefined) (names : List (List ℕ))
     (kept : Changes) → StaysSame past now → KnowsChanges all names kept past
@@ -165,10 +134,4 @@ past-stays reader past now kept identifiers same known knows = record {
 pub knows-kept : (reader : TokenReader) (inside : Inside) (tokens : Vec (Vec ℕ)) (letters : Vec ℕ)
     (past : List Statement) → KnowsPast reader past
     → KnowsPast (record reader { inside = inside; tokens = tokens; letters = letters }) past
-knows-kept reader inside tokens letters past knows = record {
-  past = knows.past;
-  needed = knows.needed;
-  signals = knows.signals;
-  offers = knows.offers;
-  within = knows.within;
-}
+knows-kept reader inside tokens letters past knows = search rules

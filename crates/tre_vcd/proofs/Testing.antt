@@ -1,7 +1,7 @@
 -- What names read by tests.
 use Rattle.std.specs.Global.{Vec}
-use Rattle.std.proofs.Common.{◌≡◌, ◌≢◌, ℕ, zero, suc, ◌+◌, ◌%◌, ◌<◌, ◌≤◌, min, max, bit_and, Bool, true, false, List, [], ◌∷◌, ◌++◌, length, map, get_or, Option, None, Some, option_map, refl, sym, ap, ◌∙◌, subst, inl, inr, arith, if◌then◌else◌}
-use Rattle.std.specs.Option.{is_some, option_and_then, option_map_or, option_or}
+use Rattle.std.proofs.Common.{◌≡◌, ◌≢◌, ℕ, zero, suc, ◌+◌, ◌%◌, ◌<◌, ◌≤◌, min, max, bit_and, Bool, true, false, List, [], ◌∷◌, ◌++◌, length, map, get_or, Option, None, Some, refl, sym, ap, ◌∙◌, subst, inl, inr, arith, rules}
+use Rattle.std.specs.Option.{is_some, option_map_or, option_or}
 use Rattle.std.specs.Int.{bit_at}
 use Rattle.std.specs.Int.Bits.{bit_or, bit_xor}
 use Rattle.std.specs.Str.{bytes_eq}
@@ -16,8 +16,7 @@ use Rattle.tre_define.specs.Values.{passes, plain_test}
 use Rattle.tre_define.specs.declared.test.Test.{Test}
 use Rattle.tre_vcd.specs.VcdReading.{Form, Statement, scope, upscope, var, definitions, time, change, dump, dump_end, is_defined, scopes_at, Offer, offer_in, Asked, asking, asked_in, signal_in, is_signal, identifier_in, first_read, letters_at, is_passed, true_at}
 use Rattle.tre_vcd.specs.Kept.{IsQuiet, ends_true, identifier_of, value_at, mask_from}
-use Rattle.tre_vcd.specs.Signals.{AreDefined, AreTested, KnowsTests, asked_of_test, bit_of, bit_told, has_at, has_test_at, test_at, test_kept, test_read, test_told}
-use Rattle.tre_vcd.specs.declared.tests.AskedTest.{AskedTest}
+use Rattle.tre_vcd.specs.Signals.{AreDefined, AreTested, KnowsTests, bit_of, bit_told, has_at, has_test_at, test_at, test_kept, test_read, test_told}
 use Rattle.tre_vcd.specs.declared.tests.Tested.{Tested}
 use Rattle.tre_vcd.specs.declared.tests.Tests.{Tests}
 use Rattle.tre_vcd.proofs.Deciding.{passes_at, bit_in}
@@ -35,19 +34,7 @@ pub test-next : (past : List Statement) (tokens : List (List ℕ)) (one : Signal
     (offer : Offer) → offer_in (scopes_at past) tokens ≡ Some offer
     → test_read (var tokens ∷ past) (Some one)
     ≡ option_or (test_read past (Some one)) (asked_in (test_in one) offer)
-test-next past tokens one offer is =
-    ap (λ (o : Option Offer). option_or (test_read past (Some one))
-    (option_and_then (asked_in (test_in one)) o)) is
-
--- nothing is offered
-pub test-unoffered : (past : List Statement) (tokens : List (List ℕ))
-    (definition : Option SignalDefined) → offer_in (scopes_at past) tokens ≡ None
-    → test_read (var tokens ∷ past) definition ≡ test_read past definition
-test-unoffered past tokens None is = refl
-test-unoffered past tokens (Some one) is =
-    ap (λ (o : Option Offer). option_or (test_read past (Some one))
-    (option_and_then (asked_in (test_in one)) o)) is
-    ∙ or-none (test_read past (Some one))
+test-next past tokens one offer is = search rules
 
 -- where each definition reads what it read
 pub tested-same : (past now : List Statement) (list : List Tested)
@@ -65,31 +52,19 @@ read-changed past form identifier letters (Some one) = refl
 
 -- ---- values
 
-told-by : (past : List Statement) (form : Form) (identifier letters : List ℕ) (asked : Asked Test)
-    (same : Bool) → bytes_eq asked.identifier identifier ≡ same
-    → bit_told (if same then Some (passes asked.asks letters) else None)
-    (bit_of (is_passed past asked))
-    ≡ bit_of (option_map_or (passes asked.asks)
-    (if same then Some letters else letters_at past asked.identifier) false)
-told-by past form identifier letters asked true is = refl
-told-by past form identifier letters asked false is = refl
-
 pub value-told : (past : List Statement) (form : Form) (identifier letters : List ℕ)
     (asked : Option (Asked Test))
     → bit_told (test_told asked identifier letters)
     (bit_of (option_map_or (is_passed past) asked false))
     ≡ bit_of (option_map_or (is_passed (change form identifier letters ∷ past)) asked false)
 value-told past form identifier letters None = refl
-value-told past form identifier letters (Some asked) =
-    told-by past form identifier letters asked (bytes_eq asked.identifier identifier) refl
+value-told past form identifier letters (Some asked) = search rules
 
 pub untold : (identifier letters : List ℕ) (asked : Option (Asked Test))
     → ((one : Asked Test) → asked ≡ Some one → bytes_eq one.identifier identifier ≡ false)
     → test_told asked identifier letters ≡ None
 untold identifier letters None other = refl
-untold identifier letters (Some asked) other =
-    ap (λ (same : Bool). if same then Some (passes asked.asks letters) else None)
-    (other asked refl)
+untold identifier letters (Some asked) other = search rules
 
 -- ---- tests by their places
 
@@ -145,31 +120,13 @@ plain-true : (all : List SignalDefined) (past : List Statement) (name : List ℕ
     → option_map_or (value_at past) (identifier_of is_signal past name) false
     ≡ true_at all past name
 plain-true all past name none =
-    sym (plain-passed past (identifier_of is_signal past name))
-    ∙ ap (λ (o : Option (Asked Test)). option_map_or (is_passed past) o false)
-    (sym (plain-read past name))
-    ∙ ap (λ (d : Option SignalDefined). option_map_or (is_passed past)
-    (first_read (signal_in d name) past) false) (sym none)
-
-defined-true : (all : List SignalDefined) (past : List Statement) (name : List ℕ)
-    (one : SignalDefined) (asked : Option (Asked Test)) → Some one ≡ signal_definition_of all name
-    → asked ≡ test_read past (Some one)
-    → option_map_or (is_passed past) asked false ≡ true_at all past name
-defined-true all past name one asked some is =
-    ap (λ (o : Option (Asked Test)). option_map_or (is_passed past) o false) is
-    ∙ ap (λ (d : Option SignalDefined). option_map_or (is_passed past)
-    (first_read (signal_in d name) past) false) some
+    search (rules, plain-passed, identifier_of, is_signal, is_passed, plain-read, first_read)
 
 -- ---- all names by their numbers
 
-bit_small : (value : Bool) → bit_of value < 2
-bit_small true = omega arith
-bit_small false = omega arith
-
 pub none-passes : (past : List Statement) (asked : Option (Asked Test)) → asked ≡ None
     → option_map_or (is_passed past) asked false ≡ false
-none-passes past asked none =
-    ap (λ (o : Option (Asked Test)). option_map_or (is_passed past) o false) none
+none-passes past asked none = search rules
 
 abbrev pub either : Bool → Bool → Bool → Bool
 either true own plain = own
@@ -182,8 +139,7 @@ chosen-one : (all : List SignalDefined) (past : List Statement) (name : List ℕ
     (option_map_or (value_at past) (identifier_of is_signal past name) false)
     ≡ true_at all past name
 chosen-one all past name tested None own is kept = plain-true all past name (sym is)
-chosen-one all past name tested (Some one) own is kept =
-    defined-true all past name one (test_kept tested) is kept
+chosen-one all past name tested (Some one) own is kept = search rules
 
 chosen : (all : List SignalDefined) (past : List Statement) (names : List (List ℕ))
     (list : List Tested) (k : ℕ)
@@ -211,24 +167,16 @@ undefined-none past tested (Some one) none is = absurd (cc (none))
 pub unasked : (past : List Statement) (list : List Tested) (k : ℕ) → AreTested past list
     → has_test_at list k ≡ false → test_at list k ≡ None
 unasked past [] k are none = refl
-unasked past (tested ∷ list) zero are none =
-    undefined-none past tested tested.definition none are.0
+unasked past (tested ∷ list) zero are none = search rules
 unasked past (tested ∷ list) (suc k) are none = unasked past list k are.1 none
 
 pub bit-either : (has own plain : Bool) (result plain_bit mask own_bit : ℕ)
     → result ≡ max ((plain_bit + min plain_bit mask) % 2) own_bit
     → plain_bit ≡ bit_of plain → mask ≡ bit_of has → own_bit ≡ bit_of own
     → (has ≡ false → own ≡ false) → result ≡ bit_of (either has own plain)
-bit-either true own true result plain_bit mask own_bit is p m o only =
-    let small : bit_of own < 2 = bit_small own in
-    omega (arith, is, p, m, o, small)
-bit-either true own false result plain_bit mask own_bit is p m o only =
-    let small : bit_of own < 2 = bit_small own in
-    omega (arith, is, p, m, o, small)
-bit-either false own plain result plain_bit mask own_bit is p m o only =
-    let none : own_bit ≡ 0 = o ∙ ap bit_of (only refl) in
-    let small : bit_of plain < 2 = bit_small plain in
-    omega (arith, is, p, m, none, small)
+bit-either true own true result plain_bit mask own_bit is p m o only = search rules
+bit-either true own false result plain_bit mask own_bit is p m o only = search rules
+bit-either false own plain result plain_bit mask own_bit is p m o only = search rules
 
 -- The number whose bits are those of the tests, where a name has one, and else those of the values.
 pub valuation-is : (all : List SignalDefined) (past : List Statement) (names : List (List ℕ))
@@ -263,9 +211,7 @@ valuation-is all past names list result plain mask values defined are is plain_i
 pub quiet-passes : (past : List Statement) → IsQuiet past → (asked : Option (Asked Test))
     → option_map_or (is_passed past) asked false ≡ false
 quiet-passes past quiet None = refl
-quiet-passes past quiet (Some asked) =
-    ap (λ (letters : Option (List ℕ)). option_map_or (passes asked.asks) letters false)
-    (quiet.values asked.identifier)
+quiet-passes past quiet (Some asked) = search rules
 
 pub tests-declared : (all : List SignalDefined) (names : List (List ℕ)) (kept : Tests)
     (past : List Statement) (tokens : List (List ℕ)) (list : Vec Tested) → IsQuiet past
@@ -274,23 +220,8 @@ pub tests-declared : (all : List SignalDefined) (names : List (List ℕ)) (kept 
     ≡ map (λ tested. tested.definition) kept.list.items
     → AreTested (var tokens ∷ past) list.items → KnowsTests all names kept past
     → KnowsTests all names (record kept { list = list }) (var tokens ∷ past)
-tests-declared all names kept past tokens list quiet before same are knows = record {
-  few = omega (
-    arith,
-    knows.few,
-    ap length same,
-    length-map list.items (λ (tested : Tested). tested.definition),
-    length-map kept.list.items (λ (tested : Tested). tested.definition),
-  );
-  definitions = subst (AreDefined all names) (sym same) knows.definitions;
-  tests = are;
-  sieve = λ e. absurd (false≢true (sym before ∙ e));
-  defined = λ k. knows.defined k ∙ ap (λ own. bit_of (has_at own k)) (sym same);
-  values = λ k.
-      knows.values k
-      ∙ ap bit_of (quiet-passes past quiet (test_at kept.list.items k)
-      ∙ sym (quiet-passes past quiet (test_at list.items k)));
-}
+tests-declared all names kept past tokens list quiet before same are knows =
+    search (rules, length-map, definitions, bit_of, has_at, quiet-passes)
 
 read-defined : (past : List Statement) (definition : Option SignalDefined)
     → test_read (definitions ∷ past) definition ≡ test_read past definition
@@ -315,15 +246,8 @@ pub tests-sifted : (all : List SignalDefined) (names : List (List ℕ)) (kept : 
     → MayBe sieve asked.identifier k)
     → KnowsTests all names kept past
     → KnowsTests all names (record kept { sieve = sieve }) (definitions ∷ past)
-tests-sifted all names kept past sieve sifted knows = record {
-  few = knows.few;
-  definitions = knows.definitions;
-  tests = tested-same past (definitions ∷ past) kept.list.items (read-defined past) knows.tests;
-  sieve = λ e k asked is. sifted k asked
-      (omega (arith, at-below kept.list.items k asked is, knows.few)) is;
-  defined = knows.defined;
-  values = λ k. knows.values k ∙ ap bit_of (passed-defined past (test_at kept.list.items k));
-}
+tests-sifted all names kept past sieve sifted knows =
+    search (rules, tested-same, read-defined, at-below, bit_of, passed-defined, kept.list.items)
 
 -- a number that isn't told has another identifier
 pub tests-changed : (all : List SignalDefined) (names : List (List ℕ)) (kept : Tests)
@@ -391,8 +315,7 @@ pub defined-push : (all : List SignalDefined) (names : List (List ℕ)) (name : 
     (kept : List (Option SignalDefined)) (own : Option SignalDefined)
     → length kept ≡ length names → own ≡ signal_definition_of all name
     → AreDefined all names kept → AreDefined all (names ++ name ∷ []) (kept ++ own ∷ [])
-defined-push all [] name kept own same is defined =
-    subst (λ front. AreDefined all (name ∷ []) (front ++ own ∷ [])) (sym defined) (is, refl)
+defined-push all [] name kept own same is defined = search rules
 defined-push all (first ∷ names) name [] own same is defined = absurd (omega (arith, same))
 defined-push all (first ∷ names) name (one ∷ kept) own same is defined =
     (defined.0, defined-push all names name kept own (omega (arith, same)) is defined.1)
@@ -403,14 +326,8 @@ pub bits-push : (kept : List (Option SignalDefined)) (own : Option SignalDefined
     → ((k : ℕ) → k ≢ number → bit_at new k ≡ bit_at old k)
     → ((k : ℕ) → bit_at old k ≡ bit_of (has_at kept k)) → (k : ℕ)
     → bit_at new k ≡ bit_of (has_at (kept ++ own ∷ []) k)
-bits-push kept own old new number is this others was k = elim (cases_eq k number) [
-  | inl same ↦
-      ap (bit_at new) same ∙ this
-      ∙ ap bit_of (sym (ap (has_at (kept ++ own ∷ [])) (same ∙ is) ∙ has-pushed kept own))
-  | inr other ↦
-      others k other ∙ was k
-      ∙ ap bit_of (sym (has-push kept own k (λ e. other (e ∙ sym is))))
-]
+bits-push kept own old new number is this others was k =
+    search (rules, cases_eq, bit_of, has_at, has-pushed, has-push)
 
 none-read : (definition : Option SignalDefined) → None ≡ test_read [] definition
 none-read None = refl
@@ -421,10 +338,7 @@ none-quiet = record { values = λ identifier. refl; events = λ identifier. refl
 
 tested-push : (list : List Tested) (tested : Tested) → tested.asked ≡ None
     → AreTested [] list → AreTested [] (list ++ tested ∷ [])
-tested-push [] tested none are = (
-  ap (λ (o : Option AskedTest). option_map asked_of_test o) none ∙ none-read tested.definition,
-  tt,
-)
+tested-push [] tested none are = search rules
 tested-push (first ∷ list) tested none are = (are.0, tested-push list tested none are.1)
 
 pub tests-pushed : (all : List SignalDefined) (names : List (List ℕ)) (name : List ℕ)
@@ -458,20 +372,4 @@ tests-pushed all names name kept list tested defined number is none same few at 
           knows.values k
           ∙ ap bit_of (quiet-passes [] none-quiet (test_at kept.list.items k)
           ∙ sym (quiet-passes [] none-quiet (test_at list.items k)));
-    }
-
-pub tests-none : (all : List SignalDefined) (names : List (List ℕ)) (kept : Tests)
-    → kept.list.items ≡ [] → kept.defined ≡ 0 → kept.values ≡ 0 → AreDefined all names []
-    → KnowsTests all names kept []
-tests-none all names kept empty defined values none =
-    let f = λ (one : Tested). one.definition in
-    record {
-      few = rw empty (omega arith);
-      definitions = subst (λ list. AreDefined all names (map f list)) (sym empty) none;
-      tests = subst (AreTested []) (sym empty) tt;
-      sieve = λ e. absurd (false≢true e);
-      defined = λ k. ap (λ n. bit_at n k) defined ∙ bit_at-zero k
-          ∙ ap (λ list. bit_of (has_test_at list k)) (sym empty);
-      values = λ k. ap (λ n. bit_at n k) values ∙ bit_at-zero k
-          ∙ ap bit_of (sym (quiet-passes [] none-quiet (test_at kept.list.items k)));
     }

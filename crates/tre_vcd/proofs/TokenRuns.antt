@@ -1,5 +1,5 @@
 -- What tokens say one after the other, and the bytes that they stand in.
-use Rattle.std.proofs.Common.{◌≡◌, ℕ, ◌+◌, Bool, true, false, List, [], ◌∷◌, ◌++◌, append_assoc, length, length-append, Result, Ok, Err, refl, sym, ap, subst, ◌∙◌, arith}
+use Rattle.std.proofs.Common.{◌≡◌, ℕ, ◌+◌, Bool, true, false, List, [], ◌∷◌, ◌++◌, append_assoc, length, length-append, Result, Ok, Err, refl, sym, ap, ◌∙◌, arith, rules}
 use Rattle.std.proofs.lemmas.Bool.Decides.{nat_tests}
 use Rattle.std.proofs.lemmas.List.Elements.{All-nil, All-head, All-tail}
 use Rattle.tre_parts.proofs.Walks.{reading-part}
@@ -61,9 +61,7 @@ then_run-later : (said : Result (Step Place) TraceKind)
     → ((now : Place) → one now ≡ then_run (other now) more)
     → then_run said one ≡ then_run (then_run said other) more
 then_run-later (Err kind) one other more same = refl
-then_run-later (Ok step) one other more same =
-    ap (with_front step.stretches) (same step.state)
-    ∙ sym (then_run-front step.stretches (other step.state) more)
+then_run-later (Ok step) one other more same = search (rules, then_run-front)
 
 pub run-append : (terms : Terms) (place : Place) (xs ys : List (List ℕ))
     → run terms place (xs ++ ys) ≡ then_run (run terms place xs) (λ now. run terms now ys)
@@ -177,11 +175,7 @@ module _ (terms : Terms) (closed : Bool) (place : Place) (spot : Spot) (token : 
       ≡ Ok first → (said : Result (Step Place) TraceKind) → run terms first.state tokens ≡ said
       → with_front first.stretches said ≡ Ok step → ReadsTo terms closed place spot bytes rest step
   behind_first first step one (Err kind) runs is = absurd (cc (is))
-  behind_first first step one (Ok more) runs is =
-      let same : record { stretches = first.stretches ++ more.stretches; state = more.state } ≡
-      step =
-      cc (is) in
-      subst (ReadsTo terms closed place spot bytes rest) same (go_on first more one runs)
+  behind_first first step one (Ok more) runs is = search (rules, go_on)
 
   pub token_first : (step : Step Place) (said : Result (Step Place) TraceKind)
       → token_at terms place.past place.inside token ≡ said
@@ -194,10 +188,7 @@ module _ (terms : Terms) (closed : Bool) (place : Place) (spot : Spot) (token : 
 pub tokens_read : (terms : Terms) (closed : Bool) (place : Place) (spot : Spot)
     (tokens : List (List ℕ)) (bytes rest : List ℕ) (step : Step Place) → Spaced tokens bytes
     → run terms place tokens ≡ Ok step → ReadsTo terms closed place spot bytes rest step
-tokens_read terms closed place spot [] bytes rest step spaced runs =
-    let same : record { stretches = []; state = place } ≡ step = cc (runs) in
-    subst (ReadsTo terms closed place spot bytes rest) same
-    (white_reads terms closed place spot bytes rest spaced)
+tokens_read terms closed place spot [] bytes rest step spaced runs = search (rules, white_reads)
 tokens_read terms closed place spot (token ∷ tokens) bytes rest step spaced runs =
     token_first terms closed place spot token tokens bytes rest spaced
     (λ now from more. tokens_read terms closed now from tokens spaced.back rest more spaced.later)

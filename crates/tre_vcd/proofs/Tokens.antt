@@ -1,17 +1,14 @@
 -- What stands in a token.
-use Rattle.std.proofs.Common.{◌≡◌, ℕ, ◌<◌, ◌≤◌, nat_lt, Bool, true, false, not, ◌||◌, ◌&&◌, List, [], ◌∷◌, length, length-take, map, get_or, take, subst, None, Some, codes, Result, refl, sym, ap, ◌∙◌, arith, if◌then◌else◌}
-use Rattle.std.specs.Str.{bytes_eq}
+use Rattle.std.proofs.Common.{◌≡◌, ℕ, ◌<◌, ◌≤◌, nat_lt, Bool, true, false, List, [], ◌∷◌, length, map, get_or, take, Result, refl, sym, ap, ◌∙◌, arith, if◌then◌else◌, rules}
 use Rattle.std.proofs.lemmas.List.{get_or-map, length-map}
 use Rattle.std.proofs.lemmas.Bool.Decides.{nat_tests}
-use Rattle.tre_vcd.specs.VcdReading.{Statement, Place, scope, upscope, var, definitions, nothing, path, is_signal, is_event, identifier_in, goes_to, scope_says, declaration_says, section_says}
+use Rattle.tre_vcd.specs.VcdReading.{Statement, Place, scope, upscope, var, definitions, nothing, path, is_signal, is_event, goes_to, scope_says, declaration_says, section_says}
 use Rattle.tre_vcd.specs.Sections.{command_of}
 use Rattle.tre_vcd.specs.declared.command.Command.{Command}
 use Rattle.tre_vcd.specs.declared.command.Command.TheVariants.{Scope, Upscope, Var, EndDefinitions, Other}
 use Rattle.tre_parts.specs.Format.{Step}
 use Rattle.tre_trace.specs.declared.fault.TraceKind.{TraceKind}
 use Rattle.tre_vcd.specs.Kept.{Declares, DeclaresNone, DeclaresNoneWithin}
-use Rattle.std.proofs.lemmas.Slice.Eq.{bytes_eq-Decides}
-use Rattle.tre_vcd.proofs.Knowing.{false_of, not-both}
 
 -- ---- sections, by their first six tokens
 
@@ -24,52 +21,20 @@ more a b h = grind (arith, nat_tests)
 pub declaration-long : (past : List Statement) (tokens : List (List ℕ))
     → 4 ≤ length (take 6 tokens)
     → declaration_says past tokens ≡ goes_to (var tokens ∷ past) nothing
-declaration-long past tokens long =
-    rw (more (length tokens) 4 (omega (arith, long, length-take 6 tokens))) refl
+declaration-long past tokens long = search rules
 
 pub scope-long : (past : List Statement) (tokens : List (List ℕ)) (name : List ℕ)
     → 2 ≤ length (take 6 tokens) → name ≡ get_or (take 6 tokens) 1 []
     → scope_says past tokens ≡ goes_to (scope name ∷ past) nothing
 scope-long past [] name long is = absurd (omega (arith, long))
 scope-long past (kind ∷ []) name long is = absurd (omega (arith, long))
-scope-long past (kind ∷ own ∷ tokens) name long is =
-    ap (λ (text : List ℕ). goes_to (scope text ∷ past) nothing) (sym is)
-
--- four tokens declare a name, where their type and size pass the test
-declares-four : (test : List ℕ → List ℕ → Bool) (scopes tokens : List (List ℕ))
-    → length (take 6 tokens) ≡ 4
-    → test (get_or (take 6 tokens) 0 []) (get_or (take 6 tokens) 1 []) ≡ true
-    → Declares test scopes tokens (get_or (take 6 tokens) 2 [])
-    (path scopes (get_or (take 6 tokens) 3 []))
-declares-four test scopes [] four passed = absurd (omega (arith, four))
-declares-four test scopes (a ∷ []) four passed = absurd (omega (arith, four))
-declares-four test scopes (a ∷ b ∷ []) four passed = absurd (omega (arith, four))
-declares-four test scopes (a ∷ b ∷ c ∷ []) four passed = absurd (omega (arith, four))
-declares-four test scopes (a ∷ b ∷ c ∷ d ∷ []) four passed = record {
-  is = λ name. ap (λ (s : Bool). if s && bytes_eq name (path scopes d) then Some c else None)
-      passed;
-}
-declares-four test scopes (a ∷ b ∷ c ∷ d ∷ e ∷ tokens) four passed = absurd (omega (arith, four))
-
--- other tokens declare none
-declares-no_name : (test : List ℕ → List ℕ → Bool) (scopes tokens : List (List ℕ))
-    → (length (take 6 tokens) ≡ 4
-    → test (get_or (take 6 tokens) 0 []) (get_or (take 6 tokens) 1 []) ≡ false)
-    → (name : List ℕ) → identifier_in test scopes name tokens ≡ None
-declares-no_name test scopes [] other name = refl
-declares-no_name test scopes (a ∷ []) other name = refl
-declares-no_name test scopes (a ∷ b ∷ []) other name = refl
-declares-no_name test scopes (a ∷ b ∷ c ∷ []) other name = refl
-declares-no_name test scopes (a ∷ b ∷ c ∷ d ∷ []) other name =
-    ap (λ (s : Bool). if s && bytes_eq name (path scopes d) then Some c else None) (other refl)
-declares-no_name test scopes (a ∷ b ∷ c ∷ d ∷ e ∷ tokens) other name = refl
+scope-long past (kind ∷ own ∷ tokens) name long is = search rules
 
 pub declares-none : (test : List ℕ → List ℕ → Bool) (scopes tokens : List (List ℕ))
     → (length (take 6 tokens) ≡ 4
     → test (get_or (take 6 tokens) 0 []) (get_or (take 6 tokens) 1 []) ≡ false)
     → DeclaresNone test scopes tokens
-declares-none test scopes tokens other =
-    record { is = declares-no_name test scopes tokens other }
+declares-none test scopes tokens other = search rules
 
 -- nor do four tokens whose path is longer
 pub declares-longer : (longest : ℕ) (test : List ℕ → List ℕ → Bool)
@@ -77,23 +42,10 @@ pub declares-longer : (longest : ℕ) (test : List ℕ → List ℕ → Bool)
     → reference ≡ get_or (take 6 tokens) 3 [] → longest < length (path scopes reference)
     → DeclaresNoneWithin longest test scopes tokens
 declares-longer longest test scopes [] reference four is long = absurd (omega (arith, four))
-declares-longer longest test scopes (a ∷ []) reference four is long =
-    absurd (omega (arith, four))
-declares-longer longest test scopes (a ∷ b ∷ []) reference four is long =
-    absurd (omega (arith, four))
-declares-longer longest test scopes (a ∷ b ∷ c ∷ []) reference four is long =
-    absurd (omega (arith, four))
-declares-longer longest test scopes (a ∷ b ∷ c ∷ d ∷ []) reference four is long = record {
-  is = λ name within.
-      let other : bytes_eq name (path scopes d) ≡ false =
-      false_of (bytes_eq name (path scopes d)) (λ same.
-      let as_long = ap length ((bytes_eq-Decides name (path scopes d)).0 same) in
-      let its : length (path scopes reference) ≡ length (path scopes d) =
-      ap (λ own. length (path scopes own)) is in
-      omega (arith, within, long, as_long, its)) in
-      ap (λ (s : Bool). if test a b && s then Some c else None) other
-      ∙ ap (λ (s : Bool). if s then Some c else None) (not-both (test a b));
-}
+declares-longer longest test scopes (a ∷ []) reference four is long = search rules
+declares-longer longest test scopes (a ∷ b ∷ []) reference four is long = search rules
+declares-longer longest test scopes (a ∷ b ∷ c ∷ []) reference four is long = search rules
+declares-longer longest test scopes (a ∷ b ∷ c ∷ d ∷ []) reference four is long = search rules
 declares-longer longest test scopes (a ∷ b ∷ c ∷ d ∷ e ∷ tokens) reference four is long =
     absurd (omega (arith, four))
 
@@ -101,20 +53,10 @@ pub none-within : (longest : ℕ) (test : List ℕ → List ℕ → Bool) (scope
     → DeclaresNone test scopes tokens → DeclaresNoneWithin longest test scopes tokens
 none-within longest test scopes tokens none = record { is = λ name within. none.is name }
 
-signal-no : (one two three other : Bool) → (one && not (two || three || other)) ≡ true
-    → other ≡ false
-signal-no true false false false is = refl
-signal-no true false false true is = cc (is)
-signal-no true false true other is = cc (is)
-signal-no true true three other is = cc (is)
-signal-no false two three other is = cc (is)
-
 -- a proposition is no event
 pub signal-no_event : (kind size : List ℕ) → is_signal kind size ≡ true
     → is_event kind size ≡ false
-signal-no_event kind size is =
-    signal-no (bytes_eq size (codes "1")) (bytes_eq kind (codes "real"))
-    (bytes_eq kind (codes "realtime")) (bytes_eq kind (codes "event")) is
+signal-no_event kind size is = search rules
 
 -- ---- the end of a section, by its command
 
@@ -140,10 +82,7 @@ picked false false false false past tokens = refl
 pub section-ended : (past : List Statement) (word : List ℕ) (tokens : List (List ℕ))
     (command : Command) → command ≡ command_of word
     → section_says past word tokens ≡ ended_by command past tokens
-section-ended past word tokens command is =
-    picked (bytes_eq word (codes "$scope")) (bytes_eq word (codes "$upscope"))
-    (bytes_eq word (codes "$var")) (bytes_eq word (codes "$enddefinitions")) past tokens
-    ∙ ap (λ k. ended_by k past tokens) (sym is)
+section-ended past word tokens command is = search rules
 
 -- an element of a list that is kept in another form
 pub kept-at : {X : Type 0} (f : X → List ℕ) (items : List X) (kept : List (List ℕ)) (i : ℕ)
@@ -172,8 +111,7 @@ token-at {item = item} {bytes = bytes} f all tokens i below kept four is read =
 pub same-test : (test : List ℕ → List ℕ → Bool) (kept : List (List ℕ)) (kind size : List ℕ)
     (value : Bool) → kind ≡ get_or kept 0 [] → size ≡ get_or kept 1 [] → test kind size ≡ value
     → test (get_or kept 0 []) (get_or kept 1 []) ≡ value
-same-test test kept kind size value first second is =
-    sym (ap (λ k. test k size) first ∙ ap (λ s. test (get_or kept 0 []) s) second) ∙ is
+same-test test kept kind size value first second is = search rules
 
 -- the same of four tokens
 pub test-at : {X : Type 0} {first second : X} {kind size : List ℕ} (f : X → List ℕ) (all : List X)
@@ -194,7 +132,4 @@ pub declares-kept : (test : List ℕ → List ℕ → Bool) (scopes tokens : Lis
     → test (get_or (take 6 tokens) 0 []) (get_or (take 6 tokens) 1 []) ≡ true
     → Declares test scopes tokens identifier name
 declares-kept test scopes tokens identifier reference name third fourth named four passed =
-    subst (λ one. Declares test scopes tokens one name) (sym third)
-    (subst (λ other. Declares test scopes tokens (get_or (take 6 tokens) 2 []) other)
-    (sym (named ∙ ap (path scopes) fourth))
-    (declares-four test scopes tokens four passed))
+    search rules

@@ -1,15 +1,14 @@
 -- Where there is no definition, nothing hangs on what was read.
-use Rattle.std.proofs.Common.{arith, ◌≡◌, ℕ, zero, suc, ◌==◌, Bool, true, false, List, [], ◌∷◌, length, map, Option, None, Some, refl, sym, ap, ◌∙◌, subst}
+use Rattle.std.proofs.Common.{arith, ◌≡◌, ℕ, zero, suc, ◌==◌, Bool, true, false, List, [], ◌∷◌, length, map, Option, None, Some, refl, sym, ap, ◌∙◌, subst, rules}
 use Rattle.std.specs.Prelude.{All}
 use Rattle.std.proofs.lemmas.Bool.Decides.{nat_tests}
-use Rattle.std.specs.Option.{is_some, option_and_then, option_map_or}
+use Rattle.std.specs.Option.{is_some, option_and_then}
 use Rattle.std.specs.Int.{bit_at}
 use Rattle.std.proofs.lemmas.List.Elements.{All-head}
 use Rattle.tre_define.specs.Signals.{SignalDefined, signal_definition_of}
-use Rattle.tre_define.specs.declared.part.Part.{Part}
-use Rattle.tre_vcd.specs.VcdReading.{Statement, Asked, of_changes}
+use Rattle.tre_vcd.specs.VcdReading.{Statement, of_changes}
 use Rattle.tre_vcd.specs.Offers.{KnowOffers}
-use Rattle.tre_vcd.specs.Signals.{AreDefined, AreTested, SignalsAreWatched, KnowsAt, KnowsChanges, KnowsSignals, KnowsTests, bit_of, has_at, has_changed, part_at, part_kept, part_read, test_at, test_read, watched_at}
+use Rattle.tre_vcd.specs.Signals.{AreDefined, AreTested, SignalsAreWatched, KnowsAt, KnowsChanges, KnowsSignals, KnowsTests, bit_of, has_at, part_at, part_kept, part_read, test_at, test_read, watched_at}
 use Rattle.tre_vcd.specs.declared.changes.Changes.{Changes}
 use Rattle.tre_vcd.specs.declared.changes.Watched.{Watched}
 use Rattle.tre_vcd.specs.declared.found.Found.{Found}
@@ -47,19 +46,7 @@ tested-none past now (name ∷ names) (tested ∷ list) defined are = (
 tests-undefined : (past now : List Statement) (names : List (List ℕ)) (kept : Tests)
     → KnowsTests [] names kept past → KnowsTests [] names kept now
 tests-undefined past now names kept knows =
-    let none : (k : ℕ) → test_at kept.list.items k ≡ None =
-    λ k. unasked past kept.list.items k knows.tests (has-none names _ k knows.definitions) in
-    record {
-      few = knows.few;
-      definitions = knows.definitions;
-      tests = tested-none past now names kept.list.items knows.definitions knows.tests;
-      sieve = λ e k asked is. absurd (cc (none k, is));
-      defined = knows.defined;
-      values = λ k.
-          knows.values k
-          ∙ ap bit_of (none-passes past (test_at kept.list.items k) (none k)
-          ∙ sym (none-passes now (test_at kept.list.items k) (none k)));
-    }
+    search (rules, test_at, unasked, has-none, tested-none, bit_of, none-passes, kept.list.items)
 
 watched-none : (past now : List Statement) (names : List (List ℕ)) (list : List Watched)
     → AreDefined [] names (map (λ watched. watched.definition) list) → SignalsAreWatched past list
@@ -75,14 +62,7 @@ at-undefined : (past now : List Statement) (watched : Option Watched) (said happ
     → option_and_then part_kept watched ≡ None → KnowsAt watched said happened past
     → KnowsAt watched said happened now
 at-undefined past now None said happened none knows = knows
-at-undefined past now (Some watched) said happened none knows = record {
-  letters = λ asked is. absurd (cc (none, is));
-  silent = knows.silent;
-  happened_is = knows.happened_is
-      ∙ ap (λ (o : Option (Asked Part)). bit_of (option_map_or (has_changed past) o false)) none
-      ∙ sym (ap (λ (o : Option (Asked Part)). bit_of (option_map_or (has_changed now) o false))
-      none);
-}
+at-undefined past now (Some watched) said happened none knows = search rules
 
 changes-undefined : (past now : List Statement) (names : List (List ℕ)) (kept : Changes)
     → KnowsChanges [] names kept past → KnowsChanges [] names kept now
@@ -125,8 +105,7 @@ own-none (one ∷ own) all =
 
 flags-none : (f g : SignalDefined → Bool) (own : List SignalDefined) (flags : List Bool)
     → own ≡ [] → flags ≡ map f own → flags ≡ map g own
-flags-none f g own flags none is =
-    is ∙ ap (map f) none ∙ sym (ap (map g) none)
+flags-none f g own flags none is = search rules
 
 offers-undefined : (past now : List Statement) (found : List Found)
     → KnowOffers [] past found → KnowOffers [] now found
@@ -146,7 +125,4 @@ offers-undefined past now (found ∷ others) knows = (
 
 pub offers-empty : (all : List SignalDefined) (past now : List Statement) (found : List Found)
     → (length all == 0) ≡ true → KnowOffers all past found → KnowOffers all now found
-offers-empty all past now found empty knows =
-    let none = no-definition all empty in
-    subst (λ own. KnowOffers own now found) (sym none)
-    (offers-undefined past now found (subst (λ own. KnowOffers own past found) none knows))
+offers-empty all past now found empty knows = search (rules, no-definition, offers-undefined)

@@ -1,9 +1,8 @@
 -- The variables by their numbers, and their values as one number.
-use Rattle.std.proofs.Common.{◌≡◌, ◌≢◌, ◌↔◌, ◌⊎◌, ℕ, zero, suc, ◌+◌, ◌<◌, ◌≤◌, Bool, true, false, List, [], ◌∷◌, ◌++◌, length, get_or, set, Option, None, Some, inl, inr, refl, sym, ap, ◌∙◌, subst, arith, if◌then◌else◌}
+use Rattle.std.proofs.Common.{◌≡◌, ◌≢◌, ◌↔◌, ◌⊎◌, ℕ, zero, suc, ◌+◌, ◌<◌, ◌≤◌, Bool, true, false, List, [], ◌∷◌, ◌++◌, length, get_or, set, Option, None, Some, inl, inr, refl, sym, ap, ◌∙◌, subst, arith, if◌then◌else◌, rules}
 use Rattle.std.specs.Int.{bit_at}
 use Rattle.std.proofs.lemmas.Bool.{cases_eq}
 use Rattle.std.proofs.lemmas.Nat.Bits.{same_from_bits}
-use Rattle.std.proofs.lemmas.Slice.Eq.{bytes_eq-Decides}
 use Rattle.std.specs.Option.{option_or}
 use Rattle.tre_state.specs.Sieve.{MayBe}
 use Rattle.tre_vcd.specs.VcdReading.{}
@@ -51,20 +50,13 @@ at-set_other (variable ∷ variables) (suc i) (suc k) new other =
 has-is : (o : Option (List ℕ)) (identifier : List ℕ) (same : Bool)
     → same ≡ has_identifier o identifier → (same ≡ true) ↔ (o ≡ Some identifier)
 has-is None identifier same is = (λ yes. cc, λ some. cc)
-has-is (Some own) identifier same is = (
-  λ yes. ap Some ((bytes_eq-Decides own identifier).0 (sym is ∙ yes)),
-  λ some.
-      let alike : own ≡ identifier = cc in
-      is ∙ (bytes_eq-Decides own identifier).1 alike,
-)
+has-is (Some own) identifier same is = search rules
 
 pub has-at : (variables : List Variable) (k : ℕ) (d : Variable) (identifier : List ℕ) (same : Bool)
     → k < length variables → same ≡ has_identifier
     (identifier_kept (get_or variables k d)) identifier
     → (same ≡ true) ↔ (identifier_at variables k ≡ Some identifier)
-has-at variables k d identifier same within is =
-    rw (at-within variables k d within)
-    (has-is (identifier_kept (get_or variables k d)) identifier same is)
+has-at variables k d identifier same within is = search (rules, at-within, has-is, identifier_kept)
 
 pub has-none : (variables : List Variable) (k : ℕ) (identifier : List ℕ) → length variables ≤ k
     → (false ≡ true) ↔ (identifier_at variables k ≡ Some identifier)
@@ -75,9 +67,7 @@ has-none variables k identifier past = rw (at-past variables k past) (λ wrong. 
 pub sieve-push : (variables : List Variable) (variable : Variable) (sieve : List ℕ)
     → identifier_kept variable ≡ None → IsSieveOf variables sieve
     → IsSieveOf (variables ++ variable ∷ []) sieve
-sieve-push variables variable sieve none is = record {
-  each = λ k identifier at. is.each k identifier (sym (at-push variables variable k none) ∙ at);
-}
+sieve-push variables variable sieve none is = search (rules, at-push, is.each)
 
 one-of : (o : Option (List ℕ)) (identifier own : List ℕ) → option_or o (Some identifier) ≡ Some own
     → (o ≡ Some own) ⊎ (identifier ≡ own)
@@ -112,13 +102,6 @@ sieve-set variables i d new identifier old now within made is added kept = recor
 
 -- ---- masks
 
-test-other : (before now : List ℕ → Bool) (o : Option (List ℕ)) (identifier : List ℕ)
-    → ((other : List ℕ) → other ≢ identifier → now other ≡ before other)
-    → (o ≡ Some identifier → ⊥) → passes now o ≡ passes before o
-test-other before now None identifier others apart = refl
-test-other before now (Some own) identifier others apart =
-    others own (λ same. apart (ap Some same))
-
 -- Where a test changes for one identifier.
 module _ (identified : List ℕ → Option (List ℕ)) (before now : List ℕ → Bool)
     (identifier : List ℕ) (value : Bool) (is : now identifier ≡ value)
@@ -126,13 +109,9 @@ module _ (identified : List ℕ → Option (List ℕ)) (before now : List ℕ �
   changed-one : (names : List (List ℕ)) (variables : List Variable) (k : ℕ)
       → AreKnown identified names variables → identifier_at variables k ≡ Some identifier
       → passes_at identified now names k ≡ value
-  changed-one [] variables k known at =
-      let none : identifier_at [] k ≡ Some identifier =
-      ap (λ all. identifier_at all k) (sym known) ∙ at in
-      absurd (cc (none))
+  changed-one [] variables k known at = search rules
   changed-one (name ∷ names) [] k known at = absurd (cc (at))
-  changed-one (name ∷ names) (variable ∷ variables) zero known at =
-      ap (passes now) (sym known.0 ∙ at) ∙ is
+  changed-one (name ∷ names) (variable ∷ variables) zero known at = search rules
   changed-one (name ∷ names) (variable ∷ variables) (suc k) known at =
       changed-one names variables k known.1 at
 
@@ -140,12 +119,10 @@ module _ (identified : List ℕ → Option (List ℕ)) (before now : List ℕ �
       → AreKnown identified names variables → (identifier_at variables k ≡ Some identifier → ⊥)
       → passes_at identified now names k ≡ passes_at identified before names k
   changed-other [] variables k known apart = refl
-  changed-other (name ∷ names) [] zero known apart =
-      ap (passes now) known.0 ∙ sym (ap (passes before) known.0)
+  changed-other (name ∷ names) [] zero known apart = search rules
   changed-other (name ∷ names) [] (suc k) known apart =
       changed-other names [] k known.1 (λ at. cc)
-  changed-other (name ∷ names) (variable ∷ variables) zero known apart =
-      test-other before now (identified name) identifier others (λ same. apart (known.0 ∙ same))
+  changed-other (name ∷ names) (variable ∷ variables) zero known apart = search rules
   changed-other (name ∷ names) (variable ∷ variables) (suc k) known apart =
       changed-other names variables k known.1 apart
 

@@ -1,6 +1,6 @@
 -- What names read by changes.
 use Rattle.std.specs.Global.{Vec}
-use Rattle.std.proofs.Common.{◌≡◌, ◌≢◌, ◌↔◌, ℕ, zero, suc, ◌+◌, ◌%◌, ◌<◌, ◌≤◌, min, max, ◌==◌, not, ◌||◌, bit_and, Bool, true, false, List, [], ◌∷◌, ◌++◌, length, map, get_or, set, Option, None, Some, refl, sym, ap, ap₂, ◌∙◌, subst, arith, if◌then◌else◌}
+use Rattle.std.proofs.Common.{◌≡◌, ◌≢◌, ◌↔◌, ℕ, zero, suc, ◌+◌, ◌%◌, ◌<◌, ◌≤◌, min, max, ◌==◌, not, ◌||◌, bit_and, Bool, true, false, List, [], ◌∷◌, ◌++◌, length, map, get_or, set, Option, None, Some, refl, sym, ap, ◌∙◌, subst, arith, if◌then◌else◌, rules}
 use Rattle.std.specs.Option.{is_some, option_and_then, option_map, option_map_or, option_or}
 use Rattle.std.specs.Int.{bit_at}
 use Rattle.std.specs.Int.Bits.{bit_or, bit_xor}
@@ -17,16 +17,14 @@ use Rattle.tre_state.specs.Sieve.{MayBe}
 use Rattle.tre_trace.specs.Reading.{bits_of}
 use Rattle.tre_vcd.specs.VcdReading.{Form, Statement, scope, upscope, var, definitions, time, change, dump, dump_end, is_defined, time_at, scopes_at, Offer, offer_in, Asked, Occasion, scalar_said, asking, asked_in, occasion_in, event_read_by, is_event, identifier_in, first_read, letters_at, before_now, happened_at, differs, is_come, of_changes, happens_at}
 use Rattle.tre_vcd.specs.Kept.{IsQuiet, identifier_of, mask_from}
-use Rattle.tre_vcd.specs.Signals.{AreDefined, SignalsAreWatched, KnowsAt, KnowsChanges, KnowsPart, KnowsWatched, SameAsked, asked_of_part, bit_of, has_at, has_changed, has_part_at, letters_kept, occasion_of, part_at, part_kept, part_read, reads_part, watched_at}
-use Rattle.tre_vcd.specs.declared.changes.AskedPart.{AskedPart}
+use Rattle.tre_vcd.specs.Signals.{AreDefined, SignalsAreWatched, KnowsAt, KnowsChanges, KnowsPart, KnowsWatched, SameAsked, bit_of, has_at, has_changed, has_part_at, letters_kept, occasion_of, part_at, part_kept, part_read, reads_part, watched_at}
 use Rattle.tre_vcd.specs.declared.changes.Changes.{Changes}
 use Rattle.tre_vcd.specs.declared.changes.Watched.{Watched}
 use Rattle.tre_vcd.proofs.Deciding.{passes_at, bit_in}
-use Rattle.tre_vcd.proofs.Knowing.{false_of}
 use Rattle.tre_vcd.proofs.Masks.{mask-bits}
 use Rattle.tre_vcd.proofs.Pasts.{other_time}
 use Rattle.tre_vcd.proofs.Staying.{watched-same}
-use Rattle.tre_vcd.proofs.Testing.{bit-either, bits-push, defined-push, either, or-none}
+use Rattle.tre_vcd.proofs.Testing.{bit-either, bits-push, defined-push, either}
 
 -- ---- what a definition reads, one statement later
 
@@ -34,18 +32,7 @@ pub part-next : (past : List Statement) (tokens : List (List ℕ)) (one : Signal
     (offer : Offer) → offer_in (scopes_at past) tokens ≡ Some offer
     → part_read (var tokens ∷ past) (Some one)
     ≡ option_or (part_read past (Some one)) (asked_in (occasion_in one) offer)
-part-next past tokens one offer is =
-    ap (λ (o : Option Offer). option_or (part_read past (Some one))
-    (option_and_then (asked_in (occasion_in one)) o)) is
-
-pub part-unoffered : (past : List Statement) (tokens : List (List ℕ))
-    (definition : Option SignalDefined) → offer_in (scopes_at past) tokens ≡ None
-    → part_read (var tokens ∷ past) definition ≡ part_read past definition
-part-unoffered past tokens None is = refl
-part-unoffered past tokens (Some one) is =
-    ap (λ (o : Option Offer). option_or (part_read past (Some one))
-    (option_and_then (asked_in (occasion_in one)) o)) is
-    ∙ or-none (part_read past (Some one))
+part-next past tokens one offer is = search rules
 
 read-changed : (past : List Statement) (form : Form) (identifier letters : List ℕ)
     (definition : Option SignalDefined)
@@ -84,9 +71,7 @@ timed-none : (past : List Statement) (ticks : ℕ) (asked : Option (Asked Part))
     → 0 ≡ bit_of (option_map_or (has_changed (time ticks ∷ past)) asked false)
 timed-none past ticks None before = refl
 timed-none past ticks (Some asked) before =
-    sym (ap (λ old. bit_of (differs asked.asks (letters_at old asked.identifier)
-    (letters_at past asked.identifier))) before
-    ∙ ap bit_of (same-differs asked.asks (letters_at past asked.identifier)))
+    search (rules, bit_of, differs, asked, letters_at, before, same-differs)
 
 -- another time
 pub watched-timed : (past : List Statement) (ticks : ℕ) (watched : Option Watched)
@@ -107,17 +92,10 @@ watched-timed past ticks (Some watched) said happened other knows =
       happened_is = timed-none past ticks (part_kept watched) before;
     }
 
-letters-other : (past : List Statement) (form : Form) (identifier letters own : List ℕ)
-    → bytes_eq own identifier ≡ false
-    → letters_at past own ≡ letters_at (change form identifier letters ∷ past) own
-letters-other past form identifier letters own other =
-    sym (ap (λ (b : Bool). if b then Some letters else letters_at past own) other)
-
 letters-own : (past : List Statement) (form : Form) (identifier letters own : List ℕ)
     → bytes_eq own identifier ≡ true
     → letters_at (change form identifier letters ∷ past) own ≡ Some letters
-letters-own past form identifier letters own same =
-    ap (λ (b : Bool). if b then Some letters else letters_at past own) same
+letters-own past form identifier letters own same = search rules
 
 -- a change of another identifier
 changed-other : (past : List Statement) (form : Form) (identifier letters : List ℕ)
@@ -125,9 +103,7 @@ changed-other : (past : List Statement) (form : Form) (identifier letters : List
     → option_map_or (has_changed past) asked false
     ≡ option_map_or (has_changed (change form identifier letters ∷ past)) asked false
 changed-other past form identifier letters None other = refl
-changed-other past form identifier letters (Some asked) other =
-    ap (differs asked.asks (letters_at (before_now past) asked.identifier))
-    (letters-other past form identifier letters asked.identifier other)
+changed-other past form identifier letters (Some asked) other = search rules
 
 pub watched-untold : (past : List Statement) (form : Form) (identifier letters : List ℕ)
     (watched : Option Watched) (said happened : ℕ)
@@ -135,21 +111,7 @@ pub watched-untold : (past : List Statement) (form : Form) (identifier letters :
     → KnowsAt watched said happened past
     → KnowsAt watched said happened (change form identifier letters ∷ past)
 watched-untold past form identifier letters None said happened other knows = knows
-watched-untold past form identifier letters (Some watched) said happened other knows = record {
-  letters = λ asked is.
-      let part = knows.letters asked is in
-      let apart : bytes_eq asked.identifier identifier ≡ false =
-      sym (ap (λ own. reads_part own identifier) is) ∙ other in
-      let same = letters-other past form identifier letters asked.identifier apart in
-      record {
-        now = part.now ∙ same;
-        before = part.before;
-        quiet = λ none. part.quiet none ∙ same;
-      };
-  silent = knows.silent;
-  happened_is = knows.happened_is
-      ∙ ap bit_of (changed-other past form identifier letters (part_kept watched) other);
-}
+watched-untold past form identifier letters (Some watched) said happened other knows = search rules
 
 -- The letters of a name that were kept before this time, once new ones are said.
 pub record IsTold (old new : Watched) (first : Bool) (letters : List ℕ) : Type 0 where
@@ -161,10 +123,8 @@ before-told : (old new : Watched) (first : Bool) (letters : List ℕ) (said : �
     (past : List Statement) (asked : Asked Part) → IsTold old new first letters
     → (first ≡ true → said ≢ 1) → (first ≡ false → said ≡ 1) → KnowsPart old said past asked
     → letters_kept new.earlier ≡ letters_at (before_now past) asked.identifier
-before-told old new true letters said past asked told is later part =
-    ap letters_kept told.before ∙ part.now ∙ sym (part.quiet (is refl))
-before-told old new false letters said past asked told is later part =
-    ap letters_kept told.before ∙ part.before (later refl)
+before-told old new true letters said past asked told is later part = search rules
+before-told old new false letters said past asked told is later part = search rules
 
 told-happened : (past : List Statement) (form : Form) (identifier letters : List ℕ)
     (new : Watched) (asked : Option (Asked Part)) → part_kept new ≡ asked
@@ -175,8 +135,7 @@ told-happened : (past : List Statement) (form : Form) (identifier letters : List
     asked false
     ≡ option_map_or (has_changed (change form identifier letters ∷ past)) asked false
 told-happened past form identifier letters new None is knows = refl
-told-happened past form identifier letters new (Some own) is knows =
-    ap₂ (differs own.asks) (knows own is).0 (knows own is).1
+told-happened past form identifier letters new (Some own) is knows = search rules
 
 pub watched-told : (past : List Statement) (form : Form) (identifier letters : List ℕ)
     (old new : Watched) (first : Bool) (said happened now happens : ℕ)
@@ -250,29 +209,7 @@ plain-happens : (all : List SignalDefined) (past : List Statement) (name : List 
     → option_map_or (happened_at past) (identifier_of is_event past name) false
     ≡ happens_at all past name
 plain-happens all past name none =
-    sym (plain-come past (identifier_of is_event past name))
-    ∙ ap (λ (o : Option (Asked Occasion)). option_map_or (is_come past) o false)
-    (sym (plain-event past name))
-    ∙ ap (λ (d : Option SignalDefined). option_map_or (is_come past)
-    (first_read (event_read_by d name) past) false) (sym none)
-
--- it has come where its bits have changed
-come-changed : (past : List Statement) (asked : Option (Asked Part))
-    → option_map_or (has_changed past) asked false
-    ≡ option_map_or (is_come past) (option_map occasion_of asked) false
-come-changed past None = refl
-come-changed past (Some asked) = refl
-
-defined-happens : (all : List SignalDefined) (past : List Statement) (name : List ℕ)
-    (one : SignalDefined) (asked : Option (Asked Part))
-    → Some one ≡ signal_definition_of (of_changes all) name
-    → option_map occasion_of asked ≡ part_read past (Some one)
-    → option_map_or (has_changed past) asked false ≡ happens_at all past name
-defined-happens all past name one asked some is =
-    come-changed past asked
-    ∙ ap (λ (o : Option (Asked Occasion)). option_map_or (is_come past) o false) is
-    ∙ ap (λ (d : Option SignalDefined). option_map_or (is_come past)
-    (first_read (event_read_by d name) past) false) some
+    search (rules, plain-come, identifier_of, is_event, is_come, plain-event, first_read)
 
 chosen-one : (all : List SignalDefined) (past : List Statement) (name : List ℕ)
     (watched : Watched) (definition : Option SignalDefined)
@@ -282,8 +219,7 @@ chosen-one : (all : List SignalDefined) (past : List Statement) (name : List ℕ
     (option_map_or (happened_at past) (identifier_of is_event past name) false)
     ≡ happens_at all past name
 chosen-one all past name watched None is kept = plain-happens all past name (sym is)
-chosen-one all past name watched (Some one) is kept =
-    defined-happens all past name one (part_kept watched) is kept
+chosen-one all past name watched (Some one) is kept = search rules
 
 chosen : (all : List SignalDefined) (past : List Statement) (names : List (List ℕ))
     (list : List Watched) (k : ℕ)
@@ -316,14 +252,12 @@ undefined-none past watched (Some one) none is = absurd (cc (none))
 pub unasked : (past : List Statement) (list : List Watched) (k : ℕ) → SignalsAreWatched past list
     → has_part_at list k ≡ false → part_at list k ≡ None
 unasked past [] k are none = refl
-unasked past (watched ∷ list) zero are none =
-    undefined-none past watched watched.definition none are.0
+unasked past (watched ∷ list) zero are none = search rules
 unasked past (watched ∷ list) (suc k) are none = unasked past list k are.1 none
 
 none-changes : (past : List Statement) (asked : Option (Asked Part)) → asked ≡ None
     → option_map_or (has_changed past) asked false ≡ false
-none-changes past asked none =
-    ap (λ (o : Option (Asked Part)). option_map_or (has_changed past) o false) none
+none-changes past asked none = search rules
 
 happened-at : (watched : Option Watched) (said happened : ℕ) (past : List Statement)
     → KnowsAt watched said happened past
@@ -366,40 +300,19 @@ pub changes-timed : (all : List SignalDefined) (names : List (List ℕ)) (kept :
     (past : List Statement) (ticks : ℕ) → ticks ≢ time_at past
     → KnowsChanges all names kept past
     → KnowsChanges all names (record kept { said = 0; happened = 0 }) (time ticks ∷ past)
-changes-timed all names kept past ticks other knows = record {
-  few = knows.few;
-  definitions = knows.definitions;
-  parts = watched-same past (time ticks ∷ past) kept.list.items (read-timed past ticks)
-      knows.parts;
-  sieve = knows.sieve;
-  defined = knows.defined;
-  each = λ k.
-      subst (λ n. KnowsAt (watched_at kept.list.items k) n n (time ticks ∷ past))
-      (sym (bit_at-zero k))
-      (watched-timed past ticks (watched_at kept.list.items k) (bit_at kept.said k)
-      (bit_at kept.happened k) other (knows.each k));
-}
+changes-timed all names kept past ticks other knows =
+    search (rules, definitions, watched-same, time, read-timed, bit_at-zero, watched-timed)
 
 -- where nothing was moved at a place
 pub at-moved : (old new : Option Watched) (said now happened happens : ℕ)
     (past : List Statement) → (new ≡ old) × (now ≡ said) × (happens ≡ happened)
     → KnowsAt old said happened past → KnowsAt new now happens past
-at-moved old new said now happened happens past same knows =
-    subst (λ o. KnowsAt o now happens past) (sym same.0)
-    (subst (λ n. KnowsAt old n happens past) (sym same.1)
-    (subst (λ n. KnowsAt old said n past) (sym same.2) knows))
-
-none-differs : (part : Part) (old : Option (List ℕ)) → differs part old None ≡ false
-none-differs part None = refl
-none-differs part (Some old) = refl
+at-moved old new said now happened happens past same knows = search rules
 
 quiet-change : (past : List Statement) → IsQuiet past → (asked : Option (Asked Part))
     → option_map_or (has_changed past) asked false ≡ false
 quiet-change past quiet None = refl
-quiet-change past quiet (Some asked) =
-    ap (differs asked.asks (letters_at (before_now past) asked.identifier))
-    (quiet.values asked.identifier)
-    ∙ none-differs asked.asks (letters_at (before_now past) asked.identifier)
+quiet-change past quiet (Some asked) = search rules
 
 before-time : (past : List Statement) (identifier : List ℕ) (same : Bool)
     → letters_at past identifier ≡ None → letters_at (before_now past) identifier ≡ None
@@ -433,14 +346,12 @@ latest-none : (past : List Statement) (watched : Watched) (said happened : ℕ)
     (asked : Option (Asked Part)) → part_kept watched ≡ asked → IsQuiet past
     → KnowsWatched watched said happened past → letters_kept watched.latest ≡ None
 latest-none past watched said happened None is quiet knows = (knows.silent is).0
-latest-none past watched said happened (Some asked) is quiet knows =
-    (knows.letters asked is).now ∙ quiet.values asked.identifier
+latest-none past watched said happened (Some asked) is quiet knows = search rules
 
 earlier-none : (past : List Statement) (watched : Watched) (said happened : ℕ)
     (asked : Option (Asked Part)) → part_kept watched ≡ asked → IsQuiet past
     → KnowsWatched watched said happened past → said ≡ 1 → letters_kept watched.earlier ≡ None
-earlier-none past watched said happened None is quiet knows one =
-    absurd (omega (arith, one, (knows.silent is).1))
+earlier-none past watched said happened None is quiet knows one = search rules
 earlier-none past watched said happened (Some asked) is quiet knows one =
     (knows.letters asked is).before one
     ∙ before-quiet past asked.identifier (quiet.values asked.identifier)
@@ -477,10 +388,6 @@ watched-declared past tokens old new said happened quiet latest earlier unasked_
           ∙ sym (quiet-declared past tokens quiet (part_kept new)));
     }
 
-first-none : {X : Type 0} (one other : Option X) → None ≡ option_or one other → one ≡ None
-first-none None other is = refl
-first-none (Some own) other is = absurd (cc (is))
-
 -- what is asked once is asked later
 still-asked : (past : List Statement) (tokens : List (List ℕ)) (old new : Option (Asked Part))
     (definition : Option SignalDefined)
@@ -488,9 +395,7 @@ still-asked : (past : List Statement) (tokens : List (List ℕ)) (old new : Opti
     → option_map occasion_of new ≡ part_read (var tokens ∷ past) definition → new ≡ None
     → old ≡ None
 still-asked past tokens old new None was is none = none-asked old was
-still-asked past tokens old new (Some one) was is none =
-    none-asked old (was ∙ first-none (part_read past (Some one)) _
-    (ap (option_map occasion_of) (sym none) ∙ is))
+still-asked past tokens old new (Some one) was is none = search rules
 
 each-declared : (past : List Statement) (tokens : List (List ℕ)) (old new : List Watched)
     → IsQuiet past
@@ -550,22 +455,10 @@ part-below [] k asked is = absurd (cc (is))
 part-below (watched ∷ list) zero asked is = omega arith
 part-below (watched ∷ list) (suc k) asked is = omega (arith, part-below list k asked is)
 
-changed-defined : (past : List Statement) (asked : Option (Asked Part))
-    → option_map_or (has_changed past) asked false
-    ≡ option_map_or (has_changed (definitions ∷ past)) asked false
-changed-defined past None = refl
-changed-defined past (Some asked) = refl
-
 at-defined : (past : List Statement) (watched : Option Watched) (said happened : ℕ)
     → KnowsAt watched said happened past → KnowsAt watched said happened (definitions ∷ past)
 at-defined past None said happened knows = knows
-at-defined past (Some watched) said happened knows = record {
-  letters = λ asked is.
-      let part = knows.letters asked is in
-      record { now = part.now; before = part.before; quiet = part.quiet };
-  silent = knows.silent;
-  happened_is = knows.happened_is ∙ ap bit_of (changed-defined past (part_kept watched));
-}
+at-defined past (Some watched) said happened knows = search rules
 
 pub changes-sifted : (all : List SignalDefined) (names : List (List ℕ)) (kept : Changes)
     (past : List Statement) (sieve : List ℕ)
@@ -636,8 +529,7 @@ unread-one : (asked : Option (Asked Part)) (identifier : List ℕ)
     → ((one : Asked Part) → asked ≡ Some one → bytes_eq one.identifier identifier ≡ true → ⊥)
     → reads_part asked identifier ≡ false
 unread-one None identifier apart = refl
-unread-one (Some asked) identifier apart =
-    false_of (bytes_eq asked.identifier identifier) (apart asked refl)
+unread-one (Some asked) identifier apart = search rules
 
 pub unread : (all : List SignalDefined) (names : List (List ℕ)) (kept : Changes)
     (past : List Statement) (identifier : List ℕ) (numbers : ℕ) → is_defined past ≡ true
@@ -645,9 +537,7 @@ pub unread : (all : List SignalDefined) (names : List (List ℕ)) (kept : Change
     → KnowsChanges all names kept past → (k : ℕ) → bit_at numbers k ≢ 1
     → reads_part (part_at kept.list.items k) identifier ≡ false
 unread all names kept past identifier numbers ended asked knows k clear =
-    unread-one (part_at kept.list.items k) identifier (λ one is same.
-    clear (asked k (subst (λ own. MayBe kept.sieve own k)
-    ((bytes_eq-Decides one.identifier identifier).0 same) (knows.sieve ended k one is))))
+    search (rules, unread-one, part_at, bytes_eq-Decides, kept.list.items, kept.sieve, knows.sieve)
 
 -- no event is the changes of an identifier that has no number
 pub changes-unread : (all : List SignalDefined) (names : List (List ℕ)) (kept : Changes)
@@ -668,27 +558,14 @@ none-read (Some one) = refl
 
 watched-push : (list : List Watched) (watched : Watched) → watched.asked ≡ None
     → SignalsAreWatched [] list → SignalsAreWatched [] (list ++ watched ∷ [])
-watched-push [] watched none are = (
-  ap (λ (o : Option AskedPart). option_map occasion_of (option_map asked_of_part o)) none
-      ∙ none-read watched.definition,
-  tt,
-)
+watched-push [] watched none are = search rules
 watched-push (first ∷ list) watched none are = (are.0, watched-push list watched none are.1)
 
 at-push : (list : List Watched) (watched : Watched) (k said happened : ℕ)
     → watched.asked ≡ None → letters_kept watched.latest ≡ None
     → KnowsAt (watched_at list k) said happened []
     → KnowsAt (watched_at (list ++ watched ∷ []) k) said happened []
-at-push [] watched zero said happened none silent knows =
-    let unasked_now : part_kept watched ≡ None =
-    ap (λ (o : Option AskedPart). option_map asked_of_part o) none in
-    record {
-      letters = λ asked is. absurd (cc (unasked_now, is));
-      silent = λ _. (silent, knows.1);
-      happened_is = knows.0
-          ∙ ap (λ (o : Option (Asked Part)). bit_of (option_map_or (has_changed []) o false))
-          (sym unasked_now);
-    }
+at-push [] watched zero said happened none silent knows = search rules
 at-push [] watched (suc k) said happened none silent knows = knows
 at-push (one ∷ list) watched zero said happened none silent knows = knows
 at-push (one ∷ list) watched (suc k) said happened none silent knows =
@@ -727,24 +604,6 @@ changes-pushed all names name kept list watched defined number is none silent sa
           (bit_at kept.happened k) []) (sym is)
           (at-push kept.list.items watched k (bit_at kept.said k) (bit_at kept.happened k) none
           silent (knows.each k));
-    }
-
-pub changes-none : (all : List SignalDefined) (names : List (List ℕ)) (kept : Changes)
-    → kept.list.items ≡ [] → kept.defined ≡ 0 → kept.said ≡ 0 → kept.happened ≡ 0
-    → AreDefined all names [] → KnowsChanges all names kept []
-changes-none all names kept empty defined said happened none =
-    let f = λ (one : Watched). one.definition in
-    record {
-      few = rw empty (omega arith);
-      definitions = subst (λ list. AreDefined all names (map f list)) (sym empty) none;
-      parts = subst (SignalsAreWatched []) (sym empty) tt;
-      sieve = λ e. absurd (false≢true e);
-      defined = λ k. ap (λ n. bit_at n k) defined ∙ bit_at-zero k
-          ∙ ap (λ list. bit_of (has_part_at list k)) (sym empty);
-      each = λ k.
-          subst (λ list. KnowsAt (watched_at list k) (bit_at kept.said k)
-          (bit_at kept.happened k) []) (sym empty)
-          (ap (λ n. bit_at n k) happened ∙ bit_at-zero k, ap (λ n. bit_at n k) said ∙ bit_at-zero k);
     }
 
 -- ---- places

@@ -1,13 +1,12 @@
 -- One more byte of white space beside another.
-use Rattle.std.proofs.Common.{◌≡◌, ℕ, ◌+◌, ◌<◌, ◌≤◌, nat_le, Bool, true, false, cond, List, [], ◌∷◌, ◌++◌, append-nil, length, Option, None, Some, Result, Ok, Err, refl, sym, ap, ◌∙◌, arith, if◌then◌else◌}
+use Rattle.std.proofs.Common.{◌≡◌, ℕ, ◌+◌, ◌<◌, ◌≤◌, nat_le, Bool, true, false, cond, List, [], ◌∷◌, ◌++◌, append-nil, length, Option, None, Some, Result, Ok, Err, refl, sym, ap, ◌∙◌, arith, rules}
 use Rattle.std.proofs.lemmas.Bool.Decides.{nat_tests}
 use Rattle.std.proofs.lemmas.List.Splits.{slice_split_at}
 use Rattle.std.proofs.lemmas.List.Elements.{All-nil}
 use Rattle.std.specs.List.{slice_split, onto_first}
 use Rattle.tre_parts.specs.Joins.{join_parts, HasFirst, slice_split-has, slice_split-append}
 use Rattle.tre_parts.specs.Growing.{more_parts}
-use Rattle.tre_parts.specs.Format.{Step, nothing, faulty, ending, behind, read_on, after_part, part_says, last_part, parts_recording, recording_from, first_spot}
-use Rattle.tre_parts.specs.declared.TheConstants.{PART_MAX}
+use Rattle.tre_parts.specs.Format.{Step, faulty, ending, read_on, after_part, part_says, last_part, parts_recording, recording_from, first_spot}
 use Rattle.tre_parts.specs.declared.spot.Spot.{Spot}
 use Rattle.tre_trace.specs.Reading.{Recording}
 use Rattle.tre_trace.specs.declared.fault.TraceKind.{TraceKind}
@@ -59,8 +58,7 @@ width-split (byte ∷ bytes) =
 
 has-append : (parts others : List (List ℕ)) → HasFirst others → HasFirst (parts ++ others)
 has-append [] others has = has
-has-append (part ∷ parts) others has =
-    record { first = part; later = parts ++ others; is = refl }
+has-append (part ∷ parts) others has = search rules
 
 -- ---- faults
 
@@ -92,16 +90,7 @@ read_on-moves : (from offset later : ℕ) (said : Result (Step Place) TraceKind)
     → ((now : Place) → other now ≡ moved_recording from (one now))
     → read_on later said other ≡ moved_recording from (read_on offset said one)
 read_on-moves from offset later (Err kind) one other fault more = fault kind refl
-read_on-moves from offset later (Ok step) one other fault more =
-    ap (behind step.stretches) (more step.state)
-
-long_moves : (from offset later : ℕ) (short : Bool) (kind : TraceKind) → from ≤ offset
-    → later ≡ offset + 1
-    → (if short then nothing else faulty later kind)
-    ≡ moved_recording from
-    (if short then nothing else faulty offset kind)
-long_moves from offset later true kind le is = refl
-long_moves from offset later false kind le is = fault_moves from offset later kind le is
+read_on-moves from offset later (Ok step) one other fault more = search rules
 
 module _ (terms : Terms) where
   -- parts that begin one byte later say the same
@@ -110,15 +99,8 @@ module _ (terms : Terms) where
       → parts_recording (vcd_format terms) closed state next parts
       ≡ moved_recording from (parts_recording (vcd_format terms) closed state spot parts)
   later_parts closed from state spot next [] le is = refl
-  later_parts true from state spot next (part ∷ []) le is =
-      read_on-moves from spot.offset next.offset (part_says (vcd_format terms) state part)
-      (λ now. ending (spot.offset + length part) (happens_at terms.definitions now.past) (end_says now))
-      (λ now. ending (next.offset + length part) (happens_at terms.definitions now.past) (end_says now))
-      (λ kind _. fault_moves from spot.offset next.offset kind le is)
-      (λ now. ending_moves from (spot.offset + length part) (next.offset + length part)
-      (happens_at terms.definitions now.past) (end_says now) (omega (arith, le)) (omega (arith, is)))
-  later_parts false from state spot next (part ∷ []) le is =
-      long_moves from spot.offset next.offset (nat_le (length part) PART_MAX) _ le is
+  later_parts true from state spot next (part ∷ []) le is = search rules
+  later_parts false from state spot next (part ∷ []) le is = search rules
   later_parts closed from state spot next (part ∷ more ∷ parts) le is =
       read_on-moves from spot.offset next.offset (part_says (vcd_format terms) state part)
       (λ now. parts_recording (vcd_format terms) closed now (after_part spot (length part))
@@ -134,9 +116,7 @@ module _ (terms : Terms) where
       → HasFirst parts → parts_recording (vcd_format terms) closed state spot ([] ∷ parts)
       ≡ parts_recording (vcd_format terms) closed state (after_part spot 0) parts
   blank_first closed state spot parts has =
-      more_parts (vcd_format terms) closed state spot [] parts has
-      ∙ ap (λ said. read_on spot.offset said (λ now. parts_recording (vcd_format terms) closed now
-      (after_part spot 0) parts)) (no_token terms state)
+      search (rules, more_parts, vcd_format, read_on, parts_recording, after_part, no_token)
 
   blank_between : (closed : Bool) (state : Place) (spot : Spot) (parts others : List (List ℕ))
       (from : ℕ) → HasFirst others → from ≡ spot.offset + width parts
@@ -144,9 +124,7 @@ module _ (terms : Terms) where
       ≡ moved_recording from (parts_recording (vcd_format terms) closed state spot
       (parts ++ others))
   blank_between closed state spot [] others from has is =
-      blank_first closed state spot others has
-      ∙ later_parts closed from state spot (after_part spot 0) others (omega (arith, is))
-      (omega arith)
+      search (rules, blank_first, later_parts, after_part)
   blank_between closed state spot (part ∷ parts) others from has is =
       more_parts (vcd_format terms) closed state spot part (parts ++ [] ∷ others)
       (has-append parts ([] ∷ others) (record { first = []; later = others; is = refl }))
@@ -184,24 +162,20 @@ module _ (terms : Terms) where
       ≡ vcd_recording terms closed (front ++ other ∷ back)
   unfolding recording_from
   white_alike closed front back one other first second =
-      ap (parts_recording (vcd_format terms) closed (vcd_format terms).start first_spot)
-      (split_behind front back one first ∙ sym (split_behind front back other second))
+      search (rules, parts_recording, vcd_format, first_spot, split_behind)
 
   -- the last part, behind which the input ends or one more part of no bytes follows
   end_blank : (state : Place) (spot : Spot)
       → last_part (vcd_format terms) true state spot [] ≡ ending (spot.offset + 0)
       (happens_at terms.definitions state.past) (end_says state)
   end_blank state spot =
-      ap (λ said. read_on spot.offset said (λ now. ending (spot.offset + 0) (happens_at terms.definitions now.past)
-      (end_says now)))
-      (no_token terms state)
+      search (rules, read_on, ending, happens_at, end_says, no_token, spot.offset)
 
   no_fault : (state : Place) (from : ℕ) (offset : ℕ) (part : List ℕ) (kind : TraceKind)
       → from ≡ offset + length part → part_says (vcd_format terms) state part ≡ Err kind
       → faulty offset kind ≡ moved_recording from (faulty offset kind)
   no_fault state from offset [] kind is said = absurd (cc (said, no_token terms state))
-  no_fault state from offset (byte ∷ bytes) kind is said =
-      fault_stays from offset kind (omega (arith, is))
+  no_fault state from offset (byte ∷ bytes) kind is said = search rules
 
   blank_last : (state : Place) (spot : Spot) (parts : List (List ℕ)) (from : ℕ) → HasFirst parts
       → from + 1 ≡ spot.offset + width parts

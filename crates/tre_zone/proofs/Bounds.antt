@@ -1,14 +1,13 @@
 -- A bound as a value and a weakness, the sum of bounds, and what a difference of times meets.
-use Rattle.std.proofs.Common.{◌≡◌, ℕ, ◌+◌, ◌-◌, ◌*◌, ◌≤◌, ◌<◌, min, max, arith, ℤ, pos, negsuc, ◌+ℤ◌, ◌-ℤ◌, ◌*ℤ◌, ◌≤ℤ◌, ◌<ℤ◌, refl}
-use Rattle.std.proofs.Common.{◌^◌, ◌↔◌, zero, suc, neg_ℤ, bit_and, bit_or, to_z, of_z, w64, Bool, true, false, ◌∙◌}
-use Rattle.std.proofs.lemmas.Float.{T_from_true}
-use Rattle.std.proofs.lemmas.Int.{ints, to_z-of_z}
+use Rattle.std.proofs.Common.{◌≡◌, ℕ, ◌+◌, ◌-◌, ◌*◌, ◌≤◌, ◌<◌, min, max, arith, ℤ, pos, negsuc, ◌+ℤ◌, ◌-ℤ◌, ◌*ℤ◌, ◌≤ℤ◌, ◌<ℤ◌, refl, rules}
+use Rattle.std.proofs.Common.{◌^◌, ◌↔◌, zero, suc, neg_ℤ, bit_and, bit_or, to_z, of_z, w64, Bool, true, false}
+use Rattle.std.proofs.lemmas.Int.{ints}
 use Rattle.std.proofs.lemmas.Nat.{and_mask}
 use Rattle.std.specs.Int.{w128}
 use Rattle.std.specs.Prelude.{IsTrue}
 use lib.Dec.{T}
 use mir.Val.{SFits}
-use lib.Signed.{le_z, le_z_yes, lt_z, lt_z_yes, shr_z}
+use lib.Signed.{le_z, lt_z, shr_z}
 use Rattle.tre_zone.specs.Bound.{value_of, weakness_of, sum_of, Meets, IsKeyWithin, IsValueWithin}
 
 -- A key is twice its value and its weakness.
@@ -141,33 +140,13 @@ pub tested-at_most : (key : ℤ) (p q n : ℕ) {one two most : ℤ} → weakness
     → q < 2 ^ 64 → one ≡ pos p → two ≡ pos q → most ≡ value_of key *ℤ pos n → SFits w128 most
     → IsTrue (le_z (wide (wide one -ℤ wide two)) (wide most)) ↔ Meets key p q n
 tested-at_most key p q n {one = one} {two = two} {most = most} weak small low is also whole fits =
-    let d : wide (wide one -ℤ wide two) ≡ pos p -ℤ pos q =
-    omega (arith, ints, small, low, is, also) in
-    let m : wide most ≡ value_of key *ℤ pos n = to_z-of_z w128 most fits ∙ whole in
-    rw (d, m) (
-      (λ yes. let le = le_z_yes {a = pos p -ℤ pos q} {b = value_of key *ℤ pos n}
-          (T_from_true _ yes) in
-          record { met = omega (arith, ints, le, weak) }),
-      (λ meets. let le : (pos p -ℤ pos q) ≤ℤ (value_of key *ℤ pos n) =
-          omega (arith, ints, meets.met, weak) in
-          is_true _ le.le),
-    )
+    search rules
 
 pub tested-less : (key : ℤ) (p q n : ℕ) {one two most : ℤ} → weakness_of key ≡ 0 → p < 2 ^ 64
     → q < 2 ^ 64 → one ≡ pos p → two ≡ pos q → most ≡ value_of key *ℤ pos n → SFits w128 most
     → IsTrue (lt_z (wide (wide one -ℤ wide two)) (wide most)) ↔ Meets key p q n
 tested-less key p q n {one = one} {two = two} {most = most} strict small low is also whole fits =
-    let d : wide (wide one -ℤ wide two) ≡ pos p -ℤ pos q =
-    omega (arith, ints, small, low, is, also) in
-    let m : wide most ≡ value_of key *ℤ pos n = to_z-of_z w128 most fits ∙ whole in
-    rw (d, m) (
-      (λ yes. let lt = lt_z_yes {a = pos p -ℤ pos q} {b = value_of key *ℤ pos n}
-          (T_from_true _ yes) in
-          record { met = omega (arith, ints, lt, strict) }),
-      (λ meets. let lt : (pos p -ℤ pos q) <ℤ (value_of key *ℤ pos n) =
-          omega (arith, ints, meets.met, strict) in
-          is_true _ lt.lt),
-    )
+    search rules
 
 pub value-weak : (key c : ℤ) → key ≡ (pos 2 *ℤ c) +ℤ pos 1 → value_of key ≡ c
 value-weak key c e = let s = split key in omega (arith, ints)

@@ -1,5 +1,5 @@
 -- The closure of six bounds: it holds the same pairs, and is canonical where it is not empty.
-use Rattle.std.proofs.Common.{◌*◌, ℕ, ◌+◌, ◌<◌, ◌↔◌, refl, arith, ℤ, pos, ◌≤ℤ◌}
+use Rattle.std.proofs.Common.{◌*◌, ℕ, ◌+◌, ◌<◌, ◌↔◌, refl, arith, ℤ, pos, ◌≤ℤ◌, rules}
 use Rattle.std.specs.Int.{int_min}
 use Rattle.tre_pairs.specs.Pairs.{Both}
 use Rattle.tre_pairs.specs.declared.TheConstants.{TIME_MAX}
@@ -16,29 +16,7 @@ use Rattle.tre_zone.proofs.Sums.{sum_of-comm, sum_of-assoc, sum_of-le, le_sum_of
 pub closed-holds : (zone : ZoneBounds) (a b n : ℕ) → 0 < n
     → ZoneHolds (closed_of zone) a b n ↔ ZoneHolds zone a b n
 unfolding closed_of
-closed-holds zone a b n some = (
-  (λ h. record {
-    begin_low = ((Meets-min _ _ 0 a n some).0 h.begin_low).0;
-    begin_high = ((Meets-min _ _ a 0 n some).0 h.begin_high).0;
-    end_low = ((Meets-min _ _ 0 b n some).0 h.end_low).0;
-    end_high = ((Meets-min _ _ b 0 n some).0 h.end_high).0;
-    dur_low = ((Meets-min _ _ a b n some).0 h.dur_low).0;
-    dur_high = ((Meets-min _ _ b a n some).0 h.dur_high).0;
-  }),
-  (λ h. record {
-    begin_low = (Meets-min _ _ 0 a n some).1
-        (h.begin_low, Meets-sum _ _ 0 b a n h.end_low h.dur_high);
-    begin_high = (Meets-min _ _ a 0 n some).1
-        (h.begin_high, Meets-sum _ _ a b 0 n h.dur_low h.end_high);
-    end_low = (Meets-min _ _ 0 b n some).1 (h.end_low, Meets-sum _ _ 0 a b n h.begin_low h.dur_low);
-    end_high = (Meets-min _ _ b 0 n some).1
-        (h.end_high, Meets-sum _ _ b a 0 n h.dur_high h.begin_high);
-    dur_low = (Meets-min _ _ a b n some).1
-        (h.dur_low, Meets-sum _ _ a 0 b n h.begin_high h.end_low);
-    dur_high = (Meets-min _ _ b a n some).1
-        (h.dur_high, Meets-sum _ _ b 0 a n h.end_high h.begin_low);
-  }),
-)
+closed-holds zone a b n some = search (rules, Meets-min, Meets-sum)
 
 pub framed-holds : (zone : ZoneBounds) (a b n : ℕ) → 0 < n
     → ZoneHolds (framed_of zone) a b n ↔ Both (ZoneHolds zone) (IsInFrame (TIME_MAX)) a b n
@@ -83,41 +61,7 @@ framed-holds zone a b n some =
 pub tighter-holds : (one other : ZoneBounds) (a b n : ℕ) → 0 < n
     → ZoneHolds (tighter_of one other) a b n ↔ Both (ZoneHolds one) (ZoneHolds other) a b n
 unfolding tighter_of
-tighter-holds one other a b n some = (
-  (λ h.
-      let begin_low = (Meets-min _ _ 0 a n some).0 h.begin_low in
-      let begin_high = (Meets-min _ _ a 0 n some).0 h.begin_high in
-      let end_low = (Meets-min _ _ 0 b n some).0 h.end_low in
-      let end_high = (Meets-min _ _ b 0 n some).0 h.end_high in
-      let dur_low = (Meets-min _ _ a b n some).0 h.dur_low in
-      let dur_high = (Meets-min _ _ b a n some).0 h.dur_high in
-      record {
-        left = record {
-          begin_low = begin_low.0;
-          begin_high = begin_high.0;
-          end_low = end_low.0;
-          end_high = end_high.0;
-          dur_low = dur_low.0;
-          dur_high = dur_high.0;
-        };
-        right = record {
-          begin_low = begin_low.1;
-          begin_high = begin_high.1;
-          end_low = end_low.1;
-          end_high = end_high.1;
-          dur_low = dur_low.1;
-          dur_high = dur_high.1;
-        };
-      }),
-  (λ h. record {
-    begin_low = (Meets-min _ _ 0 a n some).1 (h.left.begin_low, h.right.begin_low);
-    begin_high = (Meets-min _ _ a 0 n some).1 (h.left.begin_high, h.right.begin_high);
-    end_low = (Meets-min _ _ 0 b n some).1 (h.left.end_low, h.right.end_low);
-    end_high = (Meets-min _ _ b 0 n some).1 (h.left.end_high, h.right.end_high);
-    dur_low = (Meets-min _ _ a b n some).1 (h.left.dur_low, h.right.dur_low);
-    dur_high = (Meets-min _ _ b a n some).1 (h.left.dur_high, h.right.dur_high);
-  }),
-)
+tighter-holds one other a b n some = search (rules, Meets-min)
 
 -- ---- where there is a pair, no loop is below zero
 
@@ -166,39 +110,8 @@ pub closed-canonical : (z : ZoneBounds) → IsFramed z → LeavesRoom (closed_of
     → IsCanonical (closed_of z)
 unfolding closed_of
 closed-canonical z framed loops =
-    let begin_back = sum_of-swap _ _ loops.begin_loop in
-    let end_back = sum_of-swap _ _ loops.end_loop in
-    let dur_back = sum_of-swap _ _ loops.dur_loop in
-    record {
-      room = loops;
-      closed = record {
-        begin_low = triangle z.begin_low z.begin_high z.end_low z.end_high z.dur_low z.dur_high
-            loops.begin_loop loops.end_loop loops.dur_loop;
-        begin_high = triangle z.begin_high z.begin_low z.dur_low z.dur_high z.end_low z.end_high
-            begin_back loops.dur_loop loops.end_loop;
-        end_low = triangle z.end_low z.end_high z.begin_low z.begin_high z.dur_high z.dur_low
-            loops.end_loop loops.begin_loop dur_back;
-        end_high = triangle z.end_high z.end_low z.dur_high z.dur_low z.begin_low z.begin_high
-            end_back dur_back loops.begin_loop;
-        dur_low = triangle z.dur_low z.dur_high z.begin_high z.begin_low z.end_high z.end_low
-            loops.dur_loop begin_back end_back;
-        dur_high = triangle z.dur_high z.dur_low z.end_high z.end_low z.begin_high z.begin_low
-            dur_back end_back begin_back;
-      };
-      framed = record {
-        starts = le_trans _ _ _ (int_min-left z.begin_low (sum_of z.end_low z.dur_high))
-            framed.starts;
-        ends = le_trans _ _ _ (int_min-left z.end_high (sum_of z.dur_high z.begin_high))
-            framed.ends;
-        lasts = le_trans _ _ _ (int_min-left z.dur_low (sum_of z.begin_high z.end_low))
-            framed.lasts;
-      };
-    }
+    search (rules, sum_of-swap, triangle, le_trans, int_min-left, sum_of, loops.begin_loop)
 
 pub framed-framed : (zone : ZoneBounds) → IsFramed (framed_of zone)
 unfolding framed_of
-framed-framed zone = record {
-  starts = int_min-right zone.begin_low (pos 1);
-  ends = int_min-right zone.end_high (pos (2 * TIME_MAX + 1));
-  lasts = int_min-right zone.dur_low (pos 1);
-}
+framed-framed zone = search rules

@@ -1,7 +1,7 @@
 -- Between which ends of an interval a duration lies.
-use Rattle.std.proofs.Common.{◌≡◌, refl, ℕ, ◌+◌, ◌*◌, ◌<◌, ◌≤◌, Bool, true, false, Option, Some, None, MatchOption, arith}
+use Rattle.std.proofs.Common.{◌≡◌, refl, ℕ, ◌+◌, ◌*◌, ◌<◌, ◌≤◌, Bool, true, false, Option, Some, None, MatchOption, arith, rules}
 use Rattle.std.proofs.Math.Nat.{mul-le-mul_right}
-use Rattle.std.proofs.lemmas.Option.{none-some, same_Some}
+use Rattle.std.proofs.lemmas.Option.{none-some}
 use Rattle.tre_pairs.specs.declared.TheConstants.{TIME_MAX}
 use Rattle.tre_zone.specs.Interval.{LastsWithin, HasNoDuration, HasRoom, IntervalEnds, IsInterval, ends_of}
 
@@ -65,26 +65,16 @@ scale : (low high n : ℕ) → high ≤ low → high * n ≤ low * n
 scale low high n le = mul-le-mul_right n le
 
 scale_more : (low high n : ℕ) → 0 < n → high < low → high * n + 1 ≤ low * n
-scale_more low high n some lt =
-    let e : (high + 1) * n ≤ low * n = mul-le-mul_right n (omega arith) in
-    omega arith
+scale_more low high n some lt = search rules
 
 pub no_room : (low : ℕ) (low_weak : Bool) (high : ℕ) (high_weak : Bool)
     → (HasRoom low low_weak high high_weak → ⊥)
     → (d n : ℕ) → 0 < n → LastsWithin (record
     { low = low; low_weak = low_weak; high = Some high; high_weak = high_weak }) d n → ⊥
-no_room low true high true h d n some w =
-    let lt : high < low = omega arith in
-    omega (arith, scale_more low high n some lt)
-no_room low true high false h d n some w =
-    let le : high ≤ low = omega arith in
-    omega (arith, scale low high n le)
-no_room low false high true h d n some w =
-    let le : high ≤ low = omega arith in
-    omega (arith, scale low high n le)
-no_room low false high false h d n some w =
-    let le : high ≤ low = omega arith in
-    omega (arith, scale low high n le)
+no_room low true high true h d n some w = search (rules, scale_more, n, some)
+no_room low true high false h d n some w = search (rules, scale, n)
+no_room low false high true h d n some w = search (rules, scale, n)
+no_room low false high false h d n some w = search (rules, scale, n)
 
 pub not_empty : (ends : IntervalEnds) → Lasts ends
     → (true ≡ false → HasNoDuration ends) × (HasNoDuration ends → true ≡ false)
@@ -111,7 +101,4 @@ interval_to low low_weak high high_weak le high_le has = record {
 pub high_within : (high : Option ℕ) (top limit : ℕ) → high ≡ Some top
     → MatchOption high (Unit {0}) (λ h. h ≤ limit) → top ≤ limit
 high_within None top limit e le = absurd (none-some top e)
-high_within (Some h) top limit e le =
-    let same : h ≡ top = same_Some h top e in
-    let below : h ≤ limit = le in
-    omega (arith, same, below)
+high_within (Some h) top limit e le = search rules

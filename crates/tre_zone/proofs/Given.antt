@@ -1,6 +1,6 @@
 -- What each call of a zone gives: the closure of bounds that hold exactly the pairs that it names.
-use Rattle.std.proofs.Common.{◌≡◌, ℕ, ◌+◌, ◌-◌, ◌*◌, ◌^◌, ◌<◌, ◌≤◌, ◌↔◌, Option, Some, None, arith, ℤ, pos, neg_ℤ, ◌-ℤ◌, ◌≤ℤ◌}
-use Rattle.std.proofs.lemmas.Int.{ints, clamps}
+use Rattle.std.proofs.Common.{◌≡◌, ℕ, ◌+◌, ◌-◌, ◌*◌, ◌^◌, ◌<◌, ◌≤◌, ◌↔◌, Option, Some, None, arith, ℤ, pos, neg_ℤ, ◌-ℤ◌, ◌≤ℤ◌, rules}
+use Rattle.std.proofs.lemmas.Int.{ints}
 use Rattle.std.specs.Int.{int_min}
 use Rattle.tre_pairs.specs.Pairs.{Pairs, Both, Lasting}
 use Rattle.tre_pairs.specs.declared.TheConstants.{TIME_MAX}
@@ -18,14 +18,8 @@ use Rattle.tre_zone.proofs.Tightness.{canonical-keys, key-wider, keys-wider}
 pub GivesZone-same : (answer : Option ZoneBounds) (one other : Pairs)
     → ((a b n : ℕ) → 0 < n → a ≤ b → one a b n ↔ other a b n)
     → GivesZone answer one → GivesZone answer other
-GivesZone-same None one other same h = record
-    { never = λ a b n some le held. h.never a b n some le ((same a b n some le).1 held) }
-GivesZone-same (Some zone) one other same h = record {
-  exact = λ a b n some le. (
-    (λ held. (same a b n some le).0 ((h.exact a b n some le).0 held)),
-    (λ held. (h.exact a b n some le).1 ((same a b n some le).1 held)),
-  );
-}
+GivesZone-same None one other same h = search rules
+GivesZone-same (Some zone) one other same h = search rules
 
 pub closed-exact : (zone : ZoneBounds) → IsZoneOf (closed_of zone) (ZoneHolds zone)
 closed-exact zone = record { exact = λ a b n some le. closed-holds zone a b n some }
@@ -41,11 +35,7 @@ closed-never zone not_loops = record {
 
 min_key : (limit : ℕ) (x y : ℤ) → IsKeyWithin limit x → neg_ℤ (pos limit) ≤ℤ y
     → IsKeyWithin limit (int_min x y)
-min_key limit x y h low = record {
-  low = omega (arith, ints, clamps, h.low);
-  high =
-      omega (arith, ints, clamps, h.high);
-}
+min_key limit x y h low = search rules
 
 sum_key : (x y : ℤ) → IsKeyWithin (2 ^ 45) x → IsKeyWithin (2 ^ 45) y
     → neg_ℤ (pos (2 ^ 47)) ≤ℤ sum_of x y
@@ -61,14 +51,8 @@ closed_key key left right h k l = min_key (2 ^ 47) key (sum_of left right)
 pub closed-keys : (zone : ZoneBounds) → AreKeysWithin (2 ^ 45) zone
     → AreKeysWithin (2 ^ 47) (closed_of zone)
 unfolding closed_of
-closed-keys z h = record {
-  begin_low = closed_key _ _ _ h.begin_low h.end_low h.dur_high;
-  begin_high = closed_key _ _ _ h.begin_high h.dur_low h.end_high;
-  end_low = closed_key _ _ _ h.end_low h.begin_low h.dur_low;
-  end_high = closed_key _ _ _ h.end_high h.dur_high h.begin_high;
-  dur_low = closed_key _ _ _ h.dur_low h.begin_high h.end_low;
-  dur_high = closed_key _ _ _ h.dur_high h.end_high h.begin_low;
-}
+closed-keys z h =
+    search (rules, closed_key, h.begin_low, h.end_low, h.dur_high, h.begin_high, h.dur_low)
 
 key-value : (key : ℤ) → IsValueWithin (2 ^ 42) key → IsKeyWithin (2 ^ 45) key
 key-value key h = let s = split key in record
@@ -107,16 +91,9 @@ tighter-keys one other c d =
       dur_high = min_key (2 ^ 45) _ _ h.dur_high k.dur_high.low;
     }
 
-lower : (x y limit : ℤ) → x ≤ℤ limit → int_min x y ≤ℤ limit
-lower x y limit h = omega (arith, ints, clamps)
-
 pub tighter-framed : (one other : ZoneBounds) → IsCanonical one → IsFramed (tighter_of one other)
 unfolding tighter_of
-tighter-framed one other c = record {
-  starts = lower one.begin_low other.begin_low (pos 1) c.framed.starts;
-  ends = lower one.end_high other.end_high (pos (2 * TIME_MAX + 1)) c.framed.ends;
-  lasts = lower one.dur_low other.dur_low (pos 1) c.framed.lasts;
-}
+tighter-framed one other c = search rules
 
 -- ---- the pairs that end at a time, and those of a duration
 
@@ -143,35 +120,7 @@ pub ending-holds : (z : ZoneBounds) (low high : ℤ) (t : ℕ) → low ≡ pos 1
     → ZoneHolds (record z { end_low = int_min z.end_low low; end_high = int_min z.end_high high })
     a b n ↔ Both (ZoneHolds z) (EndsAt t) a b n
 ending-holds z low high t e f a b n some =
-    let least = Meets-at_least low t e 0 b n in
-    let most = Meets-at_most high t f b 0 n in
-    let end_low = Meets-min z.end_low low 0 b n some in
-    let end_high = Meets-min z.end_high high b 0 n some in (
-      (λ h.
-          let le = least.0 (end_low.0 h.end_low).1 in
-          let ge = most.0 (end_high.0 h.end_high).1 in
-          record {
-            left = record {
-              begin_low = h.begin_low;
-              begin_high = h.begin_high;
-              end_low = (end_low.0 h.end_low).0;
-              end_high = (end_high.0 h.end_high).0;
-              dur_low = h.dur_low;
-              dur_high = h.dur_high;
-            };
-            right = record { ends = omega arith };
-          }),
-      (λ h.
-          let ends = h.right.ends in
-          record {
-            begin_low = h.left.begin_low;
-            begin_high = h.left.begin_high;
-            end_low = end_low.1 (h.left.end_low, least.1 (omega arith));
-            end_high = end_high.1 (h.left.end_high, most.1 (omega arith));
-            dur_low = h.left.dur_low;
-            dur_high = h.left.dur_high;
-          }),
-    )
+    search (rules, Meets-at_least, Meets-at_most, Meets-min, z.end_low, z.end_high)
 
 pub within-keys : (z : ZoneBounds) → IsCanonical z → (low high : ℤ) → neg_ℤ (pos (2 ^ 45)) ≤ℤ low
     → high ≤ℤ z.dur_high → neg_ℤ (pos (2 ^ 45)) ≤ℤ high
@@ -194,27 +143,4 @@ pub within-holds : (z : ZoneBounds) (low high : ℤ) (ends : IntervalEnds)
     → (a b n : ℕ) → 0 < n → a ≤ b
     → ZoneHolds (record z { dur_low = int_min z.dur_low low; dur_high = high }) a b n ↔ Lasting
     (LastsWithin ends) (ZoneHolds z) a b n
-within-holds z low high ends above below a b n some le =
-    let least = above a b n le in
-    let most = below b a n some le in
-    let dur_low = Meets-min z.dur_low low a b n some in (
-      (λ h. record {
-        related = record {
-          begin_low = h.begin_low;
-          begin_high = h.begin_high;
-          end_low = h.end_low;
-          end_high = h.end_high;
-          dur_low = (dur_low.0 h.dur_low).0;
-          dur_high = (most.0 h.dur_high).0;
-        };
-        admitted = (least.0 (dur_low.0 h.dur_low).1, (most.0 h.dur_high).1);
-      }),
-      (λ h. record {
-        begin_low = h.related.begin_low;
-        begin_high = h.related.begin_high;
-        end_low = h.related.end_low;
-        end_high = h.related.end_high;
-        dur_low = dur_low.1 (h.related.dur_low, least.1 h.admitted.0);
-        dur_high = most.1 (h.related.dur_high, h.admitted.1);
-      }),
-    )
+within-holds z low high ends above below a b n some le = search (rules, Meets-min, z.dur_low)

@@ -1,5 +1,5 @@
 -- What lists of zones hold, where the first time is not after the second.
-use Rattle.std.proofs.Common.{ℕ, List, []}
+use Rattle.std.proofs.Common.{ℕ, List, [], rules}
 use Rattle.std.proofs.Math.Nat.{mul-le-mul_left, le_of_mul-le-mul_left}
 use Rattle.tre_pairs.specs.Pairs.{Composed}
 use Rattle.tre_pairs.proofs.Agreement.{Agree-Composed}
@@ -12,16 +12,7 @@ use Rattle.tre_zone.proofs.Scaling.{SetHolds-scale, SetHolds-rising}
 use Rattle.tre_zone.proofs.ZoneListLemmas.{SetHolds-empty}
 
 pub Scales-Held : (zones : List ZoneBounds) → Scales (Held zones)
-Scales-Held zones = record {
-  up = λ k a b n pos h. record {
-    rising = mul-le-mul_left k h.rising;
-    held = (SetHolds-scale zones k a b n pos).0 h.held;
-  };
-  down = λ k a b n pos h. record {
-    rising = le_of_mul-le-mul_left h.rising pos;
-    held = (SetHolds-scale zones k a b n pos).1 h.held;
-  };
-}
+Scales-Held zones = search (rules, mul-le-mul_left, SetHolds-scale, le_of_mul-le-mul_left)
 
 pub IsOrdered-Held : (zones : List ZoneBounds) → IsOrdered (Held zones)
 IsOrdered-Held zones = record { le = λ a b n h. h.rising }
@@ -32,12 +23,7 @@ Held-empty a b n h = SetHolds-empty a b n h.held
 -- Zones hold no other pairs.
 pub Agree-Held : (zones : List ZoneBounds) → AreCanonical zones
     → Agree (Held zones) (SetHolds zones)
-Agree-Held zones canonical = record {
-  at = λ a b n some. (
-    (λ h. h.held),
-    (λ h. record { rising = SetHolds-rising zones canonical a b n some h; held = h }),
-  );
-}
+Agree-Held zones canonical = search (rules, SetHolds-rising)
 
 -- The pairs of one list, followed by those of another.
 pub composed_set : (first second zones : List ZoneBounds) → AreCanonical first

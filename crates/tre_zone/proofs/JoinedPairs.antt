@@ -1,5 +1,5 @@
 -- Pairs of which one is joined to the other at a time.
-use Rattle.std.proofs.Common.{ℕ, ◌*◌, refl, arith}
+use Rattle.std.proofs.Common.{ℕ, ◌*◌, refl, rules}
 use Rattle.std.proofs.Math.Nat.{mul_left_comm}
 use Rattle.tre_pairs.specs.Cuts.{JoinedAt}
 use Rattle.tre_pairs.specs.Pairs.{Pairs}
@@ -22,9 +22,4 @@ module _ (cut : ℕ) (R S : Pairs) where
   }
 
   pub IsOrdered-JoinedAt : IsOrdered R → IsOrdered S → IsOrdered (JoinedAt cut R S)
-  IsOrdered-JoinedAt r s = record {
-    le = λ a b n h.
-        let first = r.le a (cut * n) n h.left in
-        let second = s.le (cut * n) b n h.right in
-        omega (arith, first, second);
-  }
+  IsOrdered-JoinedAt r s = search rules

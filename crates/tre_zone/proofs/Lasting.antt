@@ -1,7 +1,6 @@
 -- What durations up to a longest one are.
-use Rattle.std.proofs.Common.{◌≡◌, refl, subst, ℕ, ◌+◌, ◌-◌, ◌*◌, ◌<◌, ◌≤◌, ◌↔◌, Bool, true, false, Option, Some, None, arith, ℤ, pos, ◌≤ℤ◌}
-use Rattle.std.proofs.lemmas.Bool.{false≢true}
-use Rattle.std.proofs.lemmas.Option.{none-some, same_Some}
+use Rattle.std.proofs.Common.{◌≡◌, ℕ, ◌+◌, ◌*◌, ◌≤◌, ◌↔◌, Bool, true, false, Option, Some, None, arith, ℤ, pos, ◌≤ℤ◌, rules}
+use Rattle.std.proofs.lemmas.Option.{none-some}
 use Rattle.tre_pairs.specs.Pairs.{Lasting}
 use Rattle.tre_pairs.proofs.Laws.{DurationScales}
 use Rattle.tre_pairs.proofs.Shortening.{IsDownward}
@@ -11,32 +10,15 @@ use Rattle.tre_zone.specs.Longest.{LastsUpTo, AllLastUpTo}
 use Rattle.tre_zone.specs.Zone.{ZoneHolds, GivesZone, IsTight}
 use Rattle.tre_zone.specs.declared.zone_bounds.ZoneBounds.{ZoneBounds}
 use Rattle.tre_zone.proofs.Bounds.{Meets-at_most}
-use Rattle.tre_zone.proofs.Given.{GivesZone-same}
 use Rattle.tre_zone.proofs.Paths.{Meets-looser}
-
-pub LastsUpTo-all : (d n : ℕ) → LastsUpTo None d n
-LastsUpTo-all d n = record { within = tt }
-
-pub LastsUpTo-none : (longest : Option ℕ) (n : ℕ) → LastsUpTo longest 0 n
-LastsUpTo-none None n = record { within = tt }
-LastsUpTo-none (Some high) n = record { within = omega arith }
 
 pub LastsUpTo-downward : (longest : Option ℕ) → IsDownward (LastsUpTo longest)
 LastsUpTo-downward None = record { at = λ d d' n le h. record { within = tt } }
-LastsUpTo-downward (Some high) = record {
-  at = λ d d' n le h. let short : d' ≤ high * n = h.within in
-      record { within = omega (arith, le, short) };
-}
+LastsUpTo-downward (Some high) = search rules
 
 pub LastsUpTo-scales : (longest : Option ℕ) → DurationScales (LastsUpTo longest)
-LastsUpTo-scales None = record {
-  up = λ k d n pos h. record { within = tt };
-  down = λ k d n pos h. record { within = tt };
-}
-LastsUpTo-scales (Some high) = record {
-  up = λ k d n pos h. record { within = ge_up k high d n h.within };
-  down = λ k d n pos h. record { within = ge_down k high d n pos h.within };
-}
+LastsUpTo-scales None = search rules
+LastsUpTo-scales (Some high) = search (rules, ge_up, ge_down)
 
 -- ---- the longest inside an interval
 
@@ -44,23 +26,14 @@ below_high : (low : ℕ) (low_weak : Bool) (top : Option ℕ) (high_weak : Bool)
     → top ≡ Some high → (d n : ℕ) → LastsWithin (ends_of low low_weak top high_weak) d n
     → d ≤ high * n
 below_high low low_weak None high_weak high is d n h = absurd (none-some high is)
-below_high low low_weak (Some top) true high is d n h =
-    let same : top ≡ high = same_Some top high is in
-    let le : d ≤ top * n = h.1 in
-    subst (λ t. d ≤ t * n) same le
-below_high low low_weak (Some top) false high is d n h =
-    let same : top ≡ high = same_Some top high is in
-    let lt : d < top * n = h.1 in
-    subst (λ t. d ≤ t * n) same (omega (arith, lt))
+below_high low low_weak (Some top) true high is d n h = search rules
+below_high low low_weak (Some top) false high is d n h = search rules
 
 pub inside : (ends : IntervalEnds) (high shortest : ℕ) (longest : Option ℕ)
     → ends.high ≡ Some high
     → ((d n : ℕ) → d ≤ high * n → d ≤ shortest * n ↔ LastsUpTo longest d n)
     → (d n : ℕ) → LastsWithin ends d n → LastsUpTo (Some shortest) d n ↔ LastsUpTo longest d n
-inside ends high shortest longest is same d n h =
-    let below = same d n (below_high ends.low ends.low_weak ends.high ends.high_weak high is d n h)
-    in
-    ((λ x. below.0 x.within), (λ x. record { within = below.1 x }))
+inside ends high shortest longest is same d n h = search rules
 
 -- ---- zones of such durations
 
@@ -77,39 +50,16 @@ key_up_to zone high key is le = record {
 pub up_to_key : (zone : ZoneBounds) (high : ℕ) (key : ℤ) → key ≡ pos (2 * high + 1)
     → IsTight zone → AllLastUpTo (Some high) zone → zone.dur_high ≤ℤ key
 up_to_key zone high key is tight all =
-    tight.dur_high.tightest key
-    (λ a b n some le held.
-    let short : b - a ≤ high * n = (all.each a b n some le held).within in
-    (Meets-at_most key high is b a n).1 (omega (arith, short, le)))
+    search (rules, Meets-at_most, tight.dur_high.tightest, all.each)
 
 pub all_up_to : (zone : ZoneBounds) → AllLastUpTo None zone
 all_up_to zone = record { each = λ a b n some le h. record { within = tt } }
-
--- The interval of such durations.
-pub interval_short : (longest : Option ℕ) (weak : Bool) → weak ≡ kept_weak longest true
-    → (d n : ℕ) → LastsWithin (ends_of 0 true longest weak) d n ↔ LastsUpTo longest d n
-interval_short None weak is d n =
-    ((λ h. record { within = tt }), (λ h. (omega arith, tt)))
-interval_short (Some high) true is d n =
-    ((λ h. record { within = h.1 }), (λ h. (omega arith, h.within)))
-interval_short (Some high) false is d n = absurd (false≢true is)
 
 pub within_short : (longest : Option ℕ) (ends : IntervalEnds) (answer : Option ZoneBounds)
     (zone : ZoneBounds) → ends ≡ ends_of 0 true longest (kept_weak longest true)
     → GivesZone answer (Lasting (LastsWithin ends) (ZoneHolds zone))
     → GivesZone answer (Lasting (LastsUpTo longest) (ZoneHolds zone))
-within_short longest ends answer zone is given =
-    GivesZone-same answer (Lasting (LastsWithin ends) (ZoneHolds zone))
-    (Lasting (LastsUpTo longest) (ZoneHolds zone))
-    (λ a b n some le.
-    let same = interval_short longest (kept_weak longest true) refl (b - a) n in (
-      (λ h. record {
-        related = h.related;
-        admitted = same.0 (rw is at h.admitted);
-      }),
-      (λ h. record { related = h.related; admitted = rw is (same.1 h.admitted) }),
-    ))
-    given
+within_short longest ends answer zone is given = search rules
 
 -- There is always such a duration.
 pub never_short : (longest : Option ℕ) → HasNoDuration (ends_of 0 true longest true) → ⊥

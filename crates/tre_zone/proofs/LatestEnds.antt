@@ -1,6 +1,6 @@
 -- When the pairs of a list of zones have ended.
-use Rattle.std.proofs.Common.{◌≡◌, ℕ, suc, ◌*◌, ◌+◌, ◌<◌, ◌≤◌, max, List, [], ◌∷◌, ◌++◌, length, get_or, take, inl, inr, ⊎_elim, refl, sym, subst, arith, ℤ, pos, negsuc, nat_abs, ◌*ℤ◌, ◌+ℤ◌, ◌≤ℤ◌, ◌<ℤ◌}
-use Rattle.std.proofs.Math.Nat.{mul-pos, mul-le-mul_right, le_of_mul-le-mul_right}
+use Rattle.std.proofs.Common.{◌≡◌, ℕ, ◌*◌, ◌+◌, ◌<◌, ◌≤◌, max, List, [], ◌∷◌, ◌++◌, length, get_or, take, inl, inr, ⊎_elim, refl, sym, subst, arith, ℤ, pos, negsuc, nat_abs, ◌*ℤ◌, ◌+ℤ◌, ◌≤ℤ◌, ◌<ℤ◌, rules}
+use Rattle.std.proofs.Math.Nat.{mul-le-mul_right, le_of_mul-le-mul_right}
 use Rattle.std.proofs.lemmas.Int.{ints}
 use Rattle.std.proofs.lemmas.List.{take_more, take_all}
 use Rattle.tre_zone.specs.Bound.{value_of, weakness_of}
@@ -17,10 +17,7 @@ use Rattle.tre_zone.proofs.ZoneListLemmas.{SetHolds-push}
 reaches_none : (value : ℤ) (b n weakness : ℕ) → 0 < n → weakness ≤ 1
     → pos b <ℤ ((pos 0 +ℤ (value *ℤ pos n)) +ℤ pos weakness) → pos 0 ≤ℤ value
 reaches_none (pos v) b n weakness some small met = omega (arith, ints)
-reaches_none (negsuc v) b n weakness some small met =
-    let one : 0 < suc v = omega arith in
-    let more : 0 < suc v * n = mul-pos one some in
-    absurd (omega (arith, ints))
+reaches_none (negsuc v) b n weakness some small met = search rules
 
 end_is_natural : (zone : ZoneBounds) → HoldsSome zone → pos 0 ≤ℤ value_of zone.end_high
 end_is_natural zone some =
@@ -62,10 +59,7 @@ latest_by_size zone some tight =
     (above_zero (value_of zone.end_high) (end_is_natural zone some))
 
 pub latest_of_none : IsLatest 0 []
-latest_of_none = record {
-  ends = record { ends = λ a b n some h. absurd (Held-empty a b n h) };
-  first = λ bound ends. omega arith;
-}
+latest_of_none = search (rules, Held-empty)
 
 at_most_left : (one other : ℕ) → one ≤ max one other
 at_most_left one other = omega arith

@@ -1,6 +1,6 @@
 -- Bounds along a path of times: what follows of a sum, what a looser bound keeps, and what a bound
 -- on nothing means.
-use Rattle.std.proofs.Common.{refl, ◌≡◌, ℕ, zero, suc, ◌+◌, ◌*◌, ◌<◌, ◌≤◌, ◌⊎◌, ◌↔◌, ap, sym, subst, inl, inr, arith, ℤ, pos, negsuc, ◌+ℤ◌, ◌*ℤ◌, ◌≤ℤ◌, ◌<ℤ◌}
+use Rattle.std.proofs.Common.{refl, ◌≡◌, ℕ, zero, suc, ◌+◌, ◌*◌, ◌<◌, ◌≤◌, ◌↔◌, ap, arith, ℤ, pos, negsuc, ◌+ℤ◌, ◌*ℤ◌, ◌≤ℤ◌, ◌<ℤ◌, rules}
 use Rattle.std.proofs.lemmas.Int.{ints, clamps, by_lt_z}
 use Rattle.std.proofs.Math.Nat.{mul-le-mul_right}
 use Rattle.std.specs.Int.{int_min}
@@ -15,9 +15,7 @@ add_times x y n =
     omega (arith, ints)
 
 pub le_times : (x y : ℤ) (n : ℕ) → x ≤ℤ y → (x *ℤ pos n) ≤ℤ (y *ℤ pos n)
-le_times x y n le =
-    let times : (up x + down y) * n ≤ (up y + down x) * n = mul-le-mul_right n (le_out x y le) in
-    omega (arith, ints)
+le_times x y n le = search (rules, up, down, mul-le-mul_right, le_out)
 
 -- At a denominator of n a value that is greater by one gives n more.
 lt_times : (x y : ℤ) (n : ℕ) → x <ℤ y → ((x *ℤ pos n) +ℤ pos n) ≤ℤ (y *ℤ pos n)
@@ -68,18 +66,8 @@ Meets-loop key p n some m =
     let least = nothing (value_of key) (weakness_of key) n s.small some (omega (arith, ints)) in
     omega (arith, ints)
 
-int_min_cases : (x y : ℤ) → ((int_min x y ≡ x) × (x ≤ℤ y)) ⊎ ((int_min x y ≡ y) × (y ≤ℤ x))
-int_min_cases x y =
-    by_lt_z x y (λ lt. inl (omega (arith, ints, clamps), omega (arith, ints)))
-    (λ le. inr (omega (arith, ints, clamps), le))
-
 pub int_min-case : (P : ℤ → Type 0) (x y : ℤ) → (x ≤ℤ y → P x) → (y ≤ℤ x → P y) → P (int_min x y)
-int_min-case P x y left right =
-    elim (int_min_cases x y) [
-      | inl h ↦ subst P (sym h.0) (left h.1)
-      | inr h ↦ subst P (sym h.0)
-          (right h.1)
-    ]
+int_min-case P x y left right = search rules
 
 pub int_min-left : (x y : ℤ) → int_min x y ≤ℤ x
 int_min-left x y = omega (arith, ints, clamps)
@@ -90,14 +78,7 @@ int_min-right x y = omega (arith, ints, clamps)
 -- The tighter of two bounds is met exactly where both are.
 pub Meets-min : (x y : ℤ) (p q n : ℕ) → 0 < n
     → Meets (int_min x y) p q n ↔ (Meets x p q n × Meets y p q n)
-Meets-min x y p q n some = (
-  (λ m. (
-    Meets-looser (int_min x y) x p q n some (int_min-left x y) m,
-    Meets-looser
-        (int_min x y) y p q n some (int_min-right x y) m,
-  )),
-  (λ both. int_min-case (λ k. Meets k p q n) x y (λ h. both.0) (λ h. both.1)),
-)
+Meets-min x y p q n some = search (rules, Meets-looser, int_min-left, int_min-right, int_min-case)
 
 -- An integer that is not negative, as a natural.
 pub pos-up : (z : ℤ) → pos 0 ≤ℤ z → z ≡ pos (up z)

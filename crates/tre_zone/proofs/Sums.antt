@@ -1,24 +1,14 @@
 -- The sum of bounds has the laws of a sum, and "at most 0" for its zero.
-use Rattle.std.proofs.Common.{◌≡◌, arith, ℤ, pos, ◌≤ℤ◌}
+use Rattle.std.proofs.Common.{◌≡◌, arith, ℤ, pos, ◌≤ℤ◌, rules}
 use Rattle.std.proofs.lemmas.Int.{ints}
 use Rattle.tre_zone.specs.Bound.{sum_of}
 use Rattle.tre_zone.proofs.Bounds.{split, split-sum, value_of-sum_of, weakness_of-sum_of}
 
 pub sum_of-comm : (x y : ℤ) → sum_of x y ≡ sum_of y x
-sum_of-comm x y =
-    let one = split-sum x y in
-    let two = split-sum y x in
-    omega (arith, ints)
+sum_of-comm x y = search (rules, split-sum)
 
 pub sum_of-assoc : (x y z : ℤ) → sum_of (sum_of x y) z ≡ sum_of x (sum_of y z)
-sum_of-assoc x y z =
-    let one = split-sum (sum_of x y) z in
-    let two = split-sum x (sum_of y z) in
-    let e = value_of-sum_of x y in
-    let f = value_of-sum_of y z in
-    let g = weakness_of-sum_of x y in
-    let h = weakness_of-sum_of y z in
-    omega (arith, ints)
+sum_of-assoc x y z = search (rules, split-sum, sum_of, value_of-sum_of, weakness_of-sum_of)
 
 pub sum_of-le : (x x' y y' : ℤ) → x ≤ℤ x' → y ≤ℤ y' → sum_of x y ≤ℤ sum_of x' y'
 sum_of-le x x' y y' h k =

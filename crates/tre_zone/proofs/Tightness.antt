@@ -1,5 +1,5 @@
 -- Each bound of canonical bounds is met to the last: by a pair at the denominator 4.
-use Rattle.std.proofs.Common.{◌≡◌, ℕ, ◌+◌, ◌*◌, ◌≤◌, ◌^◌, refl, sym, arith, ℤ, pos, neg_ℤ, ◌+ℤ◌, ◌-ℤ◌, ◌*ℤ◌, ◌≤ℤ◌}
+use Rattle.std.proofs.Common.{◌≡◌, ℕ, ◌+◌, ◌*◌, ◌≤◌, ◌^◌, refl, sym, arith, ℤ, pos, neg_ℤ, ◌+ℤ◌, ◌-ℤ◌, ◌*ℤ◌, ◌≤ℤ◌, rules}
 use Rattle.std.proofs.lemmas.Int.{ints, clamps}
 use Rattle.std.specs.Int.{int_max}
 use borrow.Author.Differences.{up}
@@ -421,22 +421,11 @@ within_limits z c =
 
 pub key-wider : (limit wide : ℕ) → limit ≤ wide → (key : ℤ) → IsKeyWithin limit key
     → IsKeyWithin wide key
-key-wider limit wide le key h = record {
-  low = omega (arith, ints, h.low);
-  high =
-      omega (arith, ints, h.high);
-}
+key-wider limit wide le key h = search rules
 
 pub keys-wider : (limit wide : ℕ) → limit ≤ wide → (z : ZoneBounds) → AreKeysWithin limit z
     → AreKeysWithin wide z
-keys-wider limit wide le z h = record {
-  begin_low = key-wider limit wide le z.begin_low h.begin_low;
-  begin_high = key-wider limit wide le z.begin_high h.begin_high;
-  end_low = key-wider limit wide le z.end_low h.end_low;
-  end_high = key-wider limit wide le z.end_high h.end_high;
-  dur_low = key-wider limit wide le z.dur_low h.dur_low;
-  dur_high = key-wider limit wide le z.dur_high h.dur_high;
-}
+keys-wider limit wide le z h = search rules
 
 pub canonical-keys : (z : ZoneBounds) → IsCanonical z → AreKeysWithin (2 ^ 42) z
 canonical-keys z c = keys-wider (2 * TIME_MAX + 1) (2 ^ 42) (omega arith) z (within_limits z c)

@@ -1,5 +1,5 @@
 -- What two zones hold together is a zone exactly where the loosest bounds of both hold nothing more.
-use Rattle.std.proofs.Common.{ℕ, ◌<◌, ◌≤◌, ◌^◌, ◌⊎◌, ◌↔◌, inl, inr, ⊎_elim, arith, ℤ, pos, ◌-ℤ◌, ◌≤ℤ◌}
+use Rattle.std.proofs.Common.{ℕ, ◌<◌, ◌≤◌, ◌^◌, ◌⊎◌, ◌↔◌, inl, inr, ⊎_elim, arith, ℤ, pos, ◌-ℤ◌, ◌≤ℤ◌, rules}
 use Rattle.std.proofs.lemmas.Int.{ints, clamps}
 use Rattle.std.specs.Int.{int_min, int_max}
 use Rattle.tre_pairs.specs.Pairs.{Either}
@@ -12,7 +12,7 @@ use Rattle.tre_zone.specs.declared.zone_bounds.ZoneBounds.{ZoneBounds}
 use Rattle.tre_zone.proofs.Opposites.{Meets-opposite, Meets-apart, Meets-cases}
 use Rattle.tre_zone.proofs.Paths.{Meets-min, Meets-looser}
 use Rattle.tre_zone.proofs.Sums.{sum_of-le, le_trans}
-use Rattle.tre_zone.proofs.Tightness.{Covers-Includes, Includes-Covers, keys-wider}
+use Rattle.tre_zone.proofs.Tightness.{Covers-Includes, Includes-Covers}
 
 -- ---- the loosest bounds
 
@@ -32,9 +32,7 @@ left_sum key l l' r r' le =
 
 right_sum : (key l l' r r' : ℤ) → key ≤ℤ sum_of l' r'
     → key ≤ℤ sum_of (int_max l l') (int_max r r')
-right_sum key l l' r r' le =
-    le_trans _ _ _ le (sum_of-le l' (int_max l l') r' (int_max r r') (max_right l l')
-    (max_right r r'))
+right_sum key l l' r r' le = search (rules, le_trans, sum_of-le, max_right)
 
 both_sums : (key key' l l' r r' : ℤ) → key ≤ℤ sum_of l r → key' ≤ℤ sum_of l' r'
     → int_max key key' ≤ℤ sum_of (int_max l l') (int_max r r')
@@ -67,37 +65,16 @@ looser-canonical one other c d = record {
 
 covers_left : (one other : ZoneBounds) → Covers (looser_of one other) one
 unfolding looser_of
-covers_left one other = record {
-  begin_low = max_left _ _;
-  begin_high = max_left _ _;
-  end_low = max_left _ _;
-  end_high = max_left _ _;
-  dur_low = max_left _ _;
-  dur_high = max_left _ _;
-}
+covers_left one other = search rules
 
 covers_right : (one other : ZoneBounds) → Covers (looser_of one other) other
 unfolding looser_of
-covers_right one other = record {
-  begin_low = max_right _ _;
-  begin_high = max_right _ _;
-  end_low = max_right _ _;
-  end_high = max_right _ _;
-  dur_low = max_right _ _;
-  dur_high = max_right _ _;
-}
+covers_right one other = search rules
 
 covers_both : (zone one other : ZoneBounds) → Covers zone one → Covers zone other
     → Covers zone (looser_of one other)
 unfolding looser_of
-covers_both zone one other c d = record {
-  begin_low = max_least _ _ _ c.begin_low d.begin_low;
-  begin_high = max_least _ _ _ c.begin_high d.begin_high;
-  end_low = max_least _ _ _ c.end_low d.end_low;
-  end_high = max_least _ _ _ c.end_high d.end_high;
-  dur_low = max_least _ _ _ c.dur_low d.dur_low;
-  dur_high = max_least _ _ _ c.dur_high d.dur_high;
-}
+covers_both zone one other c d = search rules
 
 -- ---- what lies beyond a bound
 
@@ -140,138 +117,12 @@ cut-met old key p q n some =
 pub cut-holds : (side : Side) (zone : ZoneBounds) (key : ℤ) (a b n : ℕ) → 0 < n
     → ZoneHolds (cut_at side zone (pos 1 -ℤ key)) a b n
     ↔ (ZoneHolds zone a b n × (MeetsAt side key a b n → ⊥))
-cut-holds BeginLow zone key a b n some =
-    let cut = cut-met zone.begin_high key 0 a n some in (
-      (λ h. (
-        record {
-          begin_low = h.begin_low;
-          begin_high = (cut.0 h.begin_high).0;
-          end_low = h.end_low;
-          end_high = h.end_high;
-          dur_low = h.dur_low;
-          dur_high = h.dur_high;
-        },
-        (cut.0 h.begin_high).1,
-      )),
-      (λ h. record {
-        begin_low = h.0.begin_low;
-        begin_high = cut.1 (h.0.begin_high, h.1);
-        end_low = h.0.end_low;
-        end_high = h.0.end_high;
-        dur_low = h.0.dur_low;
-        dur_high = h.0.dur_high;
-      }),
-    )
-cut-holds BeginHigh zone key a b n some =
-    let cut = cut-met zone.begin_low key a 0 n some in (
-      (λ h. (
-        record {
-          begin_low = (cut.0 h.begin_low).0;
-          begin_high = h.begin_high;
-          end_low = h.end_low;
-          end_high = h.end_high;
-          dur_low = h.dur_low;
-          dur_high = h.dur_high;
-        },
-        (cut.0 h.begin_low).1,
-      )),
-      (λ h. record {
-        begin_low = cut.1 (h.0.begin_low, h.1);
-        begin_high = h.0.begin_high;
-        end_low = h.0.end_low;
-        end_high = h.0.end_high;
-        dur_low = h.0.dur_low;
-        dur_high = h.0.dur_high;
-      }),
-    )
-cut-holds EndLow zone key a b n some =
-    let cut = cut-met zone.end_high key 0 b n some in (
-      (λ h. (
-        record {
-          begin_low = h.begin_low;
-          begin_high = h.begin_high;
-          end_low = h.end_low;
-          end_high = (cut.0 h.end_high).0;
-          dur_low = h.dur_low;
-          dur_high = h.dur_high;
-        },
-        (cut.0 h.end_high).1,
-      )),
-      (λ h. record {
-        begin_low = h.0.begin_low;
-        begin_high = h.0.begin_high;
-        end_low = h.0.end_low;
-        end_high = cut.1 (h.0.end_high, h.1);
-        dur_low = h.0.dur_low;
-        dur_high = h.0.dur_high;
-      }),
-    )
-cut-holds EndHigh zone key a b n some =
-    let cut = cut-met zone.end_low key b 0 n some in (
-      (λ h. (
-        record {
-          begin_low = h.begin_low;
-          begin_high = h.begin_high;
-          end_low = (cut.0 h.end_low).0;
-          end_high = h.end_high;
-          dur_low = h.dur_low;
-          dur_high = h.dur_high;
-        },
-        (cut.0 h.end_low).1,
-      )),
-      (λ h. record {
-        begin_low = h.0.begin_low;
-        begin_high = h.0.begin_high;
-        end_low = cut.1 (h.0.end_low, h.1);
-        end_high = h.0.end_high;
-        dur_low = h.0.dur_low;
-        dur_high = h.0.dur_high;
-      }),
-    )
-cut-holds DurLow zone key a b n some =
-    let cut = cut-met zone.dur_high key a b n some in (
-      (λ h. (
-        record {
-          begin_low = h.begin_low;
-          begin_high = h.begin_high;
-          end_low = h.end_low;
-          end_high = h.end_high;
-          dur_low = h.dur_low;
-          dur_high = (cut.0 h.dur_high).0;
-        },
-        (cut.0 h.dur_high).1,
-      )),
-      (λ h. record {
-        begin_low = h.0.begin_low;
-        begin_high = h.0.begin_high;
-        end_low = h.0.end_low;
-        end_high = h.0.end_high;
-        dur_low = h.0.dur_low;
-        dur_high = cut.1 (h.0.dur_high, h.1);
-      }),
-    )
-cut-holds DurHigh zone key a b n some =
-    let cut = cut-met zone.dur_low key b a n some in (
-      (λ h. (
-        record {
-          begin_low = h.begin_low;
-          begin_high = h.begin_high;
-          end_low = h.end_low;
-          end_high = h.end_high;
-          dur_low = (cut.0 h.dur_low).0;
-          dur_high = h.dur_high;
-        },
-        (cut.0 h.dur_low).1,
-      )),
-      (λ h. record {
-        begin_low = h.0.begin_low;
-        begin_high = h.0.begin_high;
-        end_low = h.0.end_low;
-        end_high = h.0.end_high;
-        dur_low = cut.1 (h.0.dur_low, h.1);
-        dur_high = h.0.dur_high;
-      }),
-    )
+cut-holds BeginLow zone key a b n some = search (rules, cut-met, zone.begin_high)
+cut-holds BeginHigh zone key a b n some = search (rules, cut-met, zone.begin_low)
+cut-holds EndLow zone key a b n some = search (rules, cut-met, zone.end_high)
+cut-holds EndHigh zone key a b n some = search (rules, cut-met, zone.end_low)
+cut-holds DurLow zone key a b n some = search (rules, cut-met, zone.dur_high)
+cut-holds DurHigh zone key a b n some = search (rules, cut-met, zone.dur_low)
 
 pub held-beyond : (side : Side) (whole one other : ZoneBounds)
     → Includes other (cut_at side whole (pos 1 -ℤ key_at side one))
@@ -358,16 +209,7 @@ union-beyond one other zone c d union side =
 pub union-all : (one other zone : ZoneBounds) → IsCanonical one → IsCanonical other
     → IsZoneOf zone (Either (ZoneHolds one) (ZoneHolds other))
     → AreHeldBeyond (looser_of one other) one other
-union-all one other zone c d union =
-    let beyond = union-beyond one other zone c d union in
-    record {
-      begin_low = beyond BeginLow;
-      begin_high = beyond BeginHigh;
-      end_low = beyond EndLow;
-      end_high = beyond EndHigh;
-      dur_low = beyond DurLow;
-      dur_high = beyond DurHigh;
-    }
+union-all one other zone c d union = search (rules, union-beyond)
 
 -- ---- keys within limits
 
@@ -380,96 +222,20 @@ key-within EndHigh limit zone h = h.end_high
 key-within DurLow limit zone h = h.dur_low
 key-within DurHigh limit zone h = h.dur_high
 
-min_most : (x y z : ℤ) → x ≤ℤ z → int_min x y ≤ℤ z
-min_most x y z h = omega (arith, ints, clamps)
-
 pub cut-framed : (side : Side) (zone : ZoneBounds) (key : ℤ) → IsFramed zone
     → IsFramed (cut_at side zone key)
 cut-framed BeginLow zone key h = record { starts = h.starts; ends = h.ends; lasts = h.lasts }
-cut-framed BeginHigh zone key h = record {
-  starts = min_most zone.begin_low key _ h.starts;
-  ends = h.ends;
-  lasts = h.lasts;
-}
-cut-framed EndLow zone key h = record {
-  starts = h.starts;
-  ends = min_most zone.end_high key _ h.ends;
-  lasts = h.lasts;
-}
+cut-framed BeginHigh zone key h = search rules
+cut-framed EndLow zone key h = search rules
 cut-framed EndHigh zone key h = record { starts = h.starts; ends = h.ends; lasts = h.lasts }
 cut-framed DurLow zone key h = record { starts = h.starts; ends = h.ends; lasts = h.lasts }
-cut-framed DurHigh zone key h = record {
-  starts = h.starts;
-  ends = h.ends;
-  lasts = min_most zone.dur_low key _ h.lasts;
-}
-
-cut_key : (old key : ℤ) → IsKeyWithin (2 ^ 42) old → IsKeyWithin (2 ^ 42) key
-    → IsKeyWithin (2 ^ 45) (int_min old (pos 1 -ℤ key))
-cut_key old key h k = record {
-  low = omega (arith, ints, clamps, h.low, k.high);
-  high = omega (arith, ints, clamps, h.high);
-}
+cut-framed DurHigh zone key h = search rules
 
 pub cut-keys : (side : Side) (zone : ZoneBounds) (key : ℤ) → AreKeysWithin (2 ^ 42) zone
     → IsKeyWithin (2 ^ 42) key → AreKeysWithin (2 ^ 45) (cut_at side zone (pos 1 -ℤ key))
-cut-keys BeginLow zone key h k =
-    let wide = keys-wider (2 ^ 42) (2 ^ 45) (omega arith) zone h in
-    record {
-      begin_low = wide.begin_low;
-      begin_high = cut_key _ _ h.begin_high k;
-      end_low = wide.end_low;
-      end_high = wide.end_high;
-      dur_low = wide.dur_low;
-      dur_high = wide.dur_high;
-    }
-cut-keys BeginHigh zone key h k =
-    let wide = keys-wider (2 ^ 42) (2 ^ 45) (omega arith) zone h in
-    record {
-      begin_low = cut_key _ _ h.begin_low k;
-      begin_high = wide.begin_high;
-      end_low = wide.end_low;
-      end_high = wide.end_high;
-      dur_low = wide.dur_low;
-      dur_high = wide.dur_high;
-    }
-cut-keys EndLow zone key h k =
-    let wide = keys-wider (2 ^ 42) (2 ^ 45) (omega arith) zone h in
-    record {
-      begin_low = wide.begin_low;
-      begin_high = wide.begin_high;
-      end_low = wide.end_low;
-      end_high = cut_key _ _ h.end_high k;
-      dur_low = wide.dur_low;
-      dur_high = wide.dur_high;
-    }
-cut-keys EndHigh zone key h k =
-    let wide = keys-wider (2 ^ 42) (2 ^ 45) (omega arith) zone h in
-    record {
-      begin_low = wide.begin_low;
-      begin_high = wide.begin_high;
-      end_low = cut_key _ _ h.end_low k;
-      end_high = wide.end_high;
-      dur_low = wide.dur_low;
-      dur_high = wide.dur_high;
-    }
-cut-keys DurLow zone key h k =
-    let wide = keys-wider (2 ^ 42) (2 ^ 45) (omega arith) zone h in
-    record {
-      begin_low = wide.begin_low;
-      begin_high = wide.begin_high;
-      end_low = wide.end_low;
-      end_high = wide.end_high;
-      dur_low = wide.dur_low;
-      dur_high = cut_key _ _ h.dur_high k;
-    }
-cut-keys DurHigh zone key h k =
-    let wide = keys-wider (2 ^ 42) (2 ^ 45) (omega arith) zone h in
-    record {
-      begin_low = wide.begin_low;
-      begin_high = wide.begin_high;
-      end_low = wide.end_low;
-      end_high = wide.end_high;
-      dur_low = cut_key _ _ h.dur_low k;
-      dur_high = wide.dur_high;
-    }
+cut-keys BeginLow zone key h k = search rules
+cut-keys BeginHigh zone key h k = search rules
+cut-keys EndLow zone key h k = search rules
+cut-keys EndHigh zone key h k = search rules
+cut-keys DurLow zone key h k = search rules
+cut-keys DurHigh zone key h k = search rules

@@ -1,5 +1,5 @@
 -- Lists of zones: one more zone at the end.
-use Rattle.std.proofs.Common.{ℕ, zero, suc, ◌<◌, ◌≤◌, ◌⊎◌, ◌↔◌, List, [], ◌∷◌, ◌++◌, length, get_or, inl, inr, ⊎_elim, arith}
+use Rattle.std.proofs.Common.{ℕ, zero, suc, ◌<◌, ◌≤◌, ◌⊎◌, ◌↔◌, List, [], ◌∷◌, ◌++◌, length, get_or, inl, inr, ⊎_elim, arith, rules}
 use Rattle.tre_pairs.specs.Pairs.{Pairs}
 use Rattle.tre_zone.specs.Zone.{ZoneHolds, IsCanonical}
 use Rattle.tre_zone.specs.ZoneList.{SetHolds, AreApart, IsApartFrom, IsApart, AreCanonical, AreTight, HoldExactly}
@@ -26,11 +26,7 @@ SetHolds-append (zone ∷ left) right a b n =
 pub SetHolds-push : (zones : List ZoneBounds) (zone : ZoneBounds) (a b n : ℕ)
     → SetHolds (zones ++ zone ∷ []) a b n ↔ (SetHolds zones a b n ⊎ ZoneHolds zone a b n)
 unfolding SetHolds
-SetHolds-push zones zone a b n =
-    let parts = SetHolds-append zones (zone ∷ []) a b n in (
-      (λ h. ⊎_elim (λ x. inl x) (λ x. ⊎_elim (λ y. inr y) (λ y. absurd y) x) (parts.0 h)),
-      (λ h. ⊎_elim (λ x. parts.1 (inl x)) (λ x. parts.1 (inr (inl x))) h),
-    )
+SetHolds-push zones zone a b n = search (rules, SetHolds-append)
 
 pub AreApart-swap : (one other : ZoneBounds) → AreApart one other → AreApart other one
 AreApart-swap one other apart = record { left = apart.right; right = apart.left }
@@ -53,8 +49,9 @@ pub IsApart-push : (zones : List ZoneBounds) (zone : ZoneBounds) → IsApart zon
 unfolding IsApart IsApartFrom
 IsApart-push [] zone apart new = (tt, tt)
 IsApart-push (other ∷ zones) zone apart new = (
-  IsApartFrom-push other zones zone apart.0 (AreApart-swap zone other new.0),
-  IsApart-push zones zone apart.1 new.1,
+  IsApartFrom-push other zones _ apart.0 (AreApart-swap _ other new.0),
+  IsApart-push zones _
+      apart.1 new.1,
 )
 
 pub AreCanonical-empty : AreCanonical []
@@ -65,8 +62,7 @@ pub AreCanonical-push : (zones : List ZoneBounds) (zone : ZoneBounds) → AreCan
     → IsCanonical zone → AreCanonical (zones ++ zone ∷ [])
 unfolding AreCanonical
 AreCanonical-push [] zone all new = (new, tt)
-AreCanonical-push (other ∷ zones) zone all new =
-    (all.0, AreCanonical-push zones zone all.1 new)
+AreCanonical-push (other ∷ zones) zone all new = (all.0, AreCanonical-push zones _ all.1 new)
 
 -- A zone that is apart from a list is apart from each member.
 pub IsApartFrom-at : (zone : ZoneBounds) (zones : List ZoneBounds) (i : ℕ) (d : ZoneBounds)
@@ -88,5 +84,4 @@ AreCanonical-tight (zone ∷ zones) all =
 pub HoldExactly-empty : (relation : Pairs) → ((a b n : ℕ) → 0 < n → a ≤ b → relation a b n → ⊥)
     → HoldExactly [] relation
 unfolding SetHolds
-HoldExactly-empty relation never = record
-    { exact = λ a b n some le. ((λ h. absurd h), (λ h. absurd (never a b n some le h))) }
+HoldExactly-empty relation never = search rules

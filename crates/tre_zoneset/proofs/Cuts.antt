@@ -1,5 +1,5 @@
 -- Cuts of lists of zones, one zone after another.
-use Rattle.std.proofs.Common.{◌≡◌, ℕ, ◌+◌, ◌<◌, ◌≤◌, ◌↔◌, List, [], length, get_or, take, Option, subst, ⊎_elim}
+use Rattle.std.proofs.Common.{◌≡◌, ℕ, ◌+◌, ◌<◌, ◌≤◌, ◌↔◌, List, [], length, get_or, take, Option, subst, rules}
 use Rattle.std.proofs.lemmas.List.{take_all}
 use Rattle.tre_pairs.specs.Pairs.{Pairs, Both, Lasting}
 use Rattle.tre_zone.specs.Interval.{IntervalEnds, LastsWithin}
@@ -23,11 +23,8 @@ LeavesAll-none cut = record { each = λ a b n some le h. absurd (SetHolds-empty 
 pub LeavesAll-more : (cut : Cut) (zones : List ZoneBounds) (i : ℕ) (zone : ZoneBounds)
     → i < length zones → zone ≡ get_or zones i zone → LeavesAll cut (SetHolds (take i zones))
     → LeavesAll cut (ZoneHolds zone) → LeavesAll cut (SetHolds (take (i + 1) zones))
-LeavesAll-more cut zones i zone within is old own = record {
-  each = λ a b n some le h.
-      ⊎_elim (λ x. old.each a b n some le x) (λ x. own.each a b n some le x)
-      ((SetHolds-more zones i zone within is a b n).0 h);
-}
+LeavesAll-more cut zones i zone within is old own =
+    search (rules, SetHolds-more, old.each, own.each)
 
 pub LeavesAll-all : (cut : Cut) (zones : List ZoneBounds) (i : ℕ) → length zones ≤ i
     → LeavesAll cut (SetHolds (take i zones)) → LeavesAll cut (SetHolds zones)
@@ -38,60 +35,38 @@ LeavesAll-all cut zones i all old =
 pub LeavesAll-left : (cut : Cut) (zone rest : ZoneBounds)
     → IsZoneOf rest (Both (ZoneHolds zone) (Leaves cut)) → Includes rest zone
     → LeavesAll cut (ZoneHolds zone)
-LeavesAll-left cut zone rest is includes = record {
-  each = λ a b n some le h.
-      ((is.exact a b n some le).0 (includes.every a b n some le h)).right;
-}
+LeavesAll-left cut zone rest is includes = search rules
 
 -- A zone of which every pair is short enough.
 pub LeavesAll-up_to : (longest : Option ℕ) (zone : ZoneBounds) → AllLastUpTo longest zone
     → LeavesAll (UpTo longest) (ZoneHolds zone)
 unfolding Leaves
-LeavesAll-up_to longest zone all = record {
-  each = λ a b n some le h. all.each a b n some le h;
-}
+LeavesAll-up_to longest zone all = search rules
 
 pub HoldExactly-left : (cut : Cut) (zones : List ZoneBounds) → LeavesAll cut (SetHolds zones)
     → HoldExactly zones (Both (SetHolds zones) (Leaves cut))
-HoldExactly-left cut zones all = record {
-  exact = λ a b n some le.
-      ((λ h. record { left = h; right = all.each a b n some le h }), (λ h. h.left));
-}
+HoldExactly-left cut zones all = search rules
 
 -- ---- the three cuts
 
 within_is : (interval : IntervalEnds) (P : Pairs) (a b n : ℕ)
     → Lasting (LastsWithin interval) P a b n ↔ Both P (Leaves (Within interval)) a b n
 unfolding Leaves
-within_is interval P a b n = (
-  (λ h. record { left = h.related; right = h.admitted }),
-  (λ h. record { related = h.left; admitted = h.right }),
-)
+within_is interval P a b n = search rules
 
 up_to_is : (longest : Option ℕ) (P : Pairs) (a b n : ℕ)
     → Lasting (LastsUpTo longest) P a b n ↔ Both P (Leaves (UpTo longest)) a b n
 unfolding Leaves
-up_to_is longest P a b n = (
-  (λ h. record { left = h.related; right = h.admitted }),
-  (λ h. record { related = h.left; admitted = h.right }),
-)
+up_to_is longest P a b n = search rules
 
 ending_is : (time : ℕ) (P : Pairs) (a b n : ℕ)
     → Both P (EndsAt time) a b n ↔ Both P (Leaves (EndingAt time)) a b n
 unfolding Leaves
-ending_is time P a b n = (
-  (λ h. record { left = h.left; right = h.right }),
-  (λ h. record { left = h.left; right = h.right }),
-)
+ending_is time P a b n = search rules
 
 same : (zones : List ZoneBounds) (P Q : Pairs)
     → ((a b n : ℕ) → P a b n ↔ Q a b n) → HoldExactly zones Q → HoldExactly zones P
-same zones P Q is held = record {
-  exact = λ a b n some le.
-      let one = held.exact a b n some le in
-      let two = is a b n in
-      ((λ h. two.1 (one.0 h)), (λ h. one.1 (two.0 h)));
-}
+same zones P Q is held = search rules
 
 pub HoldExactly-within : (interval : IntervalEnds) (zones : List ZoneBounds) (P : Pairs)
     → HoldExactly zones (Both P (Leaves (Within interval)))

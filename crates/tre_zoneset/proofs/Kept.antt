@@ -1,5 +1,5 @@
 -- The members that stay where a zone is added.
-use Rattle.std.proofs.Common.{◌≡◌, ℕ, ◌+◌, ◌<◌, ◌≤◌, ◌⊎◌, Bool, true, false, List, [], ◌∷◌, ◌++◌, length, get_or, take, Any, refl, sym, subst, inl, inr, ⊎_elim, arith}
+use Rattle.std.proofs.Common.{◌≡◌, ℕ, ◌+◌, ◌<◌, ◌≤◌, ◌⊎◌, Bool, true, false, List, [], ◌∷◌, ◌++◌, length, get_or, take, Any, refl, sym, subst, inl, inr, ⊎_elim, arith, rules}
 use Rattle.std.proofs.lemmas.List.{take_more, take_all}
 use Rattle.std.specs.List.{items_where_true}
 use Rattle.std.specs.List.Retain.{ReturnsInTurn, IsFiltered}
@@ -74,10 +74,7 @@ module _ (P : ZoneBounds → Type 0) where
 
   pub IsZoneSet-kept : (old kept : List ZoneBounds) → Without P old kept → IsZoneSet old
       → IsZoneSet kept
-  IsZoneSet-kept old kept without set = record {
-    apart = apart old kept without set.apart;
-    canonical = canonical old kept without set.canonical;
-  }
+  IsZoneSet-kept old kept without set = search (rules, apart, canonical)
 
   -- What stays holds no more than the list did.
   pub SetHolds-kept : (old kept : List ZoneBounds) → Without P old kept → (a b n : ℕ)
@@ -191,9 +188,5 @@ AreCanonical-append (zone ∷ left) right first second =
 
 pub IsZoneSet-append : (left right : List ZoneBounds) → IsZoneSet left → IsZoneSet right
     → HasNoPair (Both (SetHolds left) (SetHolds right)) → IsZoneSet (left ++ right)
-IsZoneSet-append left right first second none = record {
-  apart = IsApart-append left right first.apart second.apart
-      (AreCanonical-tight left first.canonical) second.canonical
-      (λ a b n some le x y. none.never a b n some le (record { left = x; right = y }));
-  canonical = AreCanonical-append left right first.canonical second.canonical;
-}
+IsZoneSet-append left right first second none =
+    search (rules, IsApart-append, AreCanonical-tight, AreCanonical-append, first.apart, none.never)

@@ -1,5 +1,5 @@
 -- Some member of a list of zones, and the list of a set with one more member.
-use Rattle.std.proofs.Common.{◌≡◌, ℕ, zero, suc, ◌+◌, ◌<◌, ◌⊎◌, ◌↔◌, Bool, true, false, IsTrue, MatchBool, List, [], ◌∷◌, ◌++◌, length, get_or, take, Any, refl, sym, subst, ◌∙◌, inl, inr, ⊎_elim, arith}
+use Rattle.std.proofs.Common.{◌≡◌, ℕ, zero, suc, ◌+◌, ◌<◌, ◌⊎◌, ◌↔◌, Bool, true, false, IsTrue, MatchBool, List, [], ◌∷◌, ◌++◌, length, get_or, take, Any, refl, sym, subst, ◌∙◌, inl, inr, ⊎_elim, arith, rules}
 use Rattle.std.specs.List.{HoldsAt, AllWithin}
 use Rattle.std.proofs.lemmas.List.{take_more, get_or_default}
 use Rattle.tre_zone.specs.Zone.{ZoneHolds, IsCanonical}
@@ -19,8 +19,7 @@ Any-tail P zone zones any = (suc any.0, any.1, omega (arith, any.2), any.3, any.
 pub Any-cases : (P : ZoneBounds → Type 0) (zone : ZoneBounds) (zones : List ZoneBounds)
     → Any P (zone ∷ zones) → P zone ⊎ Any P zones
 Any-cases P zone zones (zero, member, within, is, p) = inl (subst P (sym is) p)
-Any-cases P zone zones (suc k, member, within, is, p) =
-    inr (k, member, omega (arith, within), is, p)
+Any-cases P zone zones (suc k, member, within, is, p) = search rules
 
 -- A set holds a pair where some member does.
 pub SetHolds-any : (zones : List ZoneBounds) (a b n : ℕ)
@@ -48,20 +47,15 @@ pub any_is : (P : ZoneBounds → Type 0) (answer : Bool) (zones : List ZoneBound
     (AllWithin (λ zone. P zone → ⊥) zones 0 (length zones))
     → IsTrue answer ↔ Any P zones
 any_is P true zones found = ((λ t. any_at P zones found.0 found.1 found.2), (λ any. refl))
-any_is P false zones none = (
-  (λ t. absurd (cc)),
-  (λ any. absurd (none any.0 any.1 (omega arith) any.2 (subst P (sym any.3) any.4))),
-)
+any_is P false zones none = search rules
 
 pub IsZoneSet-empty : IsZoneSet []
 IsZoneSet-empty = record { apart = IsApart-empty; canonical = AreCanonical-empty }
 
 pub IsZoneSet-push : (zones : List ZoneBounds) (zone : ZoneBounds) → IsZoneSet zones
     → IsApartFrom zone zones → IsCanonical zone → IsZoneSet (zones ++ zone ∷ [])
-IsZoneSet-push zones zone set apart canonical = record {
-  apart = IsApart-push zones zone set.apart apart;
-  canonical = AreCanonical-push zones zone set.canonical canonical;
-}
+IsZoneSet-push zones zone set apart canonical =
+    search (rules, IsApart-push, AreCanonical-push, set.apart, set.canonical)
 
 -- The first zones of a list, and one more.
 pub SetHolds-more : (zones : List ZoneBounds) (i : ℕ) (zone : ZoneBounds) → i < length zones

@@ -1,12 +1,12 @@
 -- Lists that are made of two others, zone by zone.
-use Rattle.std.proofs.Common.{◌≡◌, ℕ, ◌+◌, ◌-◌, ◌<◌, ◌≤◌, ◌⊎◌, ◌↔◌, List, [], ◌∷◌, ◌++◌, length, length-drop, get_or, take, drop, inl, inr, ⊎_elim, subst, arith}
+use Rattle.std.proofs.Common.{◌≡◌, ℕ, ◌+◌, ◌-◌, ◌<◌, ◌≤◌, ◌⊎◌, ◌↔◌, List, [], ◌∷◌, ◌++◌, length, length-drop, get_or, take, drop, inl, inr, ⊎_elim, subst, arith, rules}
 use Rattle.std.proofs.lemmas.List.{take_all, take-append-drop}
 use Rattle.tre_pairs.specs.Pairs.{Either}
 use Rattle.tre_zone.specs.ZoneList.{SetHolds, HoldExactly}
 use Rattle.tre_zone.specs.declared.zone_bounds.ZoneBounds.{ZoneBounds}
-use Rattle.tre_zone.proofs.ZoneListLemmas.{SetHolds-append, SetHolds-empty}
+use Rattle.tre_zone.proofs.ZoneListLemmas.{SetHolds-append}
 use Rattle.tre_zoneset.proofs.Members.{SetHolds-more}
-use Rattle.tre_zoneset.proofs.Unions.{HoldExactly-more, HoldExactly-none, HoldExactly-push}
+use Rattle.tre_zoneset.proofs.Unions.{HoldExactly-more, HoldExactly-push}
 
 -- The zones are those of the first list up to one place, and of the second up to another.
 abbrev pub AreMerged : List ZoneBounds → List ZoneBounds → ℕ → List ZoneBounds → ℕ → Type 0
@@ -14,8 +14,7 @@ AreMerged zones one i other j =
     HoldExactly zones (Either (SetHolds (take i one)) (SetHolds (take j other)))
 
 pub AreMerged-none : (one other : List ZoneBounds) → AreMerged [] one 0 other 0
-AreMerged-none one other = HoldExactly-none _
-    (λ a b n h. ⊎_elim (λ x. SetHolds-empty a b n x) (λ x. SetHolds-empty a b n x) h)
+AreMerged-none one other = search rules
 
 -- The next zone of the first list comes next.
 pub AreMerged-first : (zones one : List ZoneBounds) (i : ℕ) (other : List ZoneBounds) (j : ℕ)

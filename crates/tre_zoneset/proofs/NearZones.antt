@@ -1,5 +1,5 @@
 -- Zones that are apart from one by how far their begins reach.
-use Rattle.std.proofs.Common.{◌≡◌, ℕ, suc, ◌+◌, ◌-◌, ◌<◌, ◌≤◌, List, [], ◌∷◌, ◌++◌, length, get_or, refl, sym, subst, ⊎_elim, arith, ◌<ℤ◌}
+use Rattle.std.proofs.Common.{◌≡◌, ℕ, suc, ◌+◌, ◌-◌, ◌<◌, ◌≤◌, List, [], ◌∷◌, ◌++◌, length, get_or, refl, sym, subst, ⊎_elim, arith, ◌<ℤ◌, rules}
 use Rattle.std.proofs.lemmas.Int.{ints}
 use Rattle.std.proofs.lemmas.Bool.{cases_lt}
 use Rattle.std.proofs.lemmas.List.{get_or_append_left, length-append}
@@ -34,23 +34,12 @@ pub record IsApartBehind (zone : ZoneBounds) (zones : List ZoneBounds) (place : 
 
 pub IsApartBehind-end : (zone : ZoneBounds) (zones : List ZoneBounds)
     → IsApartBehind zone zones (length zones)
-IsApartBehind-end zone zones = record {
-  within = omega arith;
-  each = λ k d starts ends. absurd (omega (arith, starts, ends));
-}
+IsApartBehind-end zone zones = search rules
 
 pub IsApartBehind-more : (zone : ZoneBounds) (zones : List ZoneBounds) (place : ℕ)
     → IsApartBehind zone zones (place + 1)
     → ((d : ZoneBounds) → AreApart zone (get_or zones place d)) → IsApartBehind zone zones place
-IsApartBehind-more zone zones place behind here = record {
-  within = omega (arith, behind.within);
-  each = λ k d starts ends. ⊎_elim
-      (λ more. behind.each k d (omega (arith, more)) ends)
-      (λ no_more.
-      let same : k ≡ place = omega (arith, starts, no_more) in
-      subst (λ (j : ℕ). AreApart zone (get_or zones j d)) (sym same) (here d))
-      (cases_lt place k);
-}
+IsApartBehind-more zone zones place behind here = search rules
 
 pub IsApartFrom-behind : (zone : ZoneBounds) (zones : List ZoneBounds)
     → IsApartBehind zone zones 0 → IsApartFrom zone zones
@@ -83,10 +72,7 @@ IsApartFrom-beyond zone zones reaches place reach c canonical reached within is 
     })
 
 pub AreReached-none : AreReached [] []
-AreReached-none = record {
-  count = refl;
-  each = λ k j d r le within. absurd (omega (arith, within));
-}
+AreReached-none = search rules
 
 seam : {X : Type 0} (xs : List X) (y d : X) → get_or (xs ++ y ∷ []) (length xs) d ≡ y
 seam [] y d = refl

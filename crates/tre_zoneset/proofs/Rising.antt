@@ -1,5 +1,5 @@
 -- Zones of which each rises behind the one before it are apart.
-use Rattle.std.proofs.Common.{◌≡◌, ℕ, ◌+◌, ◌<◌, ◌≤◌, List, [], ◌∷◌, ◌++◌, length, get_or, take, Option, Some, None, subst, ◌∙◌, inl, inr, arith, ℤ, ◌≤ℤ◌}
+use Rattle.std.proofs.Common.{◌≡◌, ℕ, ◌+◌, ◌<◌, ◌≤◌, List, [], ◌∷◌, ◌++◌, length, get_or, take, Option, Some, None, subst, inl, inr, arith, ℤ, ◌≤ℤ◌, rules}
 use Rattle.std.proofs.lemmas.Int.{ints}
 use Rattle.std.proofs.lemmas.List.{take_more, take_all}
 use Rattle.tre_zone.specs.Zone.{Covers, IsCanonical}
@@ -19,8 +19,7 @@ unfolding IsLess
 less_trans a b c d e f (inl one) (inl two) = inl (omega (arith, ints, one, two))
 less_trans a b c d e f (inl one) (inr two) = inl (rw two.0 at one)
 less_trans a b c d e f (inr one) (inl two) = inl (rw (← one.0) at two)
-less_trans a b c d e f (inr one) (inr two) =
-    inr (one.0 ∙ two.0, omega (arith, ints, one.1, two.1))
+less_trans a b c d e f (inr one) (inr two) = search rules
 
 not_less : (a b c d : ℤ) → IsLess a b c d → c ≤ℤ a → d ≤ℤ b → ⊥
 unfolding IsLess
@@ -35,10 +34,8 @@ higher_trans End one two three first second = less_trans _ _ _ _ _ _ first secon
 
 rises_trans : (high : High) (one two three : ZoneBounds) → Rises high one two
     → Rises high two three → Rises high one three
-rises_trans high one two three first second = record {
-  later = less_trans _ _ _ _ _ _ second.later first.later;
-  higher = higher_trans high one two three first.higher second.higher;
-}
+rises_trans high one two three first second =
+    search (rules, less_trans, higher_trans, second.later, first.higher)
 
 not_higher : (high : High) (before zone : ZoneBounds) → IsHigher high before zone
     → Covers before zone → ⊥
@@ -50,12 +47,8 @@ not_higher End before zone higher covers =
 
 apart : (high : High) (early late : ZoneBounds) → IsCanonical early → IsCanonical late
     → Rises high early late → AreApart late early
-apart high early late c d rises = record {
-  left = λ h.
-      let covers = Includes-Covers late early c h in
-      not_less _ _ _ _ rises.later covers.begin_low covers.end_low;
-  right = λ h. not_higher high early late rises.higher (Includes-Covers early late d h);
-}
+apart high early late c d rises =
+    search (rules, Includes-Covers, not_less, not_higher, rises.later, rises.higher)
 
 pub IsBehind-some : (high : High) (before zone : ZoneBounds) → Rises high before zone
     → IsBehind high (Some before) zone

@@ -1,5 +1,5 @@
 -- Lists of zones of which only those are looked at whose rows reach a key.
-use Rattle.std.proofs.Common.{◌≡◌, ℕ, zero, suc, ◌+◌, ◌-◌, ◌<◌, ◌≤◌, ◌↔◌, List, [], ◌∷◌, length, get_or, map, take, sym, ◌∙◌, subst, ⊎_elim, arith, ℤ}
+use Rattle.std.proofs.Common.{◌≡◌, ℕ, zero, suc, ◌+◌, ◌-◌, ◌<◌, ◌≤◌, ◌↔◌, List, [], ◌∷◌, length, get_or, map, take, sym, ◌∙◌, subst, ⊎_elim, arith, ℤ, rules}
 use Rattle.std.proofs.lemmas.Bool.{cases_lt}
 use Rattle.std.proofs.lemmas.List.{get_or-map, get_or_default, length-map, take_all}
 use Rattle.tre_lanes.specs.Rows.{Reaches, HasNone, IsNext}
@@ -46,9 +46,7 @@ module _ (F : Pairs → Pairs) (additive : IsAdditive F) (start zones now : List
 
   pass : (d : ZoneBounds) (from count : ℕ) → HasNone (map row_of zones) key from (from + count)
       → HoldsFirst F start zones from now → HoldsFirst F start zones (from + count) now
-  pass d from zero none old =
-      let same : from ≡ from + zero = omega arith in
-      subst (λ k. HoldsFirst F start zones k now) same old
+  pass d from zero none old = search rules
   pass d from (suc count) none old =
       let fewer : HasNone (map row_of zones) key from (from + count) =
       record { none = λ k starts ends within. none.none k starts (omega (arith, ends)) within }
@@ -124,9 +122,7 @@ module _ (F : Pairs → Pairs) (additive : IsAdditive F) (start zones now : List
 
 pub HoldsFirst-none : (F : Pairs → Pairs) (start zones : List ZoneBounds)
     → ((a b n : ℕ) → F (SetHolds []) a b n → ⊥) → HoldsFirst F start zones 0 start
-HoldsFirst-none F start zones never = record {
-  held = HoldExactly-none_beside start (F (SetHolds [])) never;
-}
+HoldsFirst-none F start zones never = search rules
 
 pub canonical_at : (zones : List ZoneBounds) (k : ℕ) (d : ZoneBounds) → AreCanonical zones
     → k < length zones → IsCanonical (get_or zones k d)
@@ -142,7 +138,4 @@ pub IsKeyOf-canonical : (F : Pairs → Pairs) (zones : List ZoneBounds) (key : L
     → ((other : ZoneBounds) → IsCanonical other → (Reaches (row_of other) key → ⊥)
     → HasNoPair (F (ZoneHolds other)))
     → IsKeyOf F zones key
-IsKeyOf-canonical F zones key all never = record {
-  never = λ k d within not_reached.
-      never (get_or zones k d) (canonical_at zones k d all within) not_reached;
-}
+IsKeyOf-canonical F zones key all never = search (rules, never, canonical_at)

@@ -1,5 +1,5 @@
 -- Lists of zones of which only a stretch is looked at: no other can reach a key.
-use Rattle.std.proofs.Common.{◌≡◌, ℕ, zero, suc, ◌+◌, ◌-◌, ◌≤◌, ◌⊎◌, ◌↔◌, List, [], ◌∷◌, ◌++◌, map, take, drop, refl, ap, subst, inl, inr, ⊎_elim, arith, ℤ}
+use Rattle.std.proofs.Common.{◌≡◌, ℕ, zero, suc, ◌+◌, ◌-◌, ◌≤◌, ◌⊎◌, ◌↔◌, List, [], ◌∷◌, ◌++◌, map, take, drop, refl, ap, subst, inl, inr, ⊎_elim, arith, ℤ, rules}
 use Rattle.std.specs.List.{slice_range}
 use Rattle.tre_pairs.specs.Pairs.{Pairs, Either}
 use Rattle.tre_zone.specs.Zone.{row_of}
@@ -13,8 +13,7 @@ use Rattle.tre_zoneset.proofs.Searching.{IsKeyOf, HoldsFirst, HoldsFirst-none, H
 
 take_add : {X : Type 0} (list : List X) (from count to : ℕ) → to ≡ from + count
     → take from list ++ take count (drop from list) ≡ take to list
-take_add list zero count to is = let same : count ≡ to = omega arith in
-    ap (λ (k : ℕ). take k list) same
+take_add list zero count to is = search rules
 take_add [] (suc from) count zero is = absurd (omega arith)
 take_add [] (suc from) zero (suc to) is = refl
 take_add [] (suc from) (suc count) (suc to) is = refl

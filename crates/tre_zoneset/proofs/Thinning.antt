@@ -1,5 +1,5 @@
 -- Zones that are kept where no kept one includes them, first from one end and then from the other.
-use Rattle.std.proofs.Common.{◌≡◌, ℕ, zero, suc, ◌+◌, ◌<◌, ◌⊎◌, ◌↔◌, List, [], ◌∷◌, ◌++◌, length, get_or, take, reverse, Any, sym, subst, inl, inr, ⊎_elim, arith}
+use Rattle.std.proofs.Common.{◌≡◌, ℕ, zero, suc, ◌+◌, ◌<◌, ◌⊎◌, ◌↔◌, List, [], ◌∷◌, ◌++◌, length, get_or, take, reverse, Any, sym, subst, inl, inr, ⊎_elim, arith, rules}
 use Rattle.std.specs.List.Sorted.{IsPermutation}
 use Rattle.std.proofs.lemmas.List.{take_more, reverse-append}
 use Rattle.std.proofs.lemmas.List.Sorted.{IsPermutation-sym, Contains-permutation}
@@ -31,8 +31,7 @@ module _ (P : ZoneBounds → Type 0) where
 
   any_split : (zones : List ZoneBounds) (zone : ZoneBounds) → Any P (zones ++ zone ∷ [])
       → Any P zones ⊎ P zone
-  any_split [] zone any =
-      ⊎_elim (λ x. inr x) (λ x. absurd (any_none x)) (Any-cases P zone [] any)
+  any_split [] zone any = search rules
   any_split (other ∷ zones) zone any =
       ⊎_elim (λ x. inl (Any-head P other zones x))
       (λ x.
@@ -140,13 +139,7 @@ apart (zone ∷ zones) later earlier =
 
 pub IsThinned-empty : IsThinned [] []
 unfolding IncludesNoLater
-IsThinned-empty = record {
-  canonical = AreCanonical-empty;
-  held = record { exact = λ a b n some le. ((λ h. h), (λ h. h)) };
-  later = tt;
-  earlier = λ h. h;
-  among = λ zone none. none;
-}
+IsThinned-empty = search (rules, AreCanonical-empty)
 
 kept : (zones now : List ZoneBounds) (zone : ZoneBounds) → IsThinned zones now
     → IsCanonical zone → (Any (λ member. Includes member zone) now → ⊥)
@@ -226,10 +219,7 @@ moved zones others a b n order held =
 
 pub SetHolds-permutation : (zones others : List ZoneBounds) (a b n : ℕ) → IsPermutation zones others
     → SetHolds others a b n ↔ SetHolds zones a b n
-SetHolds-permutation zones others a b n order = (
-  moved others zones a b n (IsPermutation-sym zones others order),
-  moved zones others a b n order,
-)
+SetHolds-permutation zones others a b n order = search (rules, moved, IsPermutation-sym)
 
 pub HoldExactly-moved : (zones others : List ZoneBounds) → IsPermutation zones others
     → HoldExactly others (SetHolds zones)
@@ -238,28 +228,17 @@ HoldExactly-moved zones others order = record
 
 HoldExactly-trans : (one two three : List ZoneBounds) → HoldExactly one (SetHolds two)
     → HoldExactly two (SetHolds three) → HoldExactly one (SetHolds three)
-HoldExactly-trans one two three left right = record {
-  exact = λ a b n some le.
-      let x = left.exact a b n some le in
-      let y = right.exact a b n some le in
-      ((λ h. y.0 (x.0 h)), (λ h. x.1 (y.1 h)));
-}
+HoldExactly-trans one two three left right = search rules
 
 -- Thinned from one end, and then from the other, the zones are a set.
 pub IsZoneSet-thinned : (first second : List ZoneBounds) → IncludesNoLater first
     → IsThinned (reverse first) second → IsZoneSet (reverse second)
-IsZoneSet-thinned first second later thinned = record {
-  apart = apart (reverse second)
-      (later-reverse second (thinned.earlier (earlier-reverse first later)))
-      (earlier-reverse second thinned.later);
-  canonical = canonical-reverse second thinned.canonical;
-}
+IsZoneSet-thinned first second later thinned =
+    search (rules, apart, later-reverse, earlier-reverse, canonical-reverse, thinned.earlier)
 
 pub HoldExactly-thinned : (zones sorted first turned second last : List ZoneBounds)
     → HoldExactly sorted (SetHolds zones) → IsThinned sorted first → IsPermutation first turned
     → IsThinned turned second → IsPermutation second last → HoldExactly last (SetHolds zones)
 HoldExactly-thinned zones sorted first turned second last p one q two r =
-    HoldExactly-trans last second zones (HoldExactly-moved second last r)
-    (HoldExactly-trans second turned zones two.held
-    (HoldExactly-trans turned first zones (HoldExactly-moved first turned q)
-    (HoldExactly-trans first sorted zones one.held p)))
+    HoldExactly-trans _ _ _ (HoldExactly-moved _ _ r) (HoldExactly-trans _ _ _ two.held
+    (HoldExactly-trans _ _ _ (HoldExactly-moved _ _ q) (HoldExactly-trans _ _ _ one.held p)))

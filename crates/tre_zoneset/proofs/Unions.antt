@@ -1,5 +1,5 @@
 -- A set that grows by what it is to unite.
-use Rattle.std.proofs.Common.{◌≡◌, ℕ, ◌+◌, ◌<◌, ◌≤◌, ◌⊎◌, ◌↔◌, List, [], ◌∷◌, ◌++◌, length, get_or, take, Any, Option, Some, None, Result, Ok, Err, OnErr, subst, ◌∙◌, inl, inr, ⊎_elim, arith}
+use Rattle.std.proofs.Common.{◌≡◌, ℕ, ◌+◌, ◌<◌, ◌≤◌, ◌⊎◌, ◌↔◌, List, [], ◌∷◌, ◌++◌, length, get_or, take, Any, Option, Some, None, Result, Ok, Err, OnErr, inl, inr, ⊎_elim, arith, rules}
 use Rattle.std.proofs.lemmas.List.{take_all}
 use Rattle.tre_pairs.specs.Pairs.{Pairs, Either, Both, Lasting}
 use Rattle.tre_zone.specs.Zone.{ZoneHolds, Includes, GivesZone}
@@ -23,9 +23,7 @@ SetHolds-included (other ∷ zones) zone any a b n some le h =
 pub HoldExactly-itself : (zones : List ZoneBounds) (P : Pairs)
     → ((a b n : ℕ) → 0 < n → a ≤ b → P a b n → SetHolds zones a b n)
     → HoldExactly zones (Either (SetHolds zones) P)
-HoldExactly-itself zones P held = record {
-  exact = λ a b n some le. ((λ h. inl h), (λ h. ⊎_elim (λ x. x) (λ x. held a b n some le x) h));
-}
+HoldExactly-itself zones P held = search rules
 
 -- A zone that a member includes brings nothing.
 pub HoldExactly-included : (zones : List ZoneBounds) (zone : ZoneBounds)
@@ -38,15 +36,7 @@ HoldExactly-included zones zone any = HoldExactly-itself zones (ZoneHolds zone)
 pub HoldExactly-more : (now next : List ZoneBounds) (P Q R : Pairs) → HoldExactly now P
     → HoldExactly next (Either (SetHolds now) Q)
     → ((a b n : ℕ) → 0 < n → a ≤ b → R a b n ↔ (P a b n ⊎ Q a b n)) → HoldExactly next R
-HoldExactly-more now next P Q R held more same = record {
-  exact = λ a b n some le.
-      let old = held.exact a b n some le in
-      let new = more.exact a b n some le in
-      let both = same a b n some le in (
-        (λ h. both.1 (⊎_elim (λ x. inl (old.0 x)) (λ x. inr x) (new.0 h))),
-        (λ h. new.1 (⊎_elim (λ x. inl (old.1 x)) (λ x. inr x) (both.0 h))),
-      );
-}
+HoldExactly-more now next P Q R held more same = search rules
 
 pub HoldExactly-push : (zones : List ZoneBounds) (zone : ZoneBounds)
     → HoldExactly (zones ++ zone ∷ []) (Either (SetHolds zones) (ZoneHolds zone))
@@ -56,15 +46,8 @@ HoldExactly-push zones zone = record { exact = λ a b n some le. SetHolds-push z
 pub HoldExactly-added : (old kept : List ZoneBounds) (zone : ZoneBounds)
     → Without (Includes zone) old kept
     → HoldExactly (kept ++ zone ∷ []) (Either (SetHolds old) (ZoneHolds zone))
-HoldExactly-added old kept zone without = record {
-  exact = λ a b n some le.
-      let last = SetHolds-push kept zone a b n in (
-        (λ h. ⊎_elim (λ x. inl (SetHolds-kept (Includes zone) old kept without a b n x))
-            (λ x. inr x) (last.0 h)),
-        (λ h. last.1 (⊎_elim (λ x. SetHolds-dropped zone old kept without a b n some le x)
-            (λ x. inr x) h)),
-      );
-}
+HoldExactly-added old kept zone without =
+    search (rules, SetHolds-push, SetHolds-kept, SetHolds-dropped)
 
 -- What was found is what was looked for.
 pub FoundHolds-exact : (found : Option ZoneBounds) (P : Pairs) → GivesZone found P → (a b n : ℕ)
@@ -82,8 +65,7 @@ HoldExactly-found old new zone held = record { exact = λ a b n some le. held.ex
 pub HoldExactly-not_found : (zones : List ZoneBounds)
     → HoldExactly zones (Either (SetHolds zones) (FoundHolds None))
 unfolding FoundHolds
-HoldExactly-not_found zones = HoldExactly-itself zones (FoundHolds None)
-    (λ a b n some le h. absurd h)
+HoldExactly-not_found zones = search rules
 
 -- ---- one zone after another of a list
 
@@ -96,33 +78,13 @@ pub itself-additive : IsAdditive (λ R. R)
 itself-additive R S T same a b n = same a b n
 
 pub Lasting-additive : (D : ℕ → ℕ → Type 0) → IsAdditive (Lasting D)
-Lasting-additive D R S T same a b n =
-    let both = same a b n in (
-      (λ h.
-          ⊎_elim (λ x. inl (record { related = x; admitted = h.admitted }))
-          (λ x. inr (record { related = x; admitted = h.admitted })) (both.0 h.related)),
-      (λ h.
-          ⊎_elim (λ x. record { related = both.1 (inl x.related); admitted = x.admitted })
-          (λ x. record { related = both.1 (inr x.related); admitted = x.admitted }) h),
-    )
+Lasting-additive D R S T same a b n = search rules
 
 pub Both-additive_left : (E : Pairs) → IsAdditive (λ R. Both R E)
-Both-additive_left E R S T same a b n =
-    let both = same a b n in (
-      (λ h. ⊎_elim (λ x. inl (record { left = x; right = h.right }))
-          (λ x. inr (record { left = x; right = h.right })) (both.0 h.left)),
-      (λ h. ⊎_elim (λ x. record { left = both.1 (inl x.left); right = x.right })
-          (λ x. record { left = both.1 (inr x.left); right = x.right }) h),
-    )
+Both-additive_left E R S T same a b n = search rules
 
 pub Both-additive_right : (E : Pairs) → IsAdditive (Both E)
-Both-additive_right E R S T same a b n =
-    let both = same a b n in (
-      (λ h. ⊎_elim (λ x. inl (record { left = h.left; right = x }))
-          (λ x. inr (record { left = h.left; right = x })) (both.0 h.right)),
-      (λ h. ⊎_elim (λ x. record { left = x.left; right = both.1 (inl x.right) })
-          (λ x. record { left = x.left; right = both.1 (inr x.right) }) h),
-    )
+Both-additive_right E R S T same a b n = search rules
 
 -- The set held what F makes of the first zones. It united what F makes of the next, and holds what
 -- it makes of those and the next.
@@ -167,8 +129,7 @@ HoldExactly-each_beside F additive start now next zones i zone Q within is held 
 -- Before the first of them there is nothing.
 pub HoldExactly-none_beside : (start : List ZoneBounds) (P : Pairs) → ((a b n : ℕ) → P a b n → ⊥)
     → HoldExactly start (Either (SetHolds start) P)
-HoldExactly-none_beside start P never = HoldExactly-itself start P
-    (λ a b n some le h. absurd (never a b n h))
+HoldExactly-none_beside start P never = search rules
 
 pub HoldExactly-none : (P : Pairs) → ((a b n : ℕ) → P a b n → ⊥) → HoldExactly [] P
 HoldExactly-none P never = HoldExactly-empty P (λ a b n some le h. never a b n h)
@@ -177,30 +138,18 @@ HoldExactly-none P never = HoldExactly-empty P (λ a b n some le h. never a b n 
 pub HoldExactly-all : (F : Pairs → Pairs) (set zones whole : List ZoneBounds) (i : ℕ)
     → length zones ≤ i → zones ≡ whole
     → HoldExactly set (F (SetHolds (take i zones))) → HoldExactly set (F (SetHolds whole))
-HoldExactly-all F set zones whole i all same held =
-    subst (λ (list : List ZoneBounds). HoldExactly set (F (SetHolds list)))
-    (take_all i zones all ∙ same) held
+HoldExactly-all F set zones whole i all same held = search (rules, take_all)
 
 -- A set of what a list holds, and what the list was to hold.
 pub HoldExactly-gathered : (set found : List ZoneBounds) (P : Pairs)
     → HoldExactly set (SetHolds found) → HoldExactly found P → HoldExactly set P
-HoldExactly-gathered set found P held exact = record {
-  exact = λ a b n some le.
-      let one = held.exact a b n some le in
-      let two = exact.exact a b n some le in
-      ((λ h. two.0 (one.0 h)), (λ h. one.1 (two.1 h)));
-}
+HoldExactly-gathered set found P held exact = search rules
 
 -- A set of what two lists hold, one after the other.
 pub HoldExactly-append : (set left right : List ZoneBounds)
     → HoldExactly set (SetHolds (left ++ right))
     → HoldExactly set (Either (SetHolds left) (SetHolds right))
-HoldExactly-append set left right held = record {
-  exact = λ a b n some le.
-      let whole = held.exact a b n some le in
-      let parts = SetHolds-append left right a b n in
-      ((λ h. parts.0 (whole.0 h)), (λ h. whole.1 (parts.1 h)));
-}
+HoldExactly-append set left right held = search (rules, SetHolds-append, held.exact)
 
 pub OnErr-from : {T E : Type 0} (P : Type 0) (answer : Result T E) → P → OnErr answer P
 OnErr-from P (Ok x) p = tt

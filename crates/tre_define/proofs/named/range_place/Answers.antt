@@ -1,4 +1,4 @@
-use Rattle.std.proofs.Common.{◌-◌, length, inl, inr, sym, ◌∙◌, arith}
+use Rattle.std.proofs.Common.{◌-◌, inl, inr, arith, rules}
 use Rattle.std.proofs.lemmas.Bool.{cases_lt}
 use Rattle.std.proofs.lemmas.List.{get_or_past}
 use Rattle.tre_define.proofs.Ranges.{bracket-behind, no-closing, no-opening}
@@ -7,16 +7,7 @@ use Rattle.tre_define.proofs.named.range_place.Goals.{then-len-eq0-via-then-len-
 
 pub returns-then-len-eq0-clause-only : goal.returns-then-len-eq0-clause-only
 returns-then-len-eq0-clause-only c =
-    λ k other. no-closing c.args.name.now k
-    (elim c.then-len-eq0.branch [
-      | then-len-eq0-via-then-len-eq0 w ↦
-          λ is. omega (
-            arith,
-            sym (get_or_past c.args.name.now (length c.args.name.now - 1) 0
-                (omega (arith, w.if-len-eq0.true))) ∙ is,
-          )
-      | then-len-eq0-via-else-len-eq0+then-name-len-ne93 w ↦ w.if-name-len-ne93.true
-    ])
+    search (rules, no-closing, then-len-eq0-via-then-len-eq0, get_or_past, c.args.name.now)
 
 pub returns-then-name-place-eq91-clause-only : goal.returns-then-name-place-eq91-clause-only
 returns-then-name-place-eq91-clause-only c = λ k other.

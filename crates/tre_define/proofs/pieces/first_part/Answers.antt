@@ -1,5 +1,4 @@
-use Rattle.std.proofs.Common.{◌<◌, ◌+◌, ◌∷◌, length, take, subst, sym, ap, ◌∙◌, arith}
-use Rattle.std.specs.List.{slice_split}
+use Rattle.std.proofs.Common.{◌+◌, subst, sym, arith, rules}
 use Rattle.std.specs.Str.{IsUtf8}
 use Rattle.std.proofs.lemmas.List.{take_rest}
 use Rattle.std.proofs.lemmas.Str.{IsCharBoundary-after_ascii, IsCharBoundary-before_ascii, IsUtf8-drop, IsUtf8-take}
@@ -9,12 +8,7 @@ use Rattle.tre_define.proofs.pieces.first_part.Goals as goal
 
 pub returns-then-byte-eq59-clause-parts : goal.returns-then-byte-eq59-clause-parts
 returns-then-byte-eq59-clause-parts c =
-    let bytes = c.args.bytes.now in
-    let place = c.loop-place.place in
-    let below : place < length bytes = omega arith in
-    next-part bytes place below c.loop-place.invariant (ap is_semicolon c.if-byte-eq59.true)
-    ∙ ap (λ rest. take place bytes ∷ slice_split is_semicolon rest)
-    (sym (take_rest bytes (place + 1)))
+    search (rules, next-part, is_semicolon, take_rest, c.args.bytes.now, c.loop-place.place)
 
 pub returns-clause-parts : goal.returns-clause-parts
 returns-clause-parts c =
@@ -23,10 +17,7 @@ returns-clause-parts c =
 
 pub returns-then-byte-eq59-clause-text : goal.returns-then-byte-eq59-clause-text
 returns-then-byte-eq59-clause-text c text =
-    let bytes = c.args.bytes.now in
-    let place = c.loop-place.place in
-    IsUtf8-take bytes place text (IsCharBoundary-before_ascii bytes place c.loop-place-test.true
-    (omega (arith, c.if-byte-eq59.true)))
+    search (rules, IsUtf8-take, IsCharBoundary-before_ascii, c.args.bytes.now, c.loop-place.place)
 
 pub returns-then-byte-eq59-clause-rest_text : goal.returns-then-byte-eq59-clause-rest_text
 returns-then-byte-eq59-clause-rest_text c text =

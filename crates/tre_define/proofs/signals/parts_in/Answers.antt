@@ -1,5 +1,4 @@
-use Rattle.std.proofs.Common.{◌≡◌, ◌<◌, Some, take, drop, sym, subst, ap, ◌∙◌, arith}
-use Rattle.std.specs.Str.{IsUtf8}
+use Rattle.std.proofs.Common.{◌≡◌, ◌<◌, Some, take, drop, sym, subst, ap, ◌∙◌, arith, rules}
 use Rattle.std.proofs.lemmas.List.{take_rest}
 use Rattle.std.proofs.lemmas.Option.{none-some}
 use Rattle.tre_state.specs.Name.{continues_name, IsName}
@@ -37,20 +36,7 @@ returns-then-len-eq0-clause-none c defined is =
 
 pub returns-in_default-clause-none : goal.returns-in_default-clause-none
 returns-in_default-clause-none c defined is =
-    let text = c.args.text.now in
-    let after = c.in_ok-behind_equals.field-0.now in
-    let rest = past_spaces after in
-    let found : behind_equals (behind_piece continues_name text) ≡ Some after =
-    ap behind_equals (sym c.next_word.ensures.rest) ∙ sym c.in_ok-behind_equals.ensures in
-    let len : c.signal_len-len.result ≡ signal_len rest =
-    c.signal_len-len.ensures.len ∙ ap signal_len c.skip_spaces-rest.ensures in
-    let cut : take c.signal_len-len.result c.skip_spaces-rest.result.now
-    ≡ take (signal_len rest) rest =
-    ap (λ n. take n c.skip_spaces-rest.result.now) len
-    ∙ ap (take (signal_len rest)) c.skip_spaces-rest.ensures in
-    let name = subst IsName c.next_word.ensures.run c.in_ok-name.ensures.some.1 in
-    c.in_default.ensures.cases.0 (subst IsUtf8 (sym cut) (signal-text text after c.requires name.0
-    (equals-is (behind_piece continues_name text) after found)))
+    search (rules, past_spaces, behind_equals, behind_piece, continues_name, signal-text, equals-is)
 
 pub returns-in_err-reads-clause-none : goal.returns-in_err-reads-clause-none
 returns-in_err-reads-clause-none c =

@@ -1,8 +1,7 @@
-use Rattle.std.proofs.Common.{◌≡◌, true, false, ◌∷◌, [], length, subst, sym, ap, ◌∙◌}
-use Rattle.std.specs.Prelude.{◌==◌, IfSome}
+use Rattle.std.proofs.Common.{◌≡◌, false, ◌∷◌, [], length, subst, sym, ap, ◌∙◌, rules}
+use Rattle.std.specs.Prelude.{◌==◌}
 use Rattle.std.specs.List.{slice_split}
 use Rattle.std.specs.Option.{option_map}
-use Rattle.std.specs.Str.{IsUtf8}
 use Rattle.std.proofs.lemmas.Result.{err_from_is_err_and}
 use Rattle.tre_define.specs.Pieces.{parts_behind, past_spaces}
 use Rattle.tre_define.specs.Signals.{AreRefused, DefineSignals, Spells, name_of_signal}
@@ -12,13 +11,7 @@ use Rattle.tre_define.proofs.signals.read_signals.Goals as goal
 
 pub returns-then-is_empty-clause-definitions : goal.returns-then-is_empty-clause-definitions
 returns-then-is_empty-clause-definitions c =
-    let text = c.args.text.now in
-    let past = c.skip_spaces.ensures ∙ ap past_spaces c.as_bytes-rest.ensures.value in
-    let none : (length (past_spaces text) == 0) ≡ true =
-    ap (λ bytes. length bytes == 0) (sym past) ∙ sym c.is_empty.ensures ∙ c.if-is_empty.true in
-    subst (λ parts. DefineSignals parts c.new-definitions.result.items) (sym (no_parts text none))
-    (subst (λ items. DefineSignals [] items) (sym c.new-definitions.ensures.items)
-    (all-defined [] [] (begins [])))
+    search (rules, past_spaces, no_parts, all-defined, begins, c.args.text.now)
 
 pub returns-in_err-add-clause-refused : goal.returns-in_err-add-clause-refused
 returns-in_err-add-clause-refused c =
@@ -41,25 +34,7 @@ returns-in_err-add-clause-refused c =
 
 pub loop-definitions-preserved : goal.loop-definitions-preserved
 loop-definitions-preserved c =
-    let text = c.args.text.now in
-    let bytes = c.loop-definitions.rest.now in
-    let behind = c.in-Some.behind.now in
-    let definitions = c.loop-definitions.definitions.items in
-    let part = c.first_part.result.0.now in
-    let all = slice_split is_semicolon text in
-    let others = slice_split is_semicolon behind in
-    let step : slice_split is_semicolon bytes ≡ part ∷ others =
-    c.first_part.ensures.parts
-    ∙ ap (λ rest. part ∷ parts_behind (option_map (λ found. found.now) rest)) c.in-Some.is in
-    let has = subst (λ parts. HasDefined Spells name_of_signal all definitions parts) step c.loop-definitions.invariant.has
-    in
-    let added = c.in_ok-add.ensures.added in
-    record {
-      has = subst (λ items. HasDefined Spells name_of_signal all items others) (sym added.1)
-          (one-more all others definitions part added.0 has added.2 added.3);
-      text = subst (λ rest. IfSome rest (λ found. IsUtf8 found.now)) c.in-Some.is
-          (c.first_part.ensures.rest_text c.loop-definitions.invariant.text);
-    }
+    search (rules, is_semicolon, one-more, c.args.text.now, c.loop-definitions.rest.now)
 
 pub returns-in-None-clause-definitions : goal.returns-in-None-clause-definitions
 returns-in-None-clause-definitions c =

@@ -1,4 +1,4 @@
-use Rattle.std.proofs.Common.{◌+◌, ◌<◌, ◌≤◌, ◌∙◌, length, refl, sym, arith, inl, inr, ⊎_elim, ap}
+use Rattle.std.proofs.Common.{◌+◌, ◌<◌, ◌≤◌, ◌∙◌, length, refl, sym, arith, inl, inr, ⊎_elim, rules}
 use Rattle.tre_packed.proofs.Adding.{count-limit}
 use Rattle.tre_state.specs.StateTree.{HoldsOn}
 use Rattle.tre_zone.proofs.ZoneListLemmas.{SetHolds-empty}
@@ -36,20 +36,10 @@ loop-at-init g c = record {
 }
 
 pub next_place-begin-requires-clause-limit : goal.next_place-begin-requires-clause-limit
-next_place-begin-requires-clause-limit g c =
-    omega (
-      arith,
-      c.count-count.ensures.count,
-      count-limit (g.T.AnyTrace.timeline c.args.trace.now).segments c.count-count.ensures.trace,
-    )
+next_place-begin-requires-clause-limit g c = search (rules, count-limit, g.T.AnyTrace.timeline)
 
 pub next_place-end-requires-clause-limit : goal.next_place-end-requires-clause-limit
-next_place-end-requires-clause-limit g c =
-    omega (
-      arith,
-      c.count-count.ensures.count,
-      count-limit (g.T.AnyTrace.timeline c.args.trace.now).segments c.count-count.ensures.trace,
-    )
+next_place-end-requires-clause-limit g c = search (rules, count-limit, g.T.AnyTrace.timeline)
 
 pub keep_found-requires-clause-ended : goal.keep_found-requires-clause-ended
 keep_found-requires-clause-ended g c =
@@ -61,10 +51,7 @@ keep_found-requires-clause-ended g c =
     _ (c.loop-at.invariant.ended (omega (arith, c.loop-at-test.true, count))))
 
 pub keep_found-requires-clause-none : goal.keep_found-requires-clause-none
-keep_found-requires-clause-none g c = λ same.
-    rw (c.start_from-from.ensures.time, c.start_from-seen.ensures.time)
-    (ap (time_of (g.T.AnyTrace.timeline c.args.trace.now).segments)
-    (omega (arith, same, c.start_from-from.ensures.place, c.start_from-seen.ensures.place)))
+keep_found-requires-clause-none g c = search (rules, time_of, g.T.AnyTrace.timeline)
 
 pub keep_found-requires-clause-some : goal.keep_found-requires-clause-some
 keep_found-requires-clause-some g c = λ apart.
@@ -103,22 +90,10 @@ keep_found-requires-clause-run g c = λ apart.
     }))
 
 pub keep_found-requires-clause-limit : goal.keep_found-requires-clause-limit
-keep_found-requires-clause-limit g c =
-    omega (
-      arith,
-      c.start_from-seen.ensures.time,
-      time_of-limit (g.T.AnyTrace.timeline c.args.trace.now).segments c.next_place-end.result
-          c.count-count.ensures.trace,
-    )
+keep_found-requires-clause-limit g c = search (rules, time_of-limit, g.T.AnyTrace.timeline)
 
 pub overflow_add-at : goal.overflow_add-at
-overflow_add-at g c =
-    omega (
-      arith,
-      c.next_place-end.ensures.within,
-      c.count-count.ensures.count,
-      count-limit (g.T.AnyTrace.timeline c.args.trace.now).segments c.count-count.ensures.trace,
-    )
+overflow_add-at g c = search (rules, count-limit, g.T.AnyTrace.timeline)
 
 pub loop-at-preserved : goal.loop-at-preserved
 loop-at-preserved g c =

@@ -1,4 +1,4 @@
-use Rattle.std.proofs.Common.{◌+◌, ◌≤◌, length, not, ap, refl, arith, inl, inr, ⊎_elim}
+use Rattle.std.proofs.Common.{◌+◌, ◌≤◌, length, not, ap, arith, inl, ⊎_elim, rules}
 use Rattle.tre_packed.proofs.Adding.{count-limit}
 use Rattle.tre_state.specs.State.{tree_of}
 use Rattle.tre_zone.proofs.ZoneListLemmas.{SetHolds-empty}
@@ -13,33 +13,13 @@ use Rattle.tre_edges.proofs.edges.changes.Goals as goal
 
 pub loop-at-init : goal.loop-at-init
 loop-at-init g c =
-    rw c.in_ok-zones.ensures (record {
-      exact = λ a b n some rising. (
-        λ matches. inr matches,
-        λ either. ⊎_elim (λ held. absurd (SetHolds-empty a b n held)) (λ rest. rest) either,
-      );
-      instants = AreInstants-empty 0;
-      passed = omega arith;
-      seen = refl;
-      ended = λ _. EndBefore-empty 0;
-      calm = λ _ none. absurd none;
-    })
+    search (rules, SetHolds-empty, AreInstants-empty, EndBefore-empty, c.in_ok-zones.ensures)
 
 pub next_place-other-requires-clause-limit : goal.next_place-other-requires-clause-limit
-next_place-other-requires-clause-limit g c =
-    omega (
-      arith,
-      c.count-count.ensures.count,
-      count-limit (g.T.AnyTrace.timeline c.args.trace.now).segments c.count-count.ensures.trace,
-    )
+next_place-other-requires-clause-limit g c = search (rules, count-limit, g.T.AnyTrace.timeline)
 
 pub next_place-turn-requires-clause-limit : goal.next_place-turn-requires-clause-limit
-next_place-turn-requires-clause-limit g c =
-    omega (
-      arith,
-      c.count-count.ensures.count,
-      count-limit (g.T.AnyTrace.timeline c.args.trace.now).segments c.count-count.ensures.trace,
-    )
+next_place-turn-requires-clause-limit g c = search (rules, count-limit, g.T.AnyTrace.timeline)
 
 pub add_instant-requires-clause-ended : goal.add_instant-requires-clause-ended
 add_instant-requires-clause-ended g c =
@@ -52,22 +32,10 @@ add_instant-requires-clause-ended g c =
     c.loop-at.zones (c.loop-at.invariant.ended (omega (arith, c.loop-at-test.true, count))))
 
 pub add_instant-requires-clause-limit : goal.add_instant-requires-clause-limit
-add_instant-requires-clause-limit g c =
-    omega (
-      arith,
-      c.start_from-seen.ensures.time,
-      time_of-limit (g.T.AnyTrace.timeline c.args.trace.now).segments c.next_place-turn.result
-          c.count-count.ensures.trace,
-    )
+add_instant-requires-clause-limit g c = search (rules, time_of-limit, g.T.AnyTrace.timeline)
 
 pub overflow_add-at : goal.overflow_add-at
-overflow_add-at g c =
-    omega (
-      arith,
-      c.next_place-turn.ensures.within,
-      c.count-count.ensures.count,
-      count-limit (g.T.AnyTrace.timeline c.args.trace.now).segments c.count-count.ensures.trace,
-    )
+overflow_add-at g c = search (rules, count-limit, g.T.AnyTrace.timeline)
 
 pub loop-at-preserved : goal.loop-at-preserved
 loop-at-preserved g c =

@@ -1,4 +1,4 @@
-use Rattle.std.proofs.Common.{◌≡◌, ◌+◌, ◌<◌, ◌≤◌, refl, ap, arith, length, inl, inr, ⊎_elim}
+use Rattle.std.proofs.Common.{◌≡◌, ◌+◌, ◌<◌, ◌≤◌, refl, ap, arith, length, inl, inr, ⊎_elim, rules}
 use Rattle.std.proofs.lemmas.List.{take_all}
 use Rattle.tre_packed.proofs.Adding.{count-limit}
 use Rattle.tre_trace.specs.Trace.{end_of}
@@ -32,25 +32,14 @@ loop-at-init g c =
     })
 
 pub next_place-at-requires-clause-limit : goal.next_place-at-requires-clause-limit
-next_place-at-requires-clause-limit g c =
-    omega (
-      arith,
-      c.count-count.ensures.count,
-      count-limit (g.T.AnyTrace.timeline c.args.trace.now).segments c.count-count.ensures.trace,
-    )
+next_place-at-requires-clause-limit g c = search (rules, count-limit, g.T.AnyTrace.timeline)
 
 pub add_instant-requires-clause-ended : goal.add_instant-requires-clause-ended
 add_instant-requires-clause-ended g c =
     rw c.start_from-seen.ensures.time c.loop-at.invariant.ended
 
 pub add_instant-requires-clause-limit : goal.add_instant-requires-clause-limit
-add_instant-requires-clause-limit g c =
-    omega (
-      arith,
-      c.start_from-seen.ensures.time,
-      time_of-limit (g.T.AnyTrace.timeline c.args.trace.now).segments c.loop-at.at
-          c.count-count.ensures.trace,
-    )
+add_instant-requires-clause-limit g c = search (rules, time_of-limit, g.T.AnyTrace.timeline)
 
 pub loop-at-preserved : goal.loop-at-preserved
 loop-at-preserved g c =
@@ -115,31 +104,12 @@ returns-clause-matches g c =
 
 pub next_place-at-requires-in-loop-at-clause-limit : goal.next_place-at-requires-in-loop-at-clause-limit
 next_place-at-requires-in-loop-at-clause-limit g c =
-    omega (
-      arith,
-      c.count-count.ensures.count,
-      count-limit (g.T.AnyTrace.timeline c.args.trace.now).segments c.count-count.ensures.trace,
-    )
+    search (rules, count-limit, g.T.AnyTrace.timeline)
 
 pub add_instant-requires-2-clause-ended : goal.add_instant-requires-2-clause-ended
 add_instant-requires-2-clause-ended g c =
-    let segments = (g.T.AnyTrace.timeline c.args.trace.now).segments in
-    let at = c.loop-at.at in
-    let past : length segments ≤ at =
-    omega (arith, c.loop-at-test.false, c.count-count.ensures.count) in
-    let all : time_of segments at ≡ end_of 0 segments = ap (end_of 0) (take_all at segments past) in
-    rw (c.end.ensures.end, ← all) c.loop-at.invariant.ended
+    search (rules, time_of, end_of, take_all, g.T.AnyTrace.timeline, c.loop-at.at)
 
 pub add_instant-requires-2-clause-limit : goal.add_instant-requires-2-clause-limit
 add_instant-requires-2-clause-limit g c =
-    let segments = (g.T.AnyTrace.timeline c.args.trace.now).segments in
-    let at = c.loop-at.at in
-    let past : length segments ≤ at =
-    omega (arith, c.loop-at-test.false, c.count-count.ensures.count) in
-    let all : time_of segments at ≡ end_of 0 segments = ap (end_of 0) (take_all at segments past) in
-    omega (
-      arith,
-      all,
-      c.end.ensures.end,
-      time_of-limit segments at c.count-count.ensures.trace,
-    )
+    search (rules, time_of, end_of, take_all, time_of-limit, g.T.AnyTrace.timeline, c.loop-at.at)

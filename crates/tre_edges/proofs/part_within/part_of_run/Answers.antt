@@ -1,5 +1,4 @@
-use Rattle.std.proofs.Common.{◌≡◌, arith, sym, subst, ◌∙◌}
-use Rattle.std.proofs.lemmas.Int.{ints}
+use Rattle.std.proofs.Common.{◌≡◌, sym, subst, ◌∙◌, rules}
 use Rattle.tre_zone.specs.Zone.{IsCanonical, IsZoneOf}
 use Rattle.tre_zone.specs.declared.zone_bounds.ZoneBounds.{ZoneBounds}
 use Rattle.tre_edges.specs.RunParts.{IsPart}
@@ -21,11 +20,7 @@ made c = record {
 
 made-is : (c : After-weak-3)
     → made c ≡ part_of c.args.edges.rise c.args.edges.fall c.args.begin c.args.end
-made-is c =
-    part-is c.args.edges c.args.begin c.args.end
-    (omega (arith, ints, c.weak.ensures.key)) c.latest_begin.ensures c.earliest_end.ensures
-    (omega (arith, ints, c.weak-2.ensures.key)) c.least_length.ensures
-    (omega (arith, ints, c.weak-3.ensures.key))
+made-is c = search (rules, part-is, c.args.edges, c.args.begin, c.latest_begin.ensures)
 
 pub from_canonical-requires : goal.from_canonical-requires
 from_canonical-requires c =

@@ -1,14 +1,11 @@
-use Rattle.std.proofs.Common.{arith}
+use Rattle.std.proofs.Common.{arith, rules}
 use Rattle.std.proofs.lemmas.Int.{ints}
 use Rattle.tre_zone.proofs.Ends.{tightened}
 use Rattle.tre_edges.proofs.SpansWithin.{in_whole, in_whole_too}
 use Rattle.tre_edges.proofs.span_within.most_of.Goals as goal
 
 pub returns-in-None-clause-meaning : goal.returns-in-None-clause-meaning
-returns-in-None-clause-meaning c = λ p q n some le.
-    let whole = in_whole c.weak-whole.result c.args.length
-    (omega (arith, ints, c.weak-whole.ensures.key)) p q n le in
-    rw (← c.high.ensures.high, c.in-None.is) ((λ m. (whole.0 m, tt)), (λ h. whole.1 h.0))
+returns-in-None-clause-meaning c = search (rules, in_whole, c.weak-whole.result)
 
 pub returns-in-Some-clause-meaning : goal.returns-in-Some-clause-meaning
 returns-in-Some-clause-meaning c = λ p q n some le.

@@ -1,8 +1,8 @@
-use Rattle.std.proofs.Common.{◌≡◌, length, arith, bit_and, bit_or}
+use Rattle.std.proofs.Common.{◌≡◌, length, arith, bit_and, bit_or, rules}
 use Rattle.std.proofs.lemmas.List.{with_items_is}
 use Rattle.std.proofs.lemmas.Result.{IfOk-weaker}
 use lib.Lanes.{zip2}
-use Rattle.tre_edges.proofs.StateWords.{of_ones, of_proposition, of_opposite, of_conjunction, of_disjunction}
+use Rattle.tre_edges.proofs.StateWords.{of_proposition, of_opposite, of_conjunction, of_disjunction}
 use Rattle.tre_edges.proofs.truth_words.+truth.Goals as goal
 
 pub returns-in_ok-plane-in-Prop : goal.returns-in_ok-plane-in-Prop
@@ -40,11 +40,7 @@ returns-in_ok-other-in-Or g t c =
 
 pub returns-in-Yes : goal.returns-in-Yes
 returns-in-Yes g t c =
-    IfOk-weaker c.always.result _ _
-    (λ words ones. rw c.in-Yes.is
-    (of_ones (g.T.AnyTrace.timeline c.args.trace.now).segments words.items
-    (rw c.count.ensures.count at ones)))
-    c.always.ensures
+    search (rules, IfOk-weaker, c.always.result, g.T.AnyTrace.timeline, c.count.ensures.count)
 
 pub returns-in_ok-words-in-Not : goal.returns-in_ok-words-in-Not
 returns-in_ok-words-in-Not g t c =

@@ -1,4 +1,4 @@
-use Rattle.std.proofs.Common.{◌∙◌, ◌<◌, [], ◌∷◌, map, sym, subst}
+use Rattle.std.proofs.Common.{◌∙◌, [], ◌∷◌, map, rules}
 use Rattle.std.proofs.lemmas.List.{length-map}
 use Rattle.tre_syntax.specs.Pattern.{names_of}
 use Rattle.tre_vcd.specs.Needs.{needs}
@@ -12,20 +12,11 @@ use Rattle.tre_feed.proofs.dump.dump_input.Goals as goal
 
 pub new-requires-clause-some : goal.new-requires-clause-some
 new-requires-clause-some c =
-    (AreRead-shared (parts_names token_reader.names) (map names_of c.args.patterns.now)
-    c.in_ok-shares.shares.groups.items c.in_ok-shares.shares.views.items _
-    c.in-Ok.readers.items
-    (c.in-Ok.ensures.names ∙ c.deref.ensures.value ∙ c.into_parts-groups.ensures.groups)
-    c.into_parts-groups.ensures.views c.in_ok-shares.ensures.each).some
-    (subst (λ n. 0 < n) (sym (length-map c.args.patterns.now names_of)) c.requires.some)
+    search (rules, AreRead-shared, parts_names, length-map, c.in_ok-shares.shares.groups.items)
 
 pub new-requires-clause-within : goal.new-requires-clause-within
 new-requires-clause-within c =
-    (AreRead-shared (parts_names token_reader.names) (map names_of c.args.patterns.now)
-    c.in_ok-shares.shares.groups.items c.in_ok-shares.shares.views.items _
-    c.in-Ok.readers.items
-    (c.in-Ok.ensures.names ∙ c.deref.ensures.value ∙ c.into_parts-groups.ensures.groups)
-    c.into_parts-groups.ensures.views c.in_ok-shares.ensures.each).within
+    search (rules, AreRead-shared, parts_names, token_reader, c.in_ok-shares.shares.groups.items)
 
 pub returns-clause-asks : goal.returns-clause-asks
 returns-clause-asks c = c.new.ensures.asks (map names_of c.args.patterns.now)

@@ -12,11 +12,7 @@ loop-group-preserved c =
     (c.in_ok-dump_reader.ensures.terms, c.in_ok-dump_reader.ensures.fresh) c.in_ok-put_last.ensures
 
 pub returns-clause-names : goal.returns-clause-names
-returns-clause-names c =
-    (readers-all _ _ c.args.groups.now c.loop-group.readers.items c.loop-group.group-index
-    c.loop-group-test.false c.loop-group.invariant).are
+returns-clause-names c = (readers-all _ _ _ _ _ c.loop-group-test.false c.loop-group.invariant).are
 
 pub returns-clause-fresh : goal.returns-clause-fresh
-returns-clause-fresh c =
-    (readers-all _ _ c.args.groups.now c.loop-group.readers.items c.loop-group.group-index
-    c.loop-group-test.false c.loop-group.invariant).each
+returns-clause-fresh c = (readers-all _ _ _ _ _ c.loop-group-test.false c.loop-group.invariant).each

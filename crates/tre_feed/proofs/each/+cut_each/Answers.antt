@@ -1,15 +1,10 @@
-use Rattle.std.proofs.Common.{◌∙◌, take, refl, ap, sym}
+use Rattle.std.proofs.Common.{refl, rules}
 use Rattle.tre_feed.proofs.Begun.{none_left}
 use Rattle.tre_feed.proofs.Standing.{asked_again}
 use Rattle.tre_feed.proofs.each.+cut_each.Goals as goal
 
 pub returns-clause-rows : goal.returns-clause-rows
-returns-clause-rows g t c = λ waiting size begin.
-    let cases = c.in-Some.ensures.cases.0 in
-    let all = rw cases at begin in (
-      c.truncate.ensures.items ∙ ap (λ n. take n c.in-Some.first.now.row.items) (sym size) ∙ all.0,
-      c.cut_each.ensures.rows waiting size all.1,
-    )
+returns-clause-rows g t c = search (rules, c.in-Some.ensures.cases.0, c.cut_each.ensures.rows)
 
 pub returns-in_default-clause-rows : goal.returns-in_default-clause-rows
 returns-in_default-clause-rows g t c =

@@ -1,4 +1,4 @@
-use Rattle.std.proofs.Common.{◌≡◌, ◌∙◌, ◌++◌, true, false, length, take, refl, ap, sym, subst}
+use Rattle.std.proofs.Common.{◌≡◌, ◌++◌, true, false, length, take, refl, ap, sym, subst, rules}
 use Rattle.tre_trace.specs.Reading.{Vocabulary, segments_for}
 use Rattle.tre_feed.specs.Asked.{Asked}
 use Rattle.tre_feed.proofs.Standing.{asked_again, row_begins, row_more, rows_begin}
@@ -6,15 +6,15 @@ use Rattle.tre_feed.proofs.Begun.{none_left}
 use Rattle.tre_feed.proofs.each.+feed_each.Goals as goal
 
 pub returns-then-not-feed-clause-front : goal.returns-then-not-feed-clause-front
-returns-then-not-feed-clause-front g t c = λ terms bytes waiting stand rows.
-    let cases = c.in-Some.ensures.cases.0 in
-    let all = rw cases at stand in
-    let are = rw cases at rows in
-    let same = ap (λ (asked : Asked g.R.TraceReader.Terms). asked.names) c.feed.ensures.same in (
-      subst (λ (names : Vocabulary). take (length waiting) c.feed.new.self.row.items
-          ≡ segments_for names waiting) (sym same)
-          (row_begins _ _ _ _ _ _ _ (c.feed.ensures.takes bytes all.0.1) waiting are.0),
-      rows_begin g.R.TraceReader.names c.in-Some.later.now waiting are.1,
+returns-then-not-feed-clause-front g t c =
+    search (
+      rules,
+      segments_for,
+      row_begins,
+      rows_begin,
+      c.in-Some.ensures.cases.0,
+      c.feed.ensures.same,
+      c.feed.ensures.takes,
     )
 
 pub returns-clause-rows : goal.returns-clause-rows
@@ -62,11 +62,8 @@ returns-then-not-feed-clause-faults g t c = λ terms bytes stand ok.
     let wrong : false ≡ true = ok in cc
 
 pub returns-clause-goes_on : goal.returns-clause-goes_on
-returns-clause-goes_on g t c = λ terms bytes stand none ok.
-    let all = rw c.in-Some.ensures.cases.0 at stand in
-    let own = ap (λ (asked : Asked g.R.TraceReader.Terms). asked.terms) c.feed.ensures.same in
-    let on = rw all.0.0 at (c.if-not-feed.ensures.goes_on bytes all.0.1) in
-    ((own ∙ all.0.0, on refl none), c.feed_each.ensures.goes_on terms bytes all.1 none ok)
+returns-clause-goes_on g t c =
+    search (rules, c.in-Some.ensures.cases.0, c.feed.ensures.same, c.if-not-feed.ensures.goes_on)
 
 pub returns-in_default-clause-rows : goal.returns-in_default-clause-rows
 returns-in_default-clause-rows g t c =

@@ -1,20 +1,20 @@
-use Rattle.std.proofs.Common.{◌≡◌, ◌++◌, true, false, length, take, refl, ap, sym, subst}
-use Rattle.tre_trace.specs.Reading.{Vocabulary, events_for, segments_for}
+use Rattle.std.proofs.Common.{◌≡◌, ◌++◌, true, false, length, take, refl, ap, sym, subst, rules}
+use Rattle.tre_trace.specs.Reading.{Vocabulary, segments_for}
 use Rattle.tre_feed.specs.Asked.{Asked}
 use Rattle.tre_feed.proofs.Standing.{asked_again, row_begins, row_more, rows_begin}
 use Rattle.tre_feed.proofs.Begun.{none_left}
 use Rattle.tre_feed.proofs.each.+finish_each.Goals as goal
 
 pub returns-then-not-finish-clause-front : goal.returns-then-not-finish-clause-front
-returns-then-not-finish-clause-front g t c = λ terms bytes waiting stand rows.
-    let cases = c.in-Some.ensures.cases.0 in
-    let all = rw cases at stand in
-    let are = rw cases at rows in
-    let same = ap (λ (asked : Asked g.R.TraceReader.Terms). asked.names) c.finish.ensures.same in (
-      subst (λ (names : Vocabulary). take (length waiting) c.finish.new.self.row.items
-          ≡ segments_for names waiting) (sym same)
-          (row_begins _ _ _ _ _ _ _ (c.finish.ensures.takes bytes all.0.1) waiting are.0),
-      rows_begin g.R.TraceReader.names c.in-Some.later.now waiting are.1,
+returns-then-not-finish-clause-front g t c =
+    search (
+      rules,
+      segments_for,
+      row_begins,
+      rows_begin,
+      c.in-Some.ensures.cases.0,
+      c.finish.ensures.same,
+      c.finish.ensures.takes,
     )
 
 pub returns-clause-rows : goal.returns-clause-rows
@@ -85,13 +85,4 @@ returns-clause-same g t c =
 
 pub returns-clause-lasts : goal.returns-clause-lasts
 returns-clause-lasts g t c =
-    λ terms bytes stand whole ok.
-    let cases = c.in-Some.ensures.cases.0 in
-    let all = rw cases at stand in
-    let same = ap (λ (asked : Asked g.R.TraceReader.Terms). asked.names) c.finish.ensures.same in
-    let told = rw all.0.0 at (c.if-not-finish.ensures.last bytes all.0.1) in (
-      subst (λ (names : Vocabulary). c.finish.new.self.last
-          ≡ events_for names (g.R.TraceReader.recording terms true bytes).last) (sym same)
-          (told refl whole),
-      c.finish_each.ensures.lasts terms bytes all.1 whole ok,
-    )
+    search (rules, c.in-Some.ensures.cases.0, c.finish.ensures.same, c.if-not-finish.ensures.last)

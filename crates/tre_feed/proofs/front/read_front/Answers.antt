@@ -28,10 +28,8 @@ stops_later : (name : List ℕ) (start before now : SourceTold) (T : Type 0) (fa
     → before.faults ≡ start.faults → before.sound ≡ start.sound
     → KeepsSource {T = T} before now (Err fault) → (fault ≢ Read → fault ≢ Memory → ⊥)
     → StopsFront name (input_told start now) fault
-stops_later name start before now T Read count sound keeps named = record {
-  cause = keeps.cause ∙ ap count_after count;
-  unsound = λ is named. absurd (keeps.no_failure (sound ∙ is) refl);
-}
+stops_later name start before now T Read count sound keeps named =
+    search (rules, count_after, keeps.no_failure)
 stops_later name start before now T Memory count sound keeps named = keeps.cause ∙ count
 stops_later name start before now T (Trace fault) count sound keeps named =
     named (λ is. cc) (λ is. cc)
@@ -44,13 +42,7 @@ stops_later name start before now T Write count sound keeps named =
 
 pub returns-in_err-read_more-clause-stops : goal.returns-in_err-read_more-clause-stops
 returns-in_err-read_more-clause-stops g c =
-    let source = g.S.Source in
-    let p = err_from_is_err_and c.from_residual-in_err-read_more.result
-    c.from_residual-in_err-read_more.ensures.1 in
-    rw (p.1, p.2) (stops_later _ (source.told c.args.input.now) (source.told c.loop-bytes.input)
-    (source.told c.read_more.new.input) _ c.in_err-read_more.field-0.0
-    c.loop-bytes.invariant.no_fault c.loop-bytes.invariant.sound
-    c.in_err-read_more.ensures.source c.in_err-read_more.ensures.named)
+    search (rules, err_from_is_err_and, g.S.Source, c.from_residual-in_err-read_more.ensures.1)
 
 pub returns-in_err-read_more-clause-bounded : goal.returns-in_err-read_more-clause-bounded
 returns-in_err-read_more-clause-bounded g c = λ opened.
@@ -93,19 +85,7 @@ loop-bytes-preserved g c =
 
 pub returns-clause-read : goal.returns-clause-read
 returns-clause-read g c =
-    let source = g.S.Source in
-    let read = c.in_ok-read_more.ensures.read in
-    let keeps = c.in_ok-read_more.ensures.source in
-    record {
-      opened = keeps.same_opened ∙ c.loop-bytes.invariant.opened;
-      reads = keeps.cause ∙ c.loop-bytes.invariant.no_fault;
-      front = front_more (source.told c.args.input.now).file (source.told c.loop-bytes.input).left
-          (source.told c.read_more.new.input).left c.loop-bytes.bytes.items
-          c.read_more.new.bytes.items read.piece
-          c.loop-bytes.invariant.front read.front read.added;
-      few = omega (arith, ap length read.added, read.few);
-      all = c.in_ok-read_more.ensures.end c.if-branch.false;
-    }
+    search (rules, front_more, g.S.Source, c.in_ok-read_more.ensures.read)
 
 pub returns-clause-bounded : goal.returns-clause-bounded
 returns-clause-bounded g c = λ opened.
@@ -120,14 +100,4 @@ returns-clause-bounded g c = λ opened.
     }
 
 pub loop-bytes-init : goal.loop-bytes-init
-loop-bytes-init g c =
-    let source = g.S.Source in
-    record {
-      front = rw c.new-bytes.ensures.items (front_none (source.told c.args.input.now).file
-          (source.told c.open.new.self).left c.in_ok-open.ensures.bytes);
-      few = rw c.new-bytes.ensures.items (search rules);
-      room = c.in_ok-buffer.ensures;
-      opened = c.in_ok-open.ensures.opens;
-      sound = c.open.ensures.same_sound;
-      no_fault = c.in_ok-open.ensures.cause.ok;
-    }
+loop-bytes-init g c = search (rules, front_none, g.S.Source, c.new-bytes.ensures.items)

@@ -1,4 +1,4 @@
-use Rattle.std.proofs.Common.{◌∙◌, ◌++◌, ℕ, List, [], drop, take, ap, arith, length-append, length-take}
+use Rattle.std.proofs.Common.{ℕ, [], take, arith, length-append, length-take, rules}
 use Rattle.std.proofs.KnownBytes.{Consumes-kept, Consumes-nil}
 use Rattle.std.proofs.lemmas.List.{take-append-le}
 use Rattle.std.proofs.lemmas.Result.{err_from_is_err_and}
@@ -15,8 +15,7 @@ pub returns-clause-source : goal.returns-clause-source
 returns-clause-source g c = KeepsSource-ok c.in_ok-count.ensures.source
 
 pub returns-then-room-eq0-clause-read : goal.returns-then-room-eq0-clause-read
-returns-then-room-eq0-clause-read g c = IsReadOn-nothing c.args.most c.args.bytes.now.items _ _ _
-    c.requires.few (Consumes-nil _)
+returns-then-room-eq0-clause-read g c = IsReadOn-nothing _ _ _ _ _ c.requires.few (Consumes-nil _)
 
 pub returns-then-room-eq0-clause-end : goal.returns-then-room-eq0-clause-end
 returns-then-room-eq0-clause-end g c = λ is below. absurd (omega (
@@ -62,30 +61,7 @@ returns-in_err-extend_from_slice-clause-read g c =
 
 pub returns-clause-read : goal.returns-clause-read
 returns-clause-read g c =
-    let old = c.args.bytes.now.items in
-    let count = c.in_ok-count.count in
-    let buffer = c.read_piece.new.buffer in
-    let piece = take count buffer in
-    record {
-      piece = piece;
-      front = c.in_ok-count.ensures.read.taken;
-      few = omega (
-        arith,
-        length-append old piece,
-        length-take {A = ℕ} count buffer,
-        c.in_ok-count.ensures.read.within,
-        c.read_piece.ensures.length,
-        length-take {A = ℕ} c.min-room.result c.args.buffer.now,
-        c.min-room.ensures,
-        c.len.ensures,
-        c.args.bytes.now.ok.0,
-        c.requires.few,
-      );
-      added = c.in_ok-extend_from_slice.ensures.items ∙ ap (λ (more : List ℕ). old ++ more)
-          (take-append-le count buffer (drop c.min-room.result c.args.buffer.now)
-          c.in_ok-count.ensures.read.within);
-    }
+    search (rules, take-append-le, c.args.bytes.now.items, c.in_ok-count.count)
 
 pub returns-clause-length : goal.returns-clause-length
-returns-clause-length g c = put_back c.read_piece.new.buffer c.args.buffer.now c.min-room.result
-    c.read_piece.ensures.length
+returns-clause-length g c = put_back _ _ _ c.read_piece.ensures.length

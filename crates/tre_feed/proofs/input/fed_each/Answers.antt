@@ -1,4 +1,4 @@
-use Rattle.std.proofs.Common.{◌≡◌, ◌∙◌, [], sym, append-nil, rules}
+use Rattle.std.proofs.Common.{rules}
 use Rattle.tre_feed.specs.Each.{readers_in}
 use Rattle.tre_feed.proofs.Begun.{none_left, none_more, readers_more}
 use Rattle.tre_feed.proofs.input.fed_each.Goals as goal
@@ -17,7 +17,4 @@ loop-reader-preserved g c =
 
 pub returns-clause-readers : goal.returns-clause-readers
 returns-clause-readers g c =
-    let rest = c.loop-reader.reader-iterator.rest in
-    let none : rest.items ≡ [] = none_left rest.items (sym rest.ok.0 ∙ c.in-None.ensures.steps.0) in
-    sym (append-nil (readers_in c.loop-reader.each.items))
-    ∙ (rw none at c.loop-reader.invariant.left)
+    search (rules, none_left, readers_in, c.loop-reader.reader-iterator.rest)

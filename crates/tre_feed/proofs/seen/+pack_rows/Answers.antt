@@ -4,17 +4,10 @@ use Rattle.tre_feed.proofs.seen.+pack_rows.Goals as goal
 
 pub pack_rows-requires : goal.pack_rows-requires
 pack_rows-requires g t c κs within =
-    let others = rw c.in-Some.ensures.cases.0 at c.requires.within in
-    let fits = rw (c.in-Some.ensures.cases.0, c.in-Some-split_first_mut.ensures.cases.0) at
-    c.requires.fits in
-    search (rules, others, fits)
+    search (rules, c.in-Some.ensures.cases.0, c.requires.within, c.requires.fits)
 
 pub returns-in_default : goal.returns-in_default
 returns-in_default g t c = rw (none_left c.args.views.now c.in_default.ensures.cases) refl
 
 pub returns-in_default-split_first_mut : goal.returns-in_default-split_first_mut
-returns-in_default-split_first_mut g t c =
-    rw (
-      c.in-Some.ensures.cases.0,
-      none_left c.args.traces.now c.in_default-split_first_mut.ensures.cases,
-    ) refl
+returns-in_default-split_first_mut g t c = search (rules, none_left, c.args.traces.now)

@@ -1,6 +1,6 @@
-use Rattle.std.proofs.Common.{refl, ◌∙◌, ◌∷◌, ◌<◌, ℕ, List, get_or, length, ap, ap₂, arith, rules}
+use Rattle.std.proofs.Common.{refl, ◌<◌, length, arith, rules}
 use Rattle.std.proofs.lemmas.List.Elements.{All-head, All-tail}
-use Rattle.tre_trace.specs.Trace.{Timeline, timeline_of}
+use Rattle.tre_trace.specs.Trace.{timeline_of}
 use Rattle.tre_feed.specs.Seen.{lasts_in}
 use Rattle.tre_feed.specs.Shares.{group_of}
 use Rattle.tre_feed.specs.Shown.{shown_events}
@@ -23,20 +23,10 @@ set_lasts-requires g t c κs within =
     search (rules, others)
 
 pub returns : goal.returns
-returns g t c =
-    let shown = c.events.ensures.shown ∙ ap (shown_events c.in-Some.view.now) (c.last_at.ensures
-    ∙ ap (λ (group : ℕ). get_or (lasts_in c.args.each.now) group 0) c.group.ensures) in
-    rw (c.in-Some.ensures.cases.0, c.in-Some-split_first_mut.ensures.cases.0)
-    (ap₂ (λ (first : Timeline) (rest : List Timeline). first ∷ rest)
-    (c.set_last.ensures.set ∙ ap (timeline_of c.in-Some-split_first_mut.trace.now.segments) shown)
-    c.set_lasts.ensures)
+returns g t c = search (rules, shown_events, lasts_in, timeline_of)
 
 pub returns-in_default : goal.returns-in_default
 returns-in_default g t c = rw (none_left c.args.views.now c.in_default.ensures.cases) refl
 
 pub returns-in_default-split_first_mut : goal.returns-in_default-split_first_mut
-returns-in_default-split_first_mut g t c =
-    rw (
-      c.in-Some.ensures.cases.0,
-      none_left c.args.traces.now c.in_default-split_first_mut.ensures.cases,
-    ) refl
+returns-in_default-split_first_mut g t c = search (rules, none_left, c.args.traces.now)

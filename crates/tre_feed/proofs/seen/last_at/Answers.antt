@@ -4,5 +4,4 @@ use Rattle.tre_feed.proofs.Seeing.{at_mapped}
 use Rattle.tre_feed.proofs.seen.last_at.Goals as goal
 
 pub returns : goal.returns
-returns g c = sym (at_mapped last_events_of c.args.each.now c.args.group c.index-each-group.result 0
-    c.requires)
+returns g c = sym (at_mapped last_events_of _ _ _ 0 c.requires)

@@ -20,5 +20,4 @@ loop-view-preserved g c =
     c.in_ok-push.ensures.items
 
 pub returns : goal.returns
-returns g c = mapped-all (last_seen (lasts_in c.args.each.now)) c.args.views.now
-    c.loop-view.view-index c.loop-view.lasts.items c.loop-view-test.false c.loop-view.invariant
+returns g c = mapped-all (last_seen (lasts_in _)) _ _ _ c.loop-view-test.false c.loop-view.invariant

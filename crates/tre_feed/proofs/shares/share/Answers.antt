@@ -1,4 +1,4 @@
-use Rattle.std.proofs.Common.{◌++◌, ◌∷◌, [], map, take, refl, subst}
+use Rattle.std.proofs.Common.{◌++◌, ◌∷◌, [], map, take, refl, subst, rules}
 use Rattle.std.proofs.lemmas.List.{take_all}
 use Rattle.tre_syntax.specs.Pattern.{names_of}
 use Rattle.tre_feed.specs.Shares.{AreShared}
@@ -17,7 +17,4 @@ loop-pattern-preserved c =
     (c.in_ok-add.ensures so_far c.loop-pattern.invariant)
 
 pub returns : goal.returns
-returns c =
-    subst (λ all. AreShared (map names_of all) c.loop-pattern.shares)
-    (take_all c.loop-pattern.pattern-index c.args.patterns.now c.loop-pattern-test.false)
-    c.loop-pattern.invariant
+returns c = search (rules, names_of, take_all, c.loop-pattern.pattern-index, c.args.patterns.now)

@@ -1,4 +1,4 @@
-use Rattle.std.proofs.Common.{◌<◌, length, arith}
+use Rattle.std.proofs.Common.{◌<◌, length, arith, rules}
 use Rattle.tre_syntax.specs.Pattern.{names_of}
 use Rattle.tre_feed.proofs.Sharing.{view-here, Keep-set}
 use Rattle.tre_feed.proofs.shares.view_among.Goals as goal
@@ -12,10 +12,7 @@ returns-in_err-view-clause-keep c =
 
 pub returns-in-Some-clause-view : goal.returns-in-Some-clause-view
 returns-in-Some-clause-view c =
-    let within : c.loop-number.number < length c.loop-number.groups = omega arith in
-    let told = rw c.in-Some.is at c.in_ok-view.ensures in
-    view-here c.loop-number.groups c.loop-number.number (names_of c.args.pattern.now)
-    c.admit.new.self c.in-Some.view within told.number told.shows
+    search (rules, view-here, names_of, c.loop-number.number, c.loop-number.groups, c.in-Some.is)
 
 pub returns-in-Some-clause-keep : goal.returns-in-Some-clause-keep
 returns-in-Some-clause-keep c =

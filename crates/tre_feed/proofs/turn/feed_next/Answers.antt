@@ -1,4 +1,4 @@
-use Rattle.std.proofs.Common.{◌∙◌, ◌+◌, ◌-◌, ◌≤◌, ℕ, Bool, List, false, true, Ok, Err, length, take, arith, subst, length-take}
+use Rattle.std.proofs.Common.{◌∙◌, ◌+◌, ◌-◌, ◌≤◌, ℕ, Bool, List, false, true, Ok, Err, length, take, arith, subst, length-take, rules}
 use Rattle.std.proofs.lemmas.Result.{err_from_is_err_and}
 use Rattle.tre_trace.specs.Reading.{Recording}
 use Rattle.tre_trace.specs.declared.reader.TheConstants.{FED_MAX}
@@ -223,10 +223,7 @@ returns-in_err-count-clause-source g c =
 
 pub returns-in_err-finish_all-clause-source : goal.returns-in_err-finish_all-clause-source
 returns-in_err-finish_all-clause-source g c =
-    let p = err_from_is_err_and c.from_residual-in_err-finish_all.result
-    c.from_residual-in_err-finish_all.ensures.1 in
-    rw (p.1, p.2) (KeepsSource-readers c.in_err-finish_all.field-0.0
-    c.in_err-finish_all.ensures.of_readers c.in_ok-count.ensures.source)
+    search (rules, KeepsSource-readers, c.from_residual-in_err-finish_all.ensures.1)
 
 pub returns-then-count-eq0-clause-source : goal.returns-then-count-eq0-clause-source
 returns-then-count-eq0-clause-source g c = KeepsSource-ok c.in_ok-count.ensures.source
@@ -247,44 +244,19 @@ pub returns-clause-same : goal.returns-clause-same
 returns-clause-same g c = c.feed_piece.ensures.same
 
 pub returns-in_err-count-clause-length : goal.returns-in_err-count-clause-length
-returns-in_err-count-clause-length g c =
-    put_back c.feed_piece.new.buffer c.args.buffer.now c.min-room.result
-    c.feed_piece.ensures.length
+returns-in_err-count-clause-length g c = put_back _ _ _ c.feed_piece.ensures.length
 
 pub returns-in_err-finish_all-clause-length : goal.returns-in_err-finish_all-clause-length
-returns-in_err-finish_all-clause-length g c =
-    put_back c.feed_piece.new.buffer c.args.buffer.now c.min-room.result
-    c.feed_piece.ensures.length
+returns-in_err-finish_all-clause-length g c = put_back _ _ _ c.feed_piece.ensures.length
 
 pub returns-then-count-eq0-clause-length : goal.returns-then-count-eq0-clause-length
-returns-then-count-eq0-clause-length g c =
-    put_back c.feed_piece.new.buffer c.args.buffer.now c.min-room.result
-    c.feed_piece.ensures.length
+returns-then-count-eq0-clause-length g c = put_back _ _ _ c.feed_piece.ensures.length
 
 pub returns-clause-length : goal.returns-clause-length
-returns-clause-length g c =
-    put_back c.feed_piece.new.buffer c.args.buffer.now c.min-room.result
-    c.feed_piece.ensures.length
+returns-clause-length g c = put_back _ _ _ c.feed_piece.ensures.length
 
 pub feed_piece-requires-clause-room : goal.feed_piece-requires-clause-room
-feed_piece-requires-clause-room g c =
-    omega (
-      arith,
-      length-take {A = ℕ} c.min-room.result c.args.buffer.now,
-      c.min-room.ensures,
-      c.requires.buffer.some,
-    )
+feed_piece-requires-clause-room g c = search (rules, c.min-room.result)
 
 pub returns-clause-taken : goal.returns-clause-taken
-returns-clause-taken g c =
-    λ more. record {
-      more = omega (arith, c.if-count-eq0.false);
-      few = omega (
-        arith,
-        c.in_ok-count.ensures.read.within,
-        c.feed_piece.ensures.length,
-        length-take {A = ℕ} c.min-room.result c.args.buffer.now,
-        c.min-room.ensures,
-        c.if-taken-limit.false,
-      );
-    }
+returns-clause-taken g c = search (rules, c.min-room.result)

@@ -1,18 +1,16 @@
-use Rattle.std.proofs.Common.{◌≡◌, ◌∙◌, ℕ, ◌≤◌, ◌++◌, List, false, length, take, arith, length-take, ap, subst}
+use Rattle.std.proofs.Common.{◌≡◌, ◌∙◌, ℕ, ◌≤◌, ◌++◌, List, false, length, take, arith, length-take, ap, subst, rules}
 use Rattle.std.proofs.lemmas.Result.{err_from_is_err_and}
 use Rattle.tre_feed.specs.Each.{AllWait, AllWereFed, recording_by}
 use Rattle.tre_feed.specs.Turn.{TakesOn}
 use Rattle.tre_feed.proofs.Cuts.{take_both}
-use Rattle.tre_feed.proofs.Pieces.{KeepsSource-ok, KeepsSource-readers, StopsPiece-refused, StopsPiece-unread}
+use Rattle.tre_feed.proofs.Pieces.{KeepsSource-ok, StopsPiece-refused}
 use Rattle.tre_trace.specs.declared.reader.TheConstants.{FED_MAX}
 use Rattle.tre_feed.proofs.Standing.{room_less}
 use Rattle.tre_feed.proofs.turn.feed_piece.Goals as goal
 
 pub returns-in_err-count-clause-feeds : goal.returns-in_err-count-clause-feeds
 returns-in_err-count-clause-feeds g c =
-    let p = err_from_is_err_and c.from_residual.result c.from_residual.ensures.1 in
-    λ bytes so_far. rw (p.1, p.2) (StopsPiece-unread _ _ _ bytes _ _ _ c.in_err-count.field-0.0
-    c.in_err-count.ensures.failed c.in_err-count.ensures.kept)
+    search (rules, c.from_residual.result, c.from_residual.ensures.1, c.in_err-count.ensures.failed)
 
 pub returns-in_err-count-clause-source : goal.returns-in_err-count-clause-source
 returns-in_err-count-clause-source g c =
@@ -37,10 +35,7 @@ returns-in_err-feed_all-clause-feeds g c =
 
 pub returns-in_err-feed_all-clause-source : goal.returns-in_err-feed_all-clause-source
 returns-in_err-feed_all-clause-source g c =
-    let p = err_from_is_err_and c.from_residual-in_err-feed_all.result
-    c.from_residual-in_err-feed_all.ensures.1 in
-    rw (p.1, p.2) (KeepsSource-readers c.in_err-feed_all.field-0.0
-    c.in_err-feed_all.ensures.of_readers c.in_ok-count.ensures.source)
+    search (rules, c.from_residual-in_err-feed_all.ensures.1, c.in_err-feed_all.ensures.of_readers)
 
 pub returns-clause-feeds : goal.returns-clause-feeds
 returns-clause-feeds g c =

@@ -1,4 +1,4 @@
-use Rattle.std.proofs.Common.{ℕ, ◌≤◌, All, List, bit_or, slice_index_or, subst, arith}
+use Rattle.std.proofs.Common.{ℕ, ◌≤◌, bit_or, slice_index_or, arith, rules}
 use Rattle.std.proofs.lemmas.List.{take_all, take_more}
 use Rattle.std.proofs.lemmas.List.Elements.{All-nil, All-push, All-weaker}
 use Rattle.std.proofs.lemmas.Bool.{leb-true}
@@ -43,11 +43,4 @@ loop-segment-preserved c =
 
 pub returns-then-values-names : goal.returns-then-values-names
 returns-then-values-names c is =
-    let names = c.args.names in
-    let events = c.args.events in
-    subst (λ (list : List Segment). All (UpTo names events) list)
-    (take_all c.loop-segment.segment-index c.args.row.now c.loop-segment-test.false)
-    (All-weaker (UpTo c.loop-segment.values c.loop-segment.happen) (UpTo names events)
-    (wider c.loop-segment.values c.loop-segment.happen names events (omega arith)
-    (leb-true c.loop-segment.happen events is))
-    _ c.loop-segment.invariant)
+    search (rules, take_all, All-weaker, wider, leb-true, c.args.names, c.args.events)

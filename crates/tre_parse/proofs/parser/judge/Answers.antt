@@ -1,4 +1,4 @@
-use Rattle.std.proofs.Common.{◌≡◌, ◌≤◌, ◌-◌, List, [], ◌∷◌, length, refl, sym, ◌∙◌, ap, arith, inr, subst}
+use Rattle.std.proofs.Common.{◌≡◌, ◌≤◌, ◌-◌, List, [], ◌∷◌, length, refl, sym, ◌∙◌, ap, arith, inr, subst, rules}
 use Rattle.std.specs.Prelude.{position}
 use Rattle.tre_parse.specs.declared.token.Token.{Token}
 use Rattle.tre_parse.specs.Front.{tokens_in}
@@ -74,13 +74,7 @@ returns-then-nodes-gt-NODES_MAX-clause-fault c =
     c.if-nodes-gt-NODES_MAX.true)
 
 pub returns-clause-all : goal.returns-clause-all
-returns-clause-all c =
-    none_left c.args.rest.now (omega (arith, c.left.ensures, c.if-left-gt0.false))
+returns-clause-all c = none_left _ (omega (arith, c.left.ensures, c.if-left-gt0.false))
 
 pub returns-clause-judged : goal.returns-clause-judged
-returns-clause-judged c = record {
-  kept = c.in_default.is;
-  named = ap (λ ts. position is_past (tokens_in ts)) (sym c.deref.ensures.value)
-      ∙ sym c.first_past.ensures ∙ c.in_default-first_past.is;
-  small = omega arith;
-}
+returns-clause-judged c = search (rules, is_past, tokens_in)

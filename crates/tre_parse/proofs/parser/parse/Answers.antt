@@ -1,6 +1,5 @@
-use Rattle.std.proofs.Common.{Err, inr, refl, arith}
+use Rattle.std.proofs.Common.{Err, arith, rules}
 use Rattle.std.proofs.lemmas.Result.{err_from_is_err_and}
-use Rattle.tre_parse.specs.declared.fault.ParseFault.TheVariants.{TooLong}
 use Rattle.tre_parse.specs.Outcome.{refused}
 use Rattle.tre_parse.proofs.Agreement.{scanned_outcome, outcome_meant, answer_meant}
 use Rattle.tre_parse.proofs.Judging.{scan_numbered, answers_text, answered, long_outcome, bad_outcome}
@@ -8,8 +7,7 @@ use Rattle.tre_parse.proofs.Spelling.{answer_spells}
 use Rattle.tre_parse.proofs.parser.parse.Goals as goal
 
 pub parse_words-requires : goal.parse_words-requires
-parse_words-requires c = scan_numbered c.args.scale c.args.text.now c.in_ok-scan.scan
-    c.in_ok-scan.ensures.ok
+parse_words-requires c = scan_numbered _ _ c.in_ok-scan.scan c.in_ok-scan.ensures.ok
 
 pub returns : goal.returns
 returns c =
@@ -28,16 +26,7 @@ returns c =
 
 pub returns-then-text-gt-TEXT_MAX : goal.returns-then-text-gt-TEXT_MAX
 returns-then-text-gt-TEXT_MAX c =
-    let scale = c.args.scale in
-    let text = c.args.text.now in
-    let is = long_outcome scale text (omega arith) in
-    record {
-      spelling = tt;
-      outcome = inr (outcome_meant scale text (refused TooLong) is);
-      only = λ outcome h. answered scale text outcome (Err TooLong) (inr is)
-          (scanned_outcome scale text outcome h);
-      too_long = λ long. refl;
-    }
+    search (rules, long_outcome, outcome_meant, refused, answered, c.args.scale, c.args.text.now)
 
 pub returns-in_err-scan : goal.returns-in_err-scan
 returns-in_err-scan c =

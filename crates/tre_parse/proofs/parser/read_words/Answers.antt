@@ -1,11 +1,10 @@
-use Rattle.std.proofs.Common.{List, ap, subst, ◌∙◌}
+use Rattle.std.proofs.Common.{List, ap, subst, ◌∙◌, rules}
 use Rattle.std.proofs.lemmas.Result.{err_from_is_err_and}
 use Rattle.tre_parse.specs.declared.token.Token.{Token}
-use Rattle.tre_parse.specs.Operands.{Represents}
 use Rattle.tre_parse.specs.Front.{tokens_in}
 use Rattle.tre_parse.specs.Answers.{text_tokens_in}
 use Rattle.tre_parse.specs.Reader.{got}
-use Rattle.tre_parse.specs.Reading.{ReadingGoes, Stops}
+use Rattle.tre_parse.specs.Reading.{Stops}
 use Rattle.tre_parse.proofs.Judging.{stop_outcome}
 use Rattle.tre_parse.proofs.Whole.{read_whole}
 use Rattle.tre_parse.specs.Unkept.{FindsUpTo}
@@ -17,10 +16,7 @@ returns-in_err-within_limits-clause-fault c =
     rw (p.1, p.2) c.in_err-within_limits.ensures.fault
 
 pub judge-requires-clause-whole : goal.judge-requires-clause-whole
-judge-requires-clause-whole c =
-    let P = λ (ts : List Token). ReadingGoes Represents c.in-Ok.whole (read_whole ts)
-    (λ e. got e c.expression.new.tokens) in
-    subst P (c.new-rest.ensures ∙ ap tokens_in c.deref.ensures.value) c.in-Ok.ensures.reads
+judge-requires-clause-whole c = search (rules, read_whole, got, tokens_in, c.in-Ok.whole)
 
 pub judge-requires-clause-unkept : goal.judge-requires-clause-unkept
 judge-requires-clause-unkept c =
@@ -29,20 +25,11 @@ judge-requires-clause-unkept c =
 
 pub returns-in-Ok-judge-clause-whole : goal.returns-in-Ok-judge-clause-whole
 returns-in-Ok-judge-clause-whole c =
-    let P = λ (ts : List Token). ReadingGoes Represents c.in-Ok.whole (read_whole ts)
-    (λ e. got e c.expression.new.tokens) in
-    let Q = λ (ts : List Token). ReadingGoes Represents c.in-Ok.whole
-    (read_whole (text_tokens_in c.args.scan.now).tokens) (λ e. got e ts) in
-    subst Q c.in-Ok-judge.ensures.all
-    (subst P (c.new-rest.ensures ∙ ap tokens_in c.deref.ensures.value) c.in-Ok.ensures.reads)
+    search (rules, read_whole, got, text_tokens_in, tokens_in, c.in-Ok.whole)
 
 pub returns-in-Ok-judge-clause-unkept : goal.returns-in-Ok-judge-clause-unkept
 returns-in-Ok-judge-clause-unkept c =
-    let P = λ (ts : List Token). FindsUpTo ts c.expression.new.tokens c.in-Ok.whole.unkept in
-    let Q = λ (ts : List Token). FindsUpTo (text_tokens_in c.args.scan.now).tokens ts
-    c.in-Ok.whole.unkept in
-    subst Q c.in-Ok-judge.ensures.all
-    (subst P (c.new-rest.ensures ∙ ap tokens_in c.deref.ensures.value) c.in-Ok.ensures.unkept)
+    search (rules, text_tokens_in, tokens_in, c.expression.new.tokens, c.in-Ok.whole.unkept)
 
 pub returns-in-Err-clause-fault : goal.returns-in-Err-clause-fault
 returns-in-Err-clause-fault c =

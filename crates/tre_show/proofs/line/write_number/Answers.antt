@@ -1,4 +1,4 @@
-use Rattle.std.proofs.Common.{◌≡◌, ◌+◌, ◌<◌, ◌/◌, ◌^◌, arith}
+use Rattle.std.proofs.Common.{arith, rules}
 use Rattle.std.proofs.Math.Nat.{div-le_self, one-le-pow}
 use Rattle.tre_show.proofs.LineBytes.{digits_fit, number_ascii}
 use Rattle.tre_show.proofs.line.write_number.Goals as goal
@@ -9,8 +9,7 @@ write_digits-requires c =
     (omega (arith, size, c.requires.room), c.requires.room.1)
 
 pub returns-then-scale-eq0-clause-ascii : goal.returns-then-scale-eq0-clause-ascii
-returns-then-scale-eq0-clause-ascii c =
-    number_ascii c.args.scale c.args.units c.ranges.units.fits
+returns-then-scale-eq0-clause-ascii c = number_ascii _ _ c.ranges.units.fits
 
 pub returns-then-scale-eq0-clause-begin : goal.returns-then-scale-eq0-clause-begin
 returns-then-scale-eq0-clause-begin c =
@@ -21,32 +20,10 @@ pub nonzero_div-units : goal.nonzero_div-units
 nonzero_div-units c = omega (arith, one-le-pow c.from.result 10 (omega arith), c.pow.ensures)
 
 pub write_digits-requires-2 : goal.write_digits-requires-2
-write_digits-requires-2 c =
-    let front = c.args.units / c.pow.result in
-    let less : front < 2 ^ 64 =
-    omega (arith, c.ranges.units.fits, div-le_self c.args.units c.pow.result) in
-    let size = digits_fit front less in
-    let begin : c.write_sign-end.result + 1 + c.args.scale ≡ c.args.end =
-    omega (arith, c.write_last-end.ensures.begin, c.write_sign-end.ensures.begin) in (
-      omega (arith, size, begin, c.requires.room, c.requires.scale),
-      omega (
-        arith,
-        begin,
-        c.requires.room,
-        c.write_last-end.auto.buffer,
-        c.write_sign-end.auto.buffer,
-      ),
-    )
+write_digits-requires-2 c = search (rules, div-le_self, digits_fit, c.args.units, c.pow.result)
 
 pub returns-clause-ascii : goal.returns-clause-ascii
 returns-clause-ascii c = number_ascii c.args.scale c.args.units c.ranges.units.fits
 
 pub returns-clause-begin : goal.returns-clause-begin
-returns-clause-begin c =
-    let front = c.args.units / c.pow.result in
-    let less : front < 2 ^ 64 =
-    omega (arith, c.ranges.units.fits, div-le_self c.args.units c.pow.result) in
-    let size = digits_fit front less in
-    let begin : c.write_sign-end.result + 1 + c.args.scale ≡ c.args.end =
-    omega (arith, c.write_last-end.ensures.begin, c.write_sign-end.ensures.begin) in
-    omega (arith, size, begin, c.requires.scale, c.write_digits-2.ensures.start)
+returns-clause-begin c = search (rules, div-le_self, digits_fit, c.args.units, c.pow.result)

@@ -1,4 +1,4 @@
-use Rattle.std.proofs.Common.{◌≡◌, ◌-◌, ◌+◌, ◌++◌, ◌∙◌, ap, append_assoc, sym, drop, arith}
+use Rattle.std.proofs.Common.{◌≡◌, ◌-◌, ◌+◌, ◌++◌, ◌∙◌, ap, append_assoc, sym, drop, arith, rules}
 use Rattle.std.specs.List.{slice_range}
 use Rattle.tre_show.specs.Line.{line_of, lines_of}
 use Rattle.tre_show.proofs.Lines.{lines_none, lines_before}
@@ -6,15 +6,7 @@ use Rattle.tre_show.proofs.offline.write_lines.Goals as goal
 
 pub loop-left-init : goal.loop-left-init
 loop-left-init g c =
-    let rest = drop c.args.end c.args.buffer.now in
-    record {
-      late = c.requires.places.0;
-      early = omega arith;
-      room = c.requires.room.0;
-      within = omega arith;
-      lines = ap (λ s. s ++ rest)
-          (sym (lines_none c.args.scale (g.Z.Zones.zones c.args.zones.now) c.args.to));
-    }
+    search (rules, lines_none, c.args.end, c.args.buffer.now, c.args.scale, g.Z.Zones.zones)
 
 pub loop-left-preserved : goal.loop-left-preserved
 loop-left-preserved g c =

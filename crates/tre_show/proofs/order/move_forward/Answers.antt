@@ -1,13 +1,9 @@
-use Rattle.std.proofs.Common.{◌∙◌, refl, arith}
+use Rattle.std.proofs.Common.{arith, rules}
 use Rattle.std.proofs.lemmas.List.Sorted.{IsPermutation-refl, IsPermutation-trans}
 use Rattle.tre_show.proofs.order.move_forward.Goals as goal
 
 pub loop-at-init : goal.loop-at-init
-loop-at-init c = record {
-  within = omega arith;
-  long = refl;
-  same = IsPermutation-refl c.args.zones.now;
-}
+loop-at-init c = search (rules, IsPermutation-refl)
 
 pub bounds-zones-at : goal.bounds-zones-at
 bounds-zones-at c =
@@ -26,11 +22,7 @@ swap-requires-clause-b_in_bounds c =
     omega (arith, c.loop-at.invariant.within, c.loop-at.invariant.long, c.requires)
 
 pub loop-at-preserved : goal.loop-at-preserved
-loop-at-preserved c = record {
-  within = omega (arith, c.loop-at.invariant.within);
-  long = c.swap.ensures.len ∙ c.loop-at.invariant.long;
-  same = IsPermutation-trans _ _ _ c.loop-at.invariant.same c.swap.ensures.permutation;
-}
+loop-at-preserved c = search (rules, IsPermutation-trans, c.loop-at.invariant.same)
 
 pub shape_of-zones : goal.shape_of-zones
 shape_of-zones c = c.loop-at.invariant.long

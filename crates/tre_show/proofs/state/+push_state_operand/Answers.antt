@@ -1,26 +1,15 @@
+use Rattle.std.proofs.Common.{rules}
 use Rattle.std.proofs.lemmas.Result.{on_ok_weaker}
 use Rattle.tre_show.proofs.Parenthesised.{put_joined, put_two}
 use Rattle.tre_show.proofs.state.+push_state_operand.Goals as goal
 
 pub returns-in_ok-push_state_operand-in-And-2 : goal.returns-in_ok-push_state_operand-in-And-2
 returns-in_ok-push_state_operand-in-And-2 t c =
-    on_ok_weaker c.push_close.result
-    (λ closed.
-    rw (c.in-And.is, ← c.deref-in-And.ensures, ← c.deref-in-And-2.ensures)
-    (put_joined _ _ _ _ _ _ _ _ _ _ c.in_ok-push_open-in-And.ensures
-    c.in_ok-push_state_operand-in-And.ensures c.in_ok-push_spaced-in-And.ensures
-    c.in_ok-push_state_operand-in-And-2.ensures closed))
-    c.push_close.ensures
+    search (rules, on_ok_weaker, put_joined, c.in_ok-push_state_operand-in-And.ensures)
 
 pub returns-in_ok-push_state_operand-in-Or-2 : goal.returns-in_ok-push_state_operand-in-Or-2
 returns-in_ok-push_state_operand-in-Or-2 t c =
-    on_ok_weaker c.push_close-in-Or.result
-    (λ closed.
-    rw (c.in-Or.is, ← c.deref-in-Or.ensures, ← c.deref-in-Or-2.ensures)
-    (put_joined _ _ _ _ _ _ _ _ _ _ c.in_ok-push_open-in-Or.ensures
-    c.in_ok-push_state_operand-in-Or.ensures c.in_ok-push_spaced-in-Or.ensures
-    c.in_ok-push_state_operand-in-Or-2.ensures closed))
-    c.push_close-in-Or.ensures
+    search (rules, on_ok_weaker, put_joined, c.in_ok-push_state_operand-in-Or.ensures)
 
 pub returns-in_ok-push_text-in-Not : goal.returns-in_ok-push_text-in-Not
 returns-in_ok-push_text-in-Not t c =

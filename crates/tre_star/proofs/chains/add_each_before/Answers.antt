@@ -1,4 +1,4 @@
-use Rattle.std.proofs.Common.{refl}
+use Rattle.std.proofs.Common.{refl, rules}
 use Rattle.tre_pairs.specs.Pairs.{Pairs, Either, Composed, Lasting}
 use Rattle.tre_zone.specs.Longest.{LastsUpTo}
 use Rattle.tre_zone.specs.Zone.{ZoneHolds}
@@ -12,11 +12,8 @@ use Rattle.tre_star.proofs.Short.{short_additive, Lasting-exact}
 use Rattle.tre_star.proofs.chains.add_each_before.Goals as goal
 
 pub loop-step-init : goal.loop-step-init
-loop-step-init c = record {
-  held = HoldExactly-none_beside c.args.reached.now _
-      (λ a b n h. SetHolds-empty _ _ _ h.related.left);
-  grown = HasGrown-none c.args.reached.now c.requires.reached;
-}
+loop-step-init c =
+    search (rules, HoldExactly-none_beside, SetHolds-empty, HasGrown-none, c.args.reached.now)
 
 pub loop-step-preserved : goal.loop-step-preserved
 loop-step-preserved c = record {

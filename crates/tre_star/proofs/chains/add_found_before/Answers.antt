@@ -1,4 +1,4 @@
-use Rattle.std.proofs.Common.{◌+◌, ◌-◌, ◌<◌, length, ap, arith}
+use Rattle.std.proofs.Common.{rules}
 use Rattle.std.proofs.lemmas.List.{length-map}
 use Rattle.tre_zone.specs.Longest.{LastsUpTo}
 use Rattle.tre_zone.specs.Zone.{row_of}
@@ -11,11 +11,8 @@ use Rattle.tre_star.proofs.Reaching.{HasGrown-none, HasGrown-then}
 use Rattle.tre_star.proofs.chains.add_found_before.Goals as goal
 
 pub loop-place-init : goal.loop-place-init
-loop-place-init c = record {
-  first = HoldsFirst-none (Before c.args.longest c.args.zone.now) c.args.reached.now
-      c.args.steps.now (λ a b n h. SetHolds-empty _ _ _ h.related.left);
-  grown = HasGrown-none c.args.reached.now c.requires.reached;
-}
+loop-place-init c =
+    search (rules, HoldsFirst-none, SetHolds-empty, HasGrown-none, c.args.longest, c.args.steps.now)
 
 pub loop-place-preserved : goal.loop-place-preserved
 loop-place-preserved c =
@@ -61,24 +58,7 @@ returns-clause-held c =
     c.loop-place.invariant.first
 
 pub bounds-items-next : goal.bounds-items-next
-bounds-items-next c =
-    let below : c.in-Some.next < length c.items-items.result.now =
-    omega (
-      arith,
-      c.in-Some.ensures.ends,
-      length-map c.args.steps.now row_of,
-      ap length c.items-items.ensures,
-    ) in
-    below
+bounds-items-next c = search (rules, length-map, row_of, c.args.steps.now)
 
 pub loop-place-smaller : goal.loop-place-smaller
-loop-place-smaller c =
-    let less : length c.args.steps.now - (c.in-Some.next + 1)
-    < length c.args.steps.now - c.loop-place.place =
-    omega (
-      arith,
-      c.in-Some.ensures.starts,
-      c.in-Some.ensures.ends,
-      length-map c.args.steps.now row_of,
-    ) in
-    less
+loop-place-smaller c = search (rules, length-map, row_of, c.args.steps.now)

@@ -36,8 +36,7 @@ returns-then-is_single c =
 
 pub join_disjoint-requires : goal.join_disjoint-requires
 join_disjoint-requires c =
-    HasNoPair-part (SetHolds c.args.chains.now) _ c.in_ok-part.part c.in_ok-part.ensures
-    c.requires.apart
+    HasNoPair-part (SetHolds _) _ c.in_ok-part.part c.in_ok-part.ensures c.requires.apart
 
 pub returns : goal.returns
 returns c =

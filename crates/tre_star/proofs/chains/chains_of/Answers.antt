@@ -1,4 +1,4 @@
-use Rattle.std.proofs.Common.{arith}
+use Rattle.std.proofs.Common.{arith, rules}
 use Rattle.tre_zone.specs.Longest.{LastsUpTo}
 use Rattle.tre_zone.specs.Zone.{IsInstantBetween}
 use Rattle.tre_zone.proofs.Lasting.{LastsUpTo-downward, LastsUpTo-scales}
@@ -38,9 +38,7 @@ loop-place-preserved c =
 
 pub loop-place-smaller : goal.loop-place-smaller
 loop-place-smaller c =
-    let fewer = c.in_ok-add_before-2.ensures.grown.fewer in
-    let within = rw c.items.ensures at c.loop-place-test.true in
-    omega (arith, fewer, within)
+    search (rules, c.in_ok-add_before-2.ensures.grown.fewer, c.items.ensures)
 
 pub returns : goal.returns
 returns c =

@@ -1,14 +1,11 @@
-use Rattle.std.proofs.Common.{◌≡◌, ◌∷◌, [], ◌++◌, ◌+◌, List, take, append_assoc, sym, ap, ◌∙◌}
+use Rattle.std.proofs.Common.{◌≡◌, ◌∷◌, [], ◌++◌, ◌+◌, List, take, append_assoc, sym, ap, ◌∙◌, rules}
 use Rattle.std.proofs.lemmas.List.{take_more, take_all, append-nil}
 use Rattle.tre_zone.specs.declared.zone_bounds.ZoneBounds.{ZoneBounds}
 use Rattle.tre_zone.proofs.ZoneListLemmas.{AreCanonical-empty, AreCanonical-push}
 use Rattle.tre_star.proofs.one_way.add_all.Goals as goal
 
 pub loop-zone-init : goal.loop-zone-init
-loop-zone-init c = record {
-  all = sym (append-nil c.args.found.now.items);
-  canonical = AreCanonical-empty;
-}
+loop-zone-init c = search (rules, append-nil, AreCanonical-empty)
 
 pub loop-zone-preserved : goal.loop-zone-preserved
 loop-zone-preserved c =
@@ -31,7 +28,4 @@ loop-zone-preserved c =
 
 pub returns : goal.returns
 returns c =
-    let whole = take_all c.loop-zone.zone-index c.args.more.now c.loop-zone-test.false in record {
-      all = rw whole at c.loop-zone.invariant.all;
-      canonical = rw whole at c.loop-zone.invariant.canonical;
-    }
+    search (rules, take_all, c.loop-zone.zone-index, c.args.more.now, c.loop-zone-test.false)

@@ -1,9 +1,9 @@
-use Rattle.std.proofs.Common.{◌≡◌, subst, arith}
+use Rattle.std.proofs.Common.{arith, rules}
 use Rattle.tre_zone.specs.Longest.{LastsUpTo}
 use Rattle.tre_zone.specs.Zone.{IsInstantBetween}
 use Rattle.tre_zone.proofs.Lasting.{LastsUpTo-downward, LastsUpTo-scales}
 use Rattle.tre_star.proofs.Chaining.{Scales-instants, instants-rising}
-use Rattle.tre_star.proofs.OneWay.{AreFoundFrom, AreFoundFrom-none, AreFoundFrom-next}
+use Rattle.tre_star.proofs.OneWay.{AreFoundFrom-none, AreFoundFrom-next}
 use Rattle.tre_star.proofs.one_way.chains_from_last.Goals as goal
 
 pub loop-left-init : goal.loop-left-init
@@ -34,8 +34,4 @@ loop-left-preserved c =
     }
 
 pub returns : goal.returns
-returns c =
-    let none : c.loop-left.left ≡ 0 = omega arith in
-    (subst (λ left. AreFoundFrom (LastsUpTo c.args.limits.now.longest)
-    (IsInstantBetween c.args.limits.now.from c.args.limits.now.to) c.args.steps.now left
-    c.loop-left.found.items c.loop-left.last.items) none c.loop-left.invariant.from).chains
+returns c = search (rules, c.args.limits.now.from, c.args.steps.now, c.loop-left.found.items)

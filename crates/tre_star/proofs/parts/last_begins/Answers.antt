@@ -1,17 +1,13 @@
-use Rattle.std.proofs.Common.{rules, ◌≡◌, ◌^◌, sym, subst, arith, w64, negsuc, ◌≤ℤ◌}
-use Rattle.std.proofs.lemmas.Int.{ints, to_z-of_z}
+use Rattle.std.proofs.Common.{rules, ◌≡◌, ◌^◌, sym, subst, w64, ◌≤ℤ◌}
+use Rattle.std.proofs.lemmas.Int.{to_z-of_z}
 use mir.Val.{to_z, of_z}
 use Rattle.tre_zone.specs.Bound.{IsKeyWithin}
 use Rattle.tre_zone.specs.declared.zone_bounds.ZoneBounds.{ZoneBounds}
-use Rattle.tre_star.specs.Parts.{AreLastBegins}
 use Rattle.tre_star.proofs.Separate.{HaveBegins-none, HaveBegins-more, key_at, wider}
 use Rattle.tre_star.proofs.parts.last_begins.Goals as goal
 
 pub loop-count-init : goal.loop-count-init
-loop-count-init c =
-    rw c.new-begins.ensures.items
-    (HaveBegins-none c.args.steps.now (negsuc 1125899906842623)
-    (record { low = omega (arith, ints); high = omega (arith, ints) }))
+loop-count-init c = search (rules, HaveBegins-none, c.args.steps.now)
 
 pub loop-count-preserved : goal.loop-count-preserved
 loop-count-preserved c =
@@ -33,7 +29,4 @@ loop-count-preserved c =
 
 pub returns : goal.returns
 returns c =
-    let all = c.loop-count-test.false in
-    let end = c.loop-count.auto.count-end in
-    subst (λ k. AreLastBegins k c.loop-count.begins.items c.args.steps.now) (omega (arith, all, end))
-    c.loop-count.invariant.known
+    search (rules, c.loop-count-test.false, c.loop-count.auto.count-end, c.loop-count.begins.items)

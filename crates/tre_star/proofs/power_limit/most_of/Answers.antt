@@ -1,11 +1,7 @@
-use Rattle.std.proofs.Common.{rules, w64, ◌^◌}
-use mir.Val.{SFits}
+use Rattle.std.proofs.Common.{rules}
 use Rattle.std.proofs.lemmas.Int.{to_z-of_z}
 use Rattle.tre_star.proofs.Powers.{value_within}
 use Rattle.tre_star.proofs.power_limit.most_of.Goals as goal
 
 pub returns-clause-limit : goal.returns-clause-limit
-returns-clause-limit c =
-    let fits : SFits w64 c.value.result = search rules in
-    rw c.unsigned_abs.ensures.value
-    (simp to_z-of_z (rw c.value.ensures (value_within (2 ^ 42) c.args.high.now c.requires.key)))
+returns-clause-limit c = search (rules, to_z-of_z, value_within, c.value.ensures, c.args.high.now)

@@ -1,12 +1,10 @@
+use Rattle.std.proofs.Common.{rules}
 use Rattle.tre_strips.proofs.Comparing.{Narrows-itself, Narrows-trans}
 use Rattle.tre_strips.proofs.ZoneBars.{AreBarsOf-none, AreBarsOf-step, AreBarsOf-all}
 use Rattle.tre_strips.proofs.profiles.find_bars.Goals as goal
 
 pub loop-zone-init : goal.loop-zone-init
-loop-zone-init c = record {
-  narrowed = Narrows-itself _;
-  bars = rw c.clear.ensures.items (AreBarsOf-none _);
-}
+loop-zone-init c = search (rules, Narrows-itself, AreBarsOf-none, c.clear.ensures.items)
 
 pub loop-zone-preserved : goal.loop-zone-preserved
 loop-zone-preserved c = record {

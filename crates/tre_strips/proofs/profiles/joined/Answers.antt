@@ -22,9 +22,8 @@ loop-bar-init c =
 
 pub extend-requires : goal.extend-requires
 extend-requires c =
-    IsJoining-order _ c.loop-bar.times c.args.first.now c.args.rest.now c.loop-bar.bar-index
-    c.loop-bar.joined.items c.loop-bar.last _ c.loop-bar-test.true
-    (item c.args.rest.now c.loop-bar.bar-index c.loop-bar-test.true) c.loop-bar.invariant
+    IsJoining-order _ _ _ _ _ _ _ _ c.loop-bar-test.true (item _ _ c.loop-bar-test.true)
+    c.loop-bar.invariant
 
 pub loop-bar-preserved : goal.loop-bar-preserved
 loop-bar-preserved c =

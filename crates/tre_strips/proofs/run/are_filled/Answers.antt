@@ -1,4 +1,4 @@
-use Rattle.std.proofs.Common.{refl, true≢false, sym}
+use Rattle.std.proofs.Common.{refl, rules}
 use Rattle.tre_strips.proofs.Fitting.{AreFilled-none, AreFilled-more, AreFilled-all, AreFilled-not}
 use Rattle.tre_strips.proofs.run.are_filled.Goals as goal
 
@@ -11,11 +11,8 @@ loop-bar-preserved c =
     c.loop-bar.invariant (c.if-not-is_filled.ensures.0 refl)
 
 pub returns-then-not-is_filled : goal.returns-then-not-is_filled
-returns-then-not-is_filled c = (
-  (λ e. absurd (true≢false (sym e))),
-  (λ filled. absurd (AreFilled-not c.args.bars.now c.loop-bar.bar-index _ _ _ filled
-      c.loop-bar-test.true (λ h. true≢false (sym (c.if-not-is_filled.ensures.1 h))))),
-)
+returns-then-not-is_filled c =
+    search (rules, AreFilled-not, c.args.bars.now, c.loop-bar.bar-index, c.loop-bar-test.true)
 
 pub returns : goal.returns
 returns c = (

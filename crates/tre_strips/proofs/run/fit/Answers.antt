@@ -1,4 +1,4 @@
-use Rattle.std.proofs.Common.{refl, sym, true≢false}
+use Rattle.std.proofs.Common.{refl, rules}
 use Rattle.tre_strips.proofs.Fitting.{Agree-alike, few-Agree}
 use Rattle.tre_strips.proofs.run.fit.Goals as goal
 
@@ -10,9 +10,5 @@ returns-then-are_same_at c = (
 )
 
 pub returns-then-bars-lt2 : goal.returns-then-bars-lt2
-returns-then-bars-lt2 c = (
-  (λ e. absurd (true≢false (sym e))),
-  (λ agree. absurd (true≢false (sym (c.if-are_same_at.ensures.1
-      (few-Agree c.args.time c.args.bars.now c.args.there.now c.if-bars-lt2.true
-      c.requires agree))))),
-)
+returns-then-bars-lt2 c =
+    search (rules, few-Agree, c.args.time, c.args.bars.now, c.args.there.now, c.requires)

@@ -1,12 +1,9 @@
-use Rattle.std.proofs.Common.{refl, sym, true≢false}
+use Rattle.std.proofs.Common.{refl, rules}
 use Rattle.tre_strips.proofs.Fitting.{Agree-same, same-Agree, AreFilledOver-single, Agree-filled}
 use Rattle.tre_strips.proofs.run.fit_when_united.Goals as goal
 
 pub returns-then-not-are_filled : goal.returns-then-not-are_filled
-returns-then-not-are_filled c = (
-  (λ e. absurd (true≢false (sym e))),
-  (λ agree. absurd (true≢false (sym (c.if-not-are_filled.ensures.1 (Agree-filled _ _ _ agree))))),
-)
+returns-then-not-are_filled c = search (rules, Agree-filled, c.if-not-are_filled.ensures.1)
 
 pub united-requires : goal.united-requires
 united-requires c =

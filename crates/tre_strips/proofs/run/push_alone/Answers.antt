@@ -1,4 +1,4 @@
-use Rattle.std.proofs.Common.{refl, inl, inr}
+use Rattle.std.proofs.Common.{refl, inl, inr, rules}
 use Rattle.std.proofs.lemmas.Result.{IfOk-weaker}
 use Rattle.tre_strips.proofs.run.push_alone.Goals as goal
 
@@ -9,11 +9,4 @@ pub returns-then-fits : goal.returns-then-fits
 returns-then-fits c = inl (inr c.if-fits.true, refl)
 
 pub returns : goal.returns
-returns c =
-    IfOk-weaker c.push_strip.result _ _
-    (λ _ pushed. inr (
-      c.if-taken.false,
-      c.if-fits.false,
-      rw c.deref.ensures.value at pushed,
-    ))
-    c.push_strip.ensures
+returns c = search (rules, IfOk-weaker, c.push_strip.result, c.deref.ensures.value)

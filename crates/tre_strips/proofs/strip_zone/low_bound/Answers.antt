@@ -1,4 +1,4 @@
-use Rattle.std.proofs.Common.{◌≡◌, ◌+◌, min, pos, neg_ℤ, ◌+ℤ◌, ◌*ℤ◌, arith}
+use Rattle.std.proofs.Common.{◌≡◌, ◌+◌, min, pos, neg_ℤ, ◌+ℤ◌, ◌*ℤ◌, arith, rules}
 use Rattle.std.proofs.lemmas.Int.{ints}
 use Rattle.tre_pairs.specs.declared.TheConstants.{TIME_MAX}
 use Rattle.tre_strips.proofs.StripZones.{LowMeans-strict, LowMeans-weak, same_flags}
@@ -24,13 +24,8 @@ returns-else-end-clause-meaning c =
     (same_flags c.args.end.now.moves c.args.moves c.if-end-moves.false) c.if-end.false
 
 pub returns-then-end-clause-value : goal.returns-then-end-clause-value
-returns-then-end-clause-value c =
-    let shown = c.shown.ensures in
-    let value = c.strict.ensures.value in
-    record { low = omega (arith, ints); high = omega (arith, ints) }
+returns-then-end-clause-value c = search (rules, c.shown.ensures, c.strict.ensures.value)
 
 pub returns-else-end-clause-value : goal.returns-else-end-clause-value
 returns-else-end-clause-value c =
-    let shown = c.shown-else-end.ensures in
-    let value = c.weak-else-end.ensures.value in
-    record { low = omega (arith, ints); high = omega (arith, ints) }
+    search (rules, c.shown-else-end.ensures, c.weak-else-end.ensures.value)

@@ -8,12 +8,8 @@ loop-bar-init c = Pushes-none c.args.begins.now c.args.found.now.items
 
 pub loop-bar-preserved : goal.loop-bar-preserved
 loop-bar-preserved c =
-    Pushes-more c.args.begins.now c.args.bars.now c.loop-bar.bar-index _ _ _
-    c.push_zone.new.found.items c.loop-bar-test.true
-    (get_or_default c.args.bars.now c.loop-bar.bar-index blank _ c.loop-bar-test.true)
+    Pushes-more _ _ _ _ _ _ _ c.loop-bar-test.true (get_or_default _ _ blank _ c.loop-bar-test.true)
     c.loop-bar.invariant c.in_ok-push_zone.ensures
 
 pub returns : goal.returns
-returns c =
-    Pushes-all c.args.begins.now c.args.bars.now c.loop-bar.bar-index _ _
-    c.loop-bar-test.false c.loop-bar.invariant
+returns c = Pushes-all _ _ _ _ _ c.loop-bar-test.false c.loop-bar.invariant

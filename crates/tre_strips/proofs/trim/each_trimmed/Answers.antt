@@ -6,10 +6,8 @@ loop-zone-init c = rw c.in_ok-kept.ensures.items IsTrimmed-none
 
 pub loop-zone-preserved : goal.loop-zone-preserved
 loop-zone-preserved c =
-    IsTrimmed-more c.args.zones.now c.loop-zone.zone-index c.zone-item.result c.loop-zone.before
-    c.rest_of.result c.loop-zone.kept.items c.push_found.new.kept.items c.loop-zone-test.true
-    c.zone-item.is c.loop-zone.invariant c.rest_of.ensures c.in_ok-push_found.ensures.held
-    c.in_ok-push_found.ensures.canonical
+    IsTrimmed-more _ _ _ _ _ _ _ c.loop-zone-test.true c.zone-item.is c.loop-zone.invariant
+    c.rest_of.ensures c.in_ok-push_found.ensures.held c.in_ok-push_found.ensures.canonical
 
 pub returns : goal.returns
 returns c = record {

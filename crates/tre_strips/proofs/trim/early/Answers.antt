@@ -1,7 +1,4 @@
-use Rattle.std.proofs.Common.{sym, subst}
-use Rattle.tre_zone.specs.Zone.{IsCanonical, GivesZone}
-use Rattle.tre_zone.specs.declared.zone_bounds.ZoneBounds.{ZoneBounds}
-use Rattle.tre_strips.specs.Trim.{Early}
+use Rattle.std.proofs.Common.{rules}
 use Rattle.tre_strips.proofs.Trimming.{begun-values, early_given, value_min, value_of_key}
 use Rattle.tre_strips.proofs.trim.early.Goals as goal
 
@@ -12,9 +9,4 @@ new-requires c =
     (value_min _ _ _ c.tighter.ensures keys.begin_high c.requires.low)
 
 pub returns : goal.returns
-returns c =
-    let same = c.bounds-bounds.ensures.same in
-    subst (λ (zone : ZoneBounds). GivesZone c.new.result (Early zone c.args.last.now)) same
-    (early_given c.bounds-bounds.result c.args.last.now c.new.result c.tighter.result
-    (subst IsCanonical (sym same) c.bounds-bounds.ensures.canonical) c.tighter.ensures
-    c.new.ensures)
+returns c = search (rules, early_given, c.bounds-bounds.ensures.same, c.new.result, c.args.last.now)

@@ -1,8 +1,5 @@
-use Rattle.std.proofs.Common.{pos, neg_ℤ, ◌≤ℤ◌, ◌-ℤ◌, ◌^◌, sym, subst, arith}
+use Rattle.std.proofs.Common.{pos, neg_ℤ, ◌≤ℤ◌, ◌-ℤ◌, ◌^◌, arith, rules}
 use Rattle.std.proofs.lemmas.Int.{ints}
-use Rattle.tre_zone.specs.Zone.{IsCanonical, GivesZone}
-use Rattle.tre_zone.specs.declared.zone_bounds.ZoneBounds.{ZoneBounds}
-use Rattle.tre_strips.specs.Trim.{Late}
 use Rattle.tre_strips.proofs.Trimming.{begun-values, late_given, value_min, value_of_key}
 use Rattle.tre_strips.proofs.trim.late.Goals as goal
 
@@ -17,8 +14,4 @@ new-requires c =
 
 pub returns : goal.returns
 returns c =
-    let same = c.bounds-bounds.ensures.same in
-    subst (λ (zone : ZoneBounds). GivesZone c.new.result (Late zone c.args.last.now)) same
-    (late_given c.bounds-bounds.result c.args.last.now c.new.result c.tighter.result
-    (subst IsCanonical (sym same) c.bounds-bounds.ensures.canonical)
-    (rw c.behind.ensures at c.tighter.ensures) c.new.ensures)
+    search (rules, late_given, c.bounds-bounds.ensures.same, c.new.result, c.bounds-bounds.result)

@@ -7,8 +7,7 @@ returns-then-first_begin-last_begin c = TrimsBehind-itself c.args.zone.now c.arg
 
 pub returns-then-is_early_held : goal.returns-then-is_early_held
 returns-then-is_early_held c =
-    TrimsBehind-late c.args.zone.now c.args.other.now _ _ (c.if-is_early_held.ensures refl)
-    c.late.ensures
+    TrimsBehind-late _ _ _ _ (c.if-is_early_held.ensures refl) c.late.ensures
 
 pub returns-else-is_early_held : goal.returns-else-is_early_held
 returns-else-is_early_held c = TrimsBehind-itself c.args.zone.now c.args.other.now

@@ -1,4 +1,4 @@
-use Rattle.std.proofs.Common.{◌≡◌, ℕ, List, ◌∷◌, Err, ap, subst, sym, ◌∙◌}
+use Rattle.std.proofs.Common.{◌≡◌, ℕ, List, ◌∷◌, Err, ap, subst, sym, ◌∙◌, rules}
 use Rattle.tre_text.specs.TextReading.{fields_among, fields_say, past_at}
 use Rattle.tre_trace.specs.Reading.{Vocabulary}
 use Rattle.tre_text.proofs.Entries.{no_comment, says-nothing, says-comment, says-fields}
@@ -13,14 +13,11 @@ returns-in_default c = λ past end.
     says-nothing _ _ _ (ap fields_among (sym c.without_return.ensures) ∙ c.in_default.ensures.none)
 
 pub returns-then-first-eq35 : goal.returns-then-first-eq35
-returns-then-first-eq35 c = λ past end.
-    says-comment _ _ _ c.in-Some.first.now _ (ap fields_among (sym c.without_return.ensures)
-    ∙ c.in-Some.ensures.field)
-    c.in-Some.ensures.some c.if-first-eq35.true
+returns-then-first-eq35 c =
+    search (rules, says-comment, fields_among, c.in-Some.first.now, c.in-Some.ensures.some)
 
 pub head_of-requires-clause-no_comment : goal.head_of-requires-clause-no_comment
-head_of-requires-clause-no_comment c =
-    no_comment c.in-Some.first.now c.in-Some.ensures.some c.if-first-eq35.false
+head_of-requires-clause-no_comment c = no_comment _ c.in-Some.ensures.some c.if-first-eq35.false
 
 pub returns-in-Err : goal.returns-in-Err
 returns-in-Err c = λ past end. (

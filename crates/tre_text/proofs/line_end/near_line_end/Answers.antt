@@ -3,6 +3,4 @@ use Rattle.tre_text.proofs.Fields.{ends-in_front}
 use Rattle.tre_text.proofs.line_end.near_line_end.Goals as goal
 
 pub returns-in-Some : goal.returns-in-Some
-returns-in-Some c =
-    ends-in_front is_newline c.args.bytes.now c.args.count c.in-Some.place c.requires
-    c.in-Some.ensures.first
+returns-in-Some c = ends-in_front is_newline _ _ _ c.requires c.in-Some.ensures.first

@@ -1,11 +1,11 @@
-use Rattle.std.proofs.Common.{◌+◌, ◌≤◌, [], ◌++◌, inl, inr, refl, sym, ap, subst, arith}
+use Rattle.std.proofs.Common.{◌+◌, ◌≤◌, [], ◌++◌, inl, inr, refl, sym, ap, subst, arith, rules}
 use Rattle.tre_parts.specs.Bytes.{between}
 use Rattle.tre_parts.specs.Walk.{AddsPart}
 use Rattle.tre_parts.proofs.Cuts.{inside-between}
 use Rattle.tre_parts.proofs.Skimming.{skims-none, skims-part, skims-kept}
 use Rattle.tre_text.specs.Lines.{Knows}
 use Rattle.tre_text.specs.Plain.{asked_of}
-use Rattle.tre_text.specs.TextReading.{text_format, fields_among, line_says}
+use Rattle.tre_text.specs.TextReading.{fields_among, line_says}
 use Rattle.tre_text.specs.Words.{stops_name}
 use Rattle.tre_text.specs.declared.open_line.OpenLine.{OpenLine}
 use Rattle.tre_text.proofs.Entries.{says-fields}
@@ -13,23 +13,8 @@ use Rattle.tre_text.proofs.Plains.{word-whole, front-none, open-blank, open-ends
 use Rattle.tre_text.proofs.skim.skim_lines.Goals as goal
 
 pub loop-place-init : goal.loop-place-init
-loop-place-init c = record {
-  skims = λ events past knows.
-      skims-none (asked_of c.args.names.now events) (text_format c.args.scale)
-      (Knows events c.args.known.now) past c.args.bytes.now c.args.segments.now.items knows;
-  open_is = record {
-    fields = [];
-    front_is = front-none;
-    opened = inl (record {
-      none = refl;
-      len = ap (λ (line : OpenLine). line.len) c.new-line.ensures;
-      val = ap (λ (line : OpenLine). line.val) c.new-line.ensures;
-    });
-  };
-  marks = c.of-marks.ensures;
-  few = omega arith;
-  behind = omega arith;
-}
+loop-place-init c =
+    search (rules, skims-none, c.args.names.now, c.args.bytes.now, c.args.segments.now.items)
 
 pub add-requires-clause-whole : goal.add-requires-clause-whole
 add-requires-clause-whole c =

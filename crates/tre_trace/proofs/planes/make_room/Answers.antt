@@ -1,13 +1,10 @@
-use Rattle.std.proofs.Common.{◌<◌, length, arith}
+use Rattle.std.proofs.Common.{◌<◌, length, arith, rules}
 use Rattle.std.proofs.lemmas.Nat.Bits.{bit_at-lt}
 use Rattle.tre_trace.proofs.Beside.{IsStretched-refl, stretched_more, room_more}
 use Rattle.tre_trace.proofs.planes.make_room.Goals as goal
 
 pub loop-number-init : goal.loop-number-init
-loop-number-init c = record {
-  stretched = λ number. IsStretched-refl _ _;
-  room = λ number below. absurd (omega (arith, below));
-}
+loop-number-init c = search (rules, IsStretched-refl)
 
 pub make_room-requires : goal.make_room-requires
 make_room-requires c =

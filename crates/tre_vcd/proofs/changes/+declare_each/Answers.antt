@@ -1,7 +1,7 @@
-use Rattle.std.proofs.Common.{◌≡◌, List, [], ◌∷◌, length, map, sym, ap, ap₂, ◌∙◌, subst, arith}
-use Rattle.std.proofs.lemmas.Result.{err_from_is_err_and, on_ok_weaker}
+use Rattle.std.proofs.Common.{◌≡◌, List, [], ◌∷◌, length, map, sym, ap, ap₂, ◌∙◌, arith, rules}
+use Rattle.std.proofs.lemmas.Result.{err_from_is_err_and}
 use Rattle.tre_vcd.specs.VcdReading.{Statement, var}
-use Rattle.tre_vcd.specs.Signals.{SignalsAreWatched, part_read}
+use Rattle.tre_vcd.specs.Signals.{SignalsAreWatched}
 use Rattle.tre_vcd.specs.declared.changes.Watched.{Watched}
 use Rattle.tre_vcd.proofs.changes.+declare_each.Goals as goal
 
@@ -22,15 +22,7 @@ returns-in_err-declare-clause-same t c =
     ∙ ap (map (λ (watched : Watched). watched.definition)) (sym c.in-Some.ensures.cases.0)
 
 pub returns-in_err-declare-clause-letters : goal.returns-in_err-declare-clause-letters
-returns-in_err-declare-clause-letters t c =
-    let list = sym c.in-Some.ensures.cases.0 in (
-      ap (λ own. own ∷ map (λ (watched : Watched). watched.latest) c.in-Some.others.now)
-          c.declare.ensures.letters.0
-          ∙ ap (map (λ (watched : Watched). watched.latest)) list,
-      ap (λ own. own ∷ map (λ (watched : Watched). watched.earlier) c.in-Some.others.now)
-          c.declare.ensures.letters.1
-          ∙ ap (map (λ (watched : Watched). watched.earlier)) list,
-    )
+returns-in_err-declare-clause-letters t c = search (rules, c.in-Some.ensures.cases.0)
 
 pub returns-in_err-declare-clause-asks : goal.returns-in_err-declare-clause-asks
 returns-in_err-declare-clause-asks t c = λ past tokens offered known.
@@ -42,20 +34,8 @@ returns-clause-same t c =
     ∙ ap (map (λ (watched : Watched). watched.definition)) (sym c.in-Some.ensures.cases.0)
 
 pub returns-clause-letters : goal.returns-clause-letters
-returns-clause-letters t c =
-    let list = sym c.in-Some.ensures.cases.0 in (
-      ap₂ (λ own others. own ∷ others) c.declare.ensures.letters.0
-          c.declare_each.ensures.letters.0
-          ∙ ap (map (λ (watched : Watched). watched.latest)) list,
-      ap₂ (λ own others. own ∷ others) c.declare.ensures.letters.1
-          c.declare_each.ensures.letters.1
-          ∙ ap (map (λ (watched : Watched). watched.earlier)) list,
-    )
+returns-clause-letters t c = search (rules, c.in-Some.ensures.cases.0)
 
 pub returns-clause-asks : goal.returns-clause-asks
-returns-clause-asks t c = λ past tokens offered known.
-    let both = subst (SignalsAreWatched past) c.in-Some.ensures.cases.0 known in
-    let first = c.in_ok-declare.ensures.asks past tokens offered both.0
-    ∙ ap (part_read (var tokens ∷ past)) (sym c.declare.ensures.same) in
-    on_ok_weaker c.declare_each.result (λ others. (first, others))
-    (c.declare_each.ensures.asks past tokens offered both.1)
+returns-clause-asks t c =
+    search (rules, c.in-Some.ensures.cases.0, c.in_ok-declare.ensures.asks, c.declare_each.result)

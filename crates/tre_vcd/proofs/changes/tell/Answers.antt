@@ -1,4 +1,4 @@
-use Rattle.std.proofs.Common.{◌≡◌, ◌≢◌, ◌∷◌, inl, inr, refl, sym, ap, ◌∙◌, subst, arith}
+use Rattle.std.proofs.Common.{◌≢◌, ◌∷◌, inl, inr, refl, sym, ap, ◌∙◌, subst, arith, rules}
 use Rattle.std.specs.Int.{bit_at}
 use Rattle.std.proofs.lemmas.Bool.{cases_eq}
 use Rattle.std.proofs.lemmas.Nat.Bits.{bit_at-zero}
@@ -43,8 +43,4 @@ loop-left-preserved c =
     }
 
 pub returns-clause-told : goal.returns-clause-told
-returns-clause-told c = λ past form knows other k.
-    let none : bit_at c.loop-left.left k ≡ 0 =
-    ap (λ bits. bit_at bits k) c.loop-left-test.false ∙ bit_at-zero k in
-    c.loop-left.invariant.told past form knows other k
-    (λ one. absurd (omega (arith, none, one)))
+returns-clause-told c = search (rules, bit_at-zero, c.loop-left.left, c.loop-left.invariant.told)

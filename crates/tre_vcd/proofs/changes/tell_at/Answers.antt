@@ -1,4 +1,4 @@
-use Rattle.std.proofs.Common.{◌≡◌, ◌<◌, ◌∷◌, false, Option, Some, length, get_or, set, sym, ap, ◌∙◌, subst, arith}
+use Rattle.std.proofs.Common.{◌≡◌, ◌<◌, ◌∷◌, false, Option, Some, length, get_or, set, sym, ap, ◌∙◌, subst, arith, rules}
 use Rattle.std.specs.Int.{bit_at}
 use Rattle.std.specs.Option.{option_and_then, option_map, option_map_or}
 use Rattle.std.proofs.lemmas.List.{get_or-set_same}
@@ -70,21 +70,9 @@ returns-clause-told c = λ past form knows.
     (bit_at c.args.happened.now number) past) was knows))
 
 pub returns-clause-others : goal.returns-clause-others
-returns-clause-others c = λ k other. (
-  watched-set_other c.args.list.now c.from-place.result k c.say.new.self
-      (λ e. other (e ∙ c.from-place.ensures)),
-  c.set_bit.ensures.others k other,
-  c.set_bit-2.ensures.others k other,
-)
+returns-clause-others c =
+    search (rules, watched-set_other, c.from-place.result, c.set_bit-2.ensures.others)
 
 pub returns-clause-same : goal.returns-clause-same
 returns-clause-same c =
-    let list = c.args.list.now in
-    let place = c.from-place.result in
-    let old = c.index-list-place-2.result in
-    let within : place < length list = omega (arith, c.if-place-list.false) in (
-      map-set (λ one. one.definition) list place c.say.new.self old within
-          c.say.ensures.same.0,
-      map-set part_kept list place c.say.new.self old within
-          (ap (option_map asked_of_part) c.say.ensures.same.1),
-    )
+    search (rules, map-set, part_kept, asked_of_part, c.args.list.now, c.from-place.result)

@@ -1,4 +1,4 @@
-use Rattle.std.proofs.Common.{◌∷◌, [], ◌++◌, sym, ap₂, ◌∙◌}
+use Rattle.std.proofs.Common.{rules}
 use Rattle.std.proofs.lemmas.List.{take_all, take_more}
 use Rattle.std.proofs.lemmas.Result.{err_from_is_err_and}
 use Rattle.tre_vcd.proofs.definitions.copy_of.Goals as goal
@@ -12,13 +12,7 @@ returns-in_err-push_copy c =
 
 pub loop-definition-preserved : goal.loop-definition-preserved
 loop-definition-preserved c =
-    c.in_ok-push_copy.ensures
-    ∙ ap₂ (λ copies last. copies ++ last ∷ []) c.loop-definition.invariant c.definition-item.is
-    ∙ sym (take_more c.args.definitions.now c.loop-definition.definition-index
-    c.definition-item.result c.loop-definition-test.true)
+    search (rules, take_more, c.loop-definition.invariant, c.args.definitions.now)
 
 pub returns : goal.returns
-returns c =
-    c.loop-definition.invariant
-    ∙ take_all c.loop-definition.definition-index c.args.definitions.now
-    c.loop-definition-test.false
+returns c = search (rules, take_all, c.loop-definition.definition-index)

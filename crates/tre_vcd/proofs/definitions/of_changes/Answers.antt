@@ -1,4 +1,4 @@
-use Rattle.std.proofs.Common.{◌∷◌, [], ◌++◌, take, sym, ap, ◌∙◌}
+use Rattle.std.proofs.Common.{◌∷◌, [], ◌++◌, take, sym, ap, ◌∙◌, rules}
 use Rattle.std.proofs.lemmas.List.{take_all, take_more}
 use Rattle.std.proofs.lemmas.Result.{err_from_is_err_and}
 use Rattle.std.proofs.lemmas.List.Elements.{filter-append}
@@ -25,7 +25,4 @@ loop-definition-preserved c =
     ∙ ap of_changes (sym (take_more all index one c.loop-definition-test.true))
 
 pub returns : goal.returns
-returns c =
-    c.loop-definition.invariant
-    ∙ ap of_changes (take_all c.loop-definition.definition-index c.args.definitions.now
-    c.loop-definition-test.false)
+returns c = search (rules, of_changes, take_all, c.loop-definition.definition-index)

@@ -1,5 +1,4 @@
-use Rattle.std.proofs.Common.{subst}
-use Rattle.tre_vcd.specs.Kept.{KnowsAll}
+use Rattle.std.proofs.Common.{subst, rules}
 use Rattle.tre_vcd.specs.Offers.{KnowOffers}
 use Rattle.tre_vcd.proofs.found.+declare.Goals as goal
 
@@ -9,8 +8,5 @@ returns-clause-offers t c = λ definitions past knows.
     (c.declare.ensures.offers definitions past both.0, c.declare-2.ensures.offers definitions past both.1)
 
 pub returns-clause-knows : goal.returns-clause-knows
-returns-clause-knows t c = λ past identifier tokens knows declares none.
-    let both = subst (KnowsAll past) c.in-Some.ensures.cases.0 knows in (
-      c.declare.ensures.knows past identifier tokens both.0 declares none,
-      c.declare-2.ensures.knows past identifier tokens both.1 declares none,
-    )
+returns-clause-knows t c =
+    search (rules, c.in-Some.ensures.cases.0, c.declare.ensures.knows, c.declare-2.ensures.knows)

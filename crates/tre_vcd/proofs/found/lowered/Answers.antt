@@ -1,9 +1,6 @@
-use Rattle.std.proofs.Common.{◌∙◌}
+use Rattle.std.proofs.Common.{rules}
 use Rattle.tre_vcd.proofs.Flagging.{all-false}
 use Rattle.tre_vcd.proofs.found.lowered.Goals as goal
 
 pub returns : goal.returns
-returns c =
-    c.in_ok-resize.ensures.items
-    ∙ all-false c.args.count _ c.new-flags.result.items c.new-flags.ensures.items
-    c.new-flags.ensures.len
+returns c = search (rules, all-false, c.args.count, c.new-flags.result.items)

@@ -1,4 +1,4 @@
-use Rattle.std.proofs.Common.{map, sym}
+use Rattle.std.proofs.Common.{map, sym, rules}
 use Rattle.tre_vcd.proofs.Gathering.{named-is, sorted-defined, wanted-defined}
 use Rattle.tre_vcd.proofs.needed.add.Goals as goal
 
@@ -10,10 +10,7 @@ returns-in_err-add_definition-in-Some-clause-sorted c = λ sorted.
 
 pub returns-in_ok-add_definition-in-Some-clause-joins : goal.returns-in_ok-add_definition-in-Some-clause-joins
 returns-in_ok-add_definition-in-Some-clause-joins c =
-    wanted-defined (map _ c.args.set.now.keys) c.args.defined.now.items
-    c.add_definition.new.defined.items c.args.name.now c.in-Some.definition.now.name
-    (named-is c.args.name.now c.in-Some.definition.now c.args.definitions.now
-    (sym c.in-Some.ensures)) c.in_ok-add_definition-in-Some.ensures.joins
+    search (rules, wanted-defined, named-is, c.args.name.now, c.in-Some.definition.now)
 
 pub returns-in_ok-add_definition-in-Some-clause-sorted : goal.returns-in_ok-add_definition-in-Some-clause-sorted
 returns-in_ok-add_definition-in-Some-clause-sorted c = λ sorted.

@@ -1,14 +1,11 @@
-use Rattle.std.proofs.Common.{◌<◌, [], length, map, arith}
+use Rattle.std.proofs.Common.{◌<◌, [], length, map, arith, rules}
 use Rattle.std.proofs.lemmas.Option.{slice_get-get_or}
 use Rattle.tre_vcd.specs.Sorted.{wanted}
 use Rattle.tre_vcd.proofs.Gathering.{joins-none, joins-more, joins-all}
 use Rattle.tre_vcd.proofs.needed.add_all.Goals as goal
 
 pub loop-number-init : goal.loop-number-init
-loop-number-init c = record {
-  joins = joins-none (wanted (map _ c.args.set.now.keys) c.args.defined.now.items);
-  sorted = λ sorted. sorted;
-}
+loop-number-init c = search (rules, joins-none, wanted)
 
 pub loop-number-preserved : goal.loop-number-preserved
 loop-number-preserved c = record {
@@ -22,11 +19,7 @@ loop-number-preserved c = record {
 }
 
 pub returns-clause-joins : goal.returns-clause-joins
-returns-clause-joins c =
-    joins-all (wanted (map _ c.args.set.now.keys) c.args.defined.now.items) c.args.names.now
-    (wanted (map _ c.loop-number.set.keys) c.loop-number.defined.items)
-    c.loop-number.number (omega (arith, c.loop-number-test.false, c.len-number-end.ensures.len))
-    c.loop-number.invariant.joins
+returns-clause-joins c = search (rules, joins-all, wanted, c.loop-number.number)
 
 pub unreachable-requires : goal.unreachable-requires
 unreachable-requires c =

@@ -1,4 +1,4 @@
-use Rattle.std.proofs.Common.{◌+◌, [], length, refl, sym, ap, ◌∙◌, subst, arith}
+use Rattle.std.proofs.Common.{◌+◌, [], sym, ap, ◌∙◌, arith, rules}
 use Rattle.std.proofs.lemmas.List.{take_all}
 use Rattle.tre_define.specs.Signals.{signal_definition_of}
 use Rattle.tre_vcd.specs.Signals.{KnowsChanges}
@@ -6,10 +6,7 @@ use Rattle.tre_vcd.proofs.OneMore.{front-more, none-there}
 use Rattle.tre_vcd.proofs.signals.changes_of.Goals as goal
 
 pub loop-number-init : goal.loop-number-init
-loop-number-init c = record {
-  len = ap length c.new-changes.ensures.list;
-  knows = c.new-changes.ensures.knows c.args.all.now [] refl;
-}
+loop-number-init c = search (rules, c.new-changes.ensures.knows)
 
 pub loop-number-preserved : goal.loop-number-preserved
 loop-number-preserved c = record {
@@ -22,11 +19,7 @@ loop-number-preserved c = record {
 }
 
 pub returns : goal.returns
-returns c =
-    subst (λ own. KnowsChanges c.args.all.now own c.loop-number.changes [])
-    (take_all c.loop-number.number c.args.names.now
-    (omega (arith, c.loop-number-test.false, c.len-number-end.ensures.len)))
-    c.loop-number.invariant.knows
+returns c = search (rules, take_all, c.args.all.now, c.loop-number.number)
 
 pub unreachable-requires : goal.unreachable-requires
 unreachable-requires c =

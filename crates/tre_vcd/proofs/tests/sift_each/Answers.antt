@@ -1,4 +1,4 @@
-use Rattle.std.proofs.Common.{◌<◌, length, sym, ap, ◌∙◌, arith}
+use Rattle.std.proofs.Common.{◌<◌, length, sym, ap, ◌∙◌, arith, rules}
 use Rattle.tre_state.specs.Sieve.{MayBe}
 use Rattle.tre_vcd.specs.Signals.{test_at, test_kept}
 use Rattle.tre_vcd.proofs.OneMore.{places-more}
@@ -20,7 +20,4 @@ loop-number-preserved c =
     (c.loop-number.invariant k asked below is))
 
 pub returns : goal.returns
-returns c = λ k asked small is.
-    let below = at-below c.args.list.now k asked is in
-    c.loop-number.invariant k asked
-    (omega (arith, small, below, c.loop-number-test.false, c.min-number-end.ensures)) is
+returns c = search (rules, at-below, c.args.list.now, c.loop-number.invariant)

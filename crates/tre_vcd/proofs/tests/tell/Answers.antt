@@ -1,4 +1,4 @@
-use Rattle.std.proofs.Common.{◌≡◌, ◌≢◌, ℕ, Bool, Option, inl, inr, sym, ap, ap₂, ◌∙◌, arith}
+use Rattle.std.proofs.Common.{◌≢◌, ℕ, Bool, Option, inl, inr, sym, ap, ap₂, ◌∙◌, arith, rules}
 use Rattle.std.specs.Int.{bit_at}
 use Rattle.std.proofs.lemmas.Bool.{cases_eq}
 use Rattle.std.proofs.lemmas.Nat.Bits.{bit_at-zero}
@@ -6,10 +6,7 @@ use Rattle.tre_vcd.specs.Signals.{bit_told, test_at, test_told}
 use Rattle.tre_vcd.proofs.tests.tell.Goals as goal
 
 pub returns-clause-told : goal.returns-clause-told
-returns-clause-told c = λ k set.
-    let none : bit_at c.loop-left.left k ≡ 0 =
-    ap (λ bits. bit_at bits k) c.loop-left-test.false ∙ bit_at-zero k in
-    c.loop-left.invariant.told k set (λ one. absurd (omega (arith, none, one)))
+returns-clause-told c = search (rules, bit_at-zero, c.loop-left.left, c.loop-left.invariant.told)
 
 pub loop-left-preserved : goal.loop-left-preserved
 loop-left-preserved c =

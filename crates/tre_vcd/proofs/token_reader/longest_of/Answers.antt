@@ -19,8 +19,7 @@ loop-number-preserved c =
 
 pub returns : goal.returns
 returns c =
-    longest-all length c.args.names.now c.loop-number.number c.loop-number.longest
-    (omega (arith, c.loop-number-test.false, c.len-number-end.ensures.len))
+    longest-all length _ _ _ (omega (arith, c.loop-number-test.false, c.len-number-end.ensures.len))
     c.loop-number.invariant
 
 pub unreachable-requires : goal.unreachable-requires

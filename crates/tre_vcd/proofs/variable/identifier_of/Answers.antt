@@ -1,5 +1,4 @@
-use Rattle.std.proofs.Common.{get_or, sym, ap, ◌∙◌, arith}
-use Rattle.tre_vcd.specs.Kept.{identifier_kept}
+use Rattle.std.proofs.Common.{sym, arith, rules}
 use Rattle.tre_vcd.proofs.Valuing.{at-within, at-past}
 use Rattle.tre_vcd.proofs.variable.identifier_of.Goals as goal
 
@@ -10,10 +9,4 @@ returns-then-place-variables c =
 
 pub returns : goal.returns
 returns c =
-    let variables = c.args.variables.now in
-    let variable = c.index-variables-place.result in
-    c.identifier.ensures
-    ∙ ap identifier_kept (c.index-variables-place.is
-    ∙ ap (λ k. get_or variables k variable) c.from-place.ensures)
-    ∙ sym (at-within variables c.args.number variable
-    (omega (arith, c.if-place-variables.false, c.from-place.ensures)))
+    search (rules, at-within, c.args.variables.now, c.index-variables-place.result, c.args.number)

@@ -1,4 +1,4 @@
-use Rattle.std.proofs.Common.{arith}
+use Rattle.std.proofs.Common.{rules}
 use Rattle.tre_vcd.proofs.variable.tested.Goals as goal
 
 pub returns-then-has_identifier_at-clause-this : goal.returns-then-has_identifier_at-clause-this
@@ -10,10 +10,4 @@ returns-clause-others c = λ k other.
     (c.without.ensures.no_more k, c.without.ensures.kept k other)
 
 pub returns-clause-this : goal.returns-clause-this
-returns-clause-this c = (
-  λ set. absurd (omega (arith, set, c.without.ensures.gone)),
-  λ has.
-      let is = c.has_identifier_at.ensures.1 has in
-      let isnt = c.if-has_identifier_at.false in
-      cc,
-)
+returns-clause-this c = search (rules, c.has_identifier_at.ensures.1, c.if-has_identifier_at.false)

@@ -6,11 +6,8 @@ loop-zone-init c = latest_of_none
 
 pub loop-zone-preserved : goal.loop-zone-preserved
 loop-zone-preserved c =
-    latest_of_next c.args.zones.now c.loop-zone.zone-index c.zone-item.result c.loop-zone.latest
-    c.latest_end.result c.max-latest.result c.loop-zone-test.true c.zone-item.is
-    c.loop-zone.invariant c.latest_end.ensures c.max-latest.ensures
+    latest_of_next _ _ _ _ _ _ c.loop-zone-test.true c.zone-item.is c.loop-zone.invariant
+    c.latest_end.ensures c.max-latest.ensures
 
 pub returns : goal.returns
-returns c =
-    latest_of_all c.args.zones.now c.loop-zone.zone-index c.loop-zone.latest
-    c.loop-zone-test.false c.loop-zone.invariant
+returns c = latest_of_all _ _ _ c.loop-zone-test.false c.loop-zone.invariant

@@ -1,14 +1,11 @@
-use Rattle.std.proofs.Common.{refl, ◌^◌}
+use Rattle.std.proofs.Common.{◌^◌, rules}
 use Rattle.tre_zone.specs.Beyond.{key_at}
 use Rattle.tre_zone.proofs.Unions.{held-beyond, held-covered, cut-framed, cut-keys, key-within}
 use Rattle.tre_zone.proofs.united.is_held_beyond.Goals as goal
 
 pub returns-then-covers : goal.returns-then-covers
-returns-then-covers c = (
-  (λ yes. held-covered c.args.side c.args.whole.now c.args.one.now c.args.other.now
-      (rw (c.at.ensures, c.at-bound.ensures) at (c.if-covers.ensures.0 refl))),
-  (λ h. refl),
-)
+returns-then-covers c =
+    search (rules, held-covered, c.args.side, c.args.whole.now, c.if-covers.ensures.0)
 
 pub is_held-requires-clause-framed : goal.is_held-requires-clause-framed
 is_held-requires-clause-framed c =
@@ -23,6 +20,4 @@ is_held-requires-clause-keys c =
 
 pub returns : goal.returns
 returns c =
-    let both = held-beyond c.args.side c.args.whole.now c.args.one.now c.args.other.now in
-    let own = rw (c.cut_at.ensures, c.opposite.ensures, c.at-bound.ensures) at c.is_held.ensures in
-    ((λ yes. both.0 (own.0 yes)), (λ h. own.1 (both.1 h)))
+    search (rules, held-beyond, c.args.side, c.args.whole.now, c.args.one.now, c.args.other.now)

@@ -1,4 +1,4 @@
-use Rattle.std.proofs.Common.{ℕ, ◌^◌, ◌≤◌, ℤ, pos, negsuc, ◌*ℤ◌, Fits, FitsSigned, w32, w64, unsigned_abs, refl, arith}
+use Rattle.std.proofs.Common.{ℕ, ◌^◌, ◌≤◌, ℤ, pos, negsuc, ◌*ℤ◌, Fits, FitsSigned, w32, w64, unsigned_abs, arith, rules}
 use Rattle.std.proofs.Math.Facts.{to_z-of_z}
 use Rattle.std.proofs.lemmas.Int.{fits_signed_mul}
 use mir.Syntax.{w128}
@@ -15,23 +15,7 @@ product_fits c n signed unsigned =
 
 pub overflow_mul-result : goal.overflow_mul-result
 overflow_mul-result c =
-    rw (
-      to_z-of_z {w = w128} {z = c.from.result} (record { sfits = c.from.type_inv }),
-      to_z-of_z {w = w128} {z = c.from-2.result} (record { sfits = c.from-2.type_inv }),
-      c.from.ensures,
-      c.from-2.ensures,
-      to_z-of_z {w = w64} {z = c.args.c} c.ranges.c,
-    )
-    (product_fits c.args.c c.args.n c.ranges.c c.ranges.n)
+    search (rules, to_z-of_z, w128, product_fits, c.args.c, c.ranges.c, c.args.n)
 
 pub returns : goal.returns
-returns c =
-    rw (
-      to_z-of_z {w = w128} (overflow_mul-result c),
-      to_z-of_z {w = w128} {z = c.from.result} (record { sfits = c.from.type_inv }),
-      to_z-of_z {w = w128} {z = c.from-2.result} (record { sfits = c.from-2.type_inv }),
-      c.from.ensures,
-      c.from-2.ensures,
-      to_z-of_z {w = w64} {z = c.args.c} c.ranges.c,
-    )
-    refl
+returns c = search (rules, to_z-of_z, w128, overflow_mul-result)

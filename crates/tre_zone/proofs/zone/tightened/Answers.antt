@@ -1,4 +1,4 @@
-use Rattle.std.proofs.Common.{sym, subst, refl}
+use Rattle.std.proofs.Common.{sym, subst, rules}
 use Rattle.tre_zone.specs.Zone.{LeavesRoom}
 use Rattle.tre_zone.proofs.Closing.{closed-canonical}
 use Rattle.tre_zone.proofs.Given.{closed-keys, closed-exact, closed-never}
@@ -9,9 +9,7 @@ leaves_room-requires c = rw c.closed-closed.ensures (closed-keys c.args.bounds.n
 
 pub invariant_of-result : goal.invariant_of-result
 invariant_of-result c =
-    rw c.closed-closed.ensures
-    (closed-canonical c.args.bounds.now c.requires.framed
-    (subst LeavesRoom c.closed-closed.ensures (c.if-leaves_room.ensures.0 refl)))
+    search (rules, closed-canonical, c.closed-closed.ensures, c.if-leaves_room.ensures.0)
 
 pub returns-then-leaves_room : goal.returns-then-leaves_room
 returns-then-leaves_room c = rw c.closed-closed.ensures (closed-exact c.args.bounds.now)

@@ -7,8 +7,7 @@ loop-zone-init c = LeavesAll-none c.args.cut.now
 
 pub loop-zone-preserved : goal.loop-zone-preserved
 loop-zone-preserved c =
-    LeavesAll-more c.args.cut.now c.args.zones.now c.loop-zone.zone-index c.zone-item.result
-    c.loop-zone-test.true c.zone-item.is c.loop-zone.invariant
+    LeavesAll-more _ _ _ _ c.loop-zone-test.true c.zone-item.is c.loop-zone.invariant
     (c.if-not-leaves_zone.ensures refl)
 
 pub returns : goal.returns

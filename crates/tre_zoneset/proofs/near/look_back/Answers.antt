@@ -1,4 +1,4 @@
-use Rattle.std.proofs.Common.{◌≡◌, pos, ◌+◌, ◌-◌, get_or, subst, sym, ◌∙◌, ℕ, arith}
+use Rattle.std.proofs.Common.{◌≡◌, pos, ◌+◌, ◌-◌, get_or, subst, sym, ◌∙◌, ℕ, arith, rules}
 use Rattle.std.proofs.lemmas.List.{get_or_default}
 use Rattle.tre_zone.specs.ZoneList.{AreApart}
 use Rattle.tre_zone.specs.declared.zone_bounds.ZoneBounds.{ZoneBounds}
@@ -49,8 +49,4 @@ loop-place-preserved c =
     }))
 
 pub returns : goal.returns
-returns c =
-    let none : c.loop-place.place ≡ 0 = omega (arith, c.loop-place-test.false) in
-    IsApartFrom-behind c.args.zone.now c.args.kept.now
-    (subst (λ (place : ℕ). IsApartBehind c.args.zone.now c.args.kept.now place) none
-    c.loop-place.invariant)
+returns c = search (rules, IsApartFrom-behind, c.args.zone.now, c.args.kept.now)

@@ -1,4 +1,4 @@
-use Rattle.std.proofs.Common.{refl}
+use Rattle.std.proofs.Common.{refl, rules}
 use Rattle.tre_zone.specs.Zone.{ZoneHolds}
 use Rattle.tre_zone.proofs.ZoneListLemmas.{SetHolds-empty}
 use Rattle.tre_zoneset.proofs.Unions.{HoldExactly-each, HoldExactly-none, HoldExactly-all, itself-additive}
@@ -6,10 +6,8 @@ use Rattle.tre_zoneset.proofs.NearZones.{AreReached-none}
 use Rattle.tre_zoneset.proofs.near.thin_near.Goals as goal
 
 pub loop-zone-init : goal.loop-zone-init
-loop-zone-init c = record {
-  held = rw c.new-kept.ensures (HoldExactly-none _ (λ a b n h. SetHolds-empty a b n h));
-  reached = rw (c.new-kept.ensures, c.new-reaches.ensures.items) AreReached-none;
-}
+loop-zone-init c =
+    search (rules, HoldExactly-none, SetHolds-empty, AreReached-none, c.new-kept.ensures)
 
 pub loop-zone-preserved : goal.loop-zone-preserved
 loop-zone-preserved c = record {

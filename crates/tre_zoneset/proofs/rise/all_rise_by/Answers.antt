@@ -7,9 +7,7 @@ loop-zone-init c = HaveRisen-empty c.args.high
 
 pub loop-zone-preserved : goal.loop-zone-preserved
 loop-zone-preserved c =
-    HaveRisen-next c.args.high c.args.zones.now c.loop-zone.zone-index c.loop-zone.before
-    c.zone-item.result
-    c.bounds-bounds.result c.loop-zone-test.true c.zone-item.is c.bounds-bounds.ensures.same
+    HaveRisen-next _ _ _ _ _ _ c.loop-zone-test.true c.zone-item.is c.bounds-bounds.ensures.same
     c.loop-zone.invariant c.bounds-bounds.ensures.canonical (c.if-not-is_behind.ensures refl)
 
 pub returns : goal.returns

@@ -7,8 +7,7 @@ loop-other-init c = IsApartFrom-none c.args.zone.now
 
 pub loop-other-preserved : goal.loop-other-preserved
 loop-other-preserved c =
-    IsApartFrom-more c.args.zone.now c.args.others.now c.loop-other.other-index c.other-item.result
-    c.loop-other-test.true c.other-item.is c.loop-other.invariant
+    IsApartFrom-more _ _ _ _ c.loop-other-test.true c.other-item.is c.loop-other.invariant
     (c.if-not-are_apart.ensures.0 refl)
 
 pub returns : goal.returns

@@ -1,4 +1,4 @@
-use Rattle.std.proofs.Common.{◌+◌, ◌-◌, ◌<◌, length, ap, arith}
+use Rattle.std.proofs.Common.{rules}
 use Rattle.std.proofs.lemmas.List.{length-map}
 use Rattle.tre_pairs.specs.Pairs.{Both}
 use Rattle.tre_zone.specs.Zone.{ZoneHolds, row_of}
@@ -46,24 +46,7 @@ returns c =
     (rw c.items-items.ensures at c.loop-place-test.false) c.loop-place.invariant
 
 pub bounds-items-next : goal.bounds-items-next
-bounds-items-next c =
-    let below : c.in-Some.next < length c.items-items.result.now =
-    omega (
-      arith,
-      c.in-Some.ensures.ends,
-      length-map c.args.others.now row_of,
-      ap length c.items-items.ensures,
-    ) in
-    below
+bounds-items-next c = search (rules, length-map, row_of, c.args.others.now)
 
 pub loop-place-smaller : goal.loop-place-smaller
-loop-place-smaller c =
-    let less : length c.args.others.now - (c.in-Some.next + 1)
-    < length c.args.others.now - c.loop-place.place =
-    omega (
-      arith,
-      c.in-Some.ensures.starts,
-      c.in-Some.ensures.ends,
-      length-map c.args.others.now row_of,
-    ) in
-    less
+loop-place-smaller c = search (rules, length-map, row_of, c.args.others.now)

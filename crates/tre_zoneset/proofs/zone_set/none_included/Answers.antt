@@ -1,3 +1,4 @@
+use Rattle.std.proofs.Common.{rules}
 use Rattle.std.proofs.lemmas.Result.{IfOk-weaker}
 use Rattle.tre_zone.specs.ZoneList.{SetHolds}
 use Rattle.tre_zoneset.proofs.Unions.{HoldExactly-gathered}
@@ -13,19 +14,10 @@ returns-clause-held c =
     (rw c.deref-5.ensures.value at c.in_ok-kept.ensures) c.reverse-2.ensures.permutation
 
 pub returns-clause-set : goal.returns-clause-set
-returns-clause-set c =
-    rw c.reverse-2.ensures.items
-    (IsZoneSet-thinned c.in_ok-turned.turned.items c.in_ok-kept.kept.items
-    c.in_ok-turned.ensures.later
-    (rw (c.deref-5.ensures.value, c.reverse.ensures.items) at c.in_ok-kept.ensures))
+returns-clause-set c = search (rules, IsZoneSet-thinned, c.in_ok-turned.turned.items)
 
 pub returns-in-Some-clause-held : goal.returns-in-Some-clause-held
-returns-in-Some-clause-held c =
-    rw c.into_zones.ensures.same
-    (HoldExactly-gathered c.in-Some.near c.in_order-zones.result.items
-    (SetHolds c.args.zones.items)
-    (rw (c.in-Some.is, c.deref-3.ensures.value) at c.in_ok-near.ensures)
-    c.in_order-zones.ensures)
+returns-in-Some-clause-held c = search (rules, HoldExactly-gathered, c.in-Some.near)
 
 pub returns-then-are_soon_compared-clause-held : goal.returns-then-are_soon_compared-clause-held
 returns-then-are_soon_compared-clause-held c =

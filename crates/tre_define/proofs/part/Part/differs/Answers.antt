@@ -1,4 +1,4 @@
-use Rattle.std.proofs.Common.{◌≡◌, ◌+◌, ◌-◌, min, max, length, inl, inr, sym, subst, arith}
+use Rattle.std.proofs.Common.{◌≡◌, ◌+◌, ◌-◌, min, max, length, inl, inr, sym, subst, arith, rules}
 use Rattle.std.proofs.lemmas.Bool.{cases_lt}
 use Rattle.std.proofs.lemmas.Bool.Decides.{nat_tests}
 use Rattle.tre_define.specs.Values.{letter_at}
@@ -7,14 +7,7 @@ use Rattle.tre_define.proofs.part.Part.differs.Goals as goal
 
 pub returns-then-letter_at : goal.returns-then-letter_at
 returns-then-letter_at c =
-    let old = c.args.old.now in
-    let new = c.args.new.now in
-    let low = c.args.self.low in
-    let step = c.loop-step.step in
-    let differs : letter_at old (low + step) ≡ letter_at new (low + step) → ⊥ =
-    λ same. grind (arith, nat_tests) in
-    sym (differ-at low c.args.self.width step old new
-    (omega (arith, c.loop-step-test.true, c.min-count.ensures)) differs)
+    search (rules, differ-at, c.args.old.now, c.args.new.now, c.args.self.low, c.loop-step.step)
 
 pub loop-step-preserved : goal.loop-step-preserved
 loop-step-preserved c = λ k below.

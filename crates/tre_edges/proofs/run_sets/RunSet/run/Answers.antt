@@ -1,16 +1,11 @@
-use Rattle.std.proofs.Common.{sym, arith}
+use Rattle.std.proofs.Common.{sym, rules}
 use Rattle.tre_packed.proofs.Adding.{count-limit}
 use Rattle.tre_edges.specs.RunPlaces.{trace_words}
 use Rattle.tre_edges.proofs.RunPlaces.{run_there}
 use Rattle.tre_edges.proofs.run_sets.RunSet.run.Goals as goal
 
 pub next_place-end-requires-clause-limit : goal.next_place-end-requires-clause-limit
-next_place-end-requires-clause-limit c =
-    omega (
-      arith,
-      c.count.ensures.count,
-      count-limit c.args.self.now.trace.segments c.count.ensures.trace,
-    )
+next_place-end-requires-clause-limit c = search (rules, count-limit, c.args.self.now.trace.segments)
 
 pub returns : goal.returns
 returns c = λ other.

@@ -1,4 +1,4 @@
-use Rattle.std.proofs.Common.{◌∙◌, arith}
+use Rattle.std.proofs.Common.{rules}
 use Rattle.std.proofs.lemmas.List.{length-map}
 use Rattle.tre_edges.specs.RunPlaces.{run_at, runs_at, trace_words}
 use Rattle.tre_edges.specs.RunsInTime.{zone_of}
@@ -7,14 +7,7 @@ use Rattle.tre_edges.proofs.run_sets.RunSet.zone.Goals as goal
 
 pub run-run-requires : goal.run-run-requires
 run-run-requires c =
-    let set = c.args.self.now in
-    let all = trace_words set.trace set.words.items in
-    omega (
-      arith,
-      c.requires,
-      length-map (runs_at all set.places.items) (zone_of set.edges),
-      length-map set.places.items (run_at all),
-    )
+    search (rules, trace_words, length-map, runs_at, zone_of, run_at, c.args.self.now)
 
 pub part_of_run-requires-clause-rising : goal.part_of_run-requires-clause-rising
 part_of_run-requires-clause-rising c =
@@ -29,8 +22,5 @@ part_of_run-requires-clause-limit c =
     c.args.place c.run-run.result c.requires c.run-run.ensures set.placed.timed).1
 
 pub returns : goal.returns
-returns c = λ other.
-    let set = c.args.self.now in
-    c.part_of_run.ensures.bounds
-    ∙ zone_there set.edges (runs_at (trace_words set.trace set.words.items) set.places.items)
-    c.args.place c.run-run.result c.requires c.run-run.ensures other
+returns c =
+    search (rules, zone_there, runs_at, trace_words, c.args.self.now, c.args.place, c.requires)

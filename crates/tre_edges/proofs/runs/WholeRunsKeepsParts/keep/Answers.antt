@@ -1,8 +1,7 @@
-use Rattle.std.proofs.Common.{None, arith, subst, sym}
+use Rattle.std.proofs.Common.{None, arith, rules}
 use Rattle.std.proofs.lemmas.Result.{on_ok_weaker}
 use Rattle.tre_pairs.specs.Pairs.{Lasting}
 use Rattle.tre_edges.specs.RunParts.{IsPart, LastsIn, anywhere}
-use Rattle.tre_edges.specs.Runs.{AreRuns}
 use Rattle.tre_edges.proofs.PartsOfRuns.{added, part_ended, span_zone}
 use Rattle.tre_edges.proofs.RunLists.{AreRuns-push}
 use Rattle.tre_edges.proofs.runs.WholeRunsKeepsParts.keep.Goals as goal
@@ -12,11 +11,7 @@ span-requires-clause-rising c = c.requires.rising
 
 pub returns-clause-stands : goal.returns-clause-stands
 returns-clause-stands c =
-    on_ok_weaker c.push_disjoint.result
-    (λ ok. subst (λ zones. AreRuns 0 zones) (sym (rw c.span.ensures.bounds at ok))
-    (AreRuns-push 0 c.args.from.time c.args.to.time (omega arith)
-    c.requires.rising c.args.self.now.zones c.requires.stands c.requires.ended))
-    c.push_disjoint.ensures.ok
+    search (rules, AreRuns-push, c.span.ensures.bounds, c.args.from.time, c.args.to.time)
 
 pub returns-clause-held : goal.returns-clause-held
 returns-clause-held c =

@@ -1,6 +1,6 @@
-use Rattle.std.proofs.Common.{◌≡◌, ◌∙◌, ◌<◌, List, [], length, get_or, refl, sym, ap, subst, arith}
+use Rattle.std.proofs.Common.{◌≡◌, ◌∙◌, ◌<◌, List, length, get_or, refl, sym, ap, subst, arith, rules}
 use Rattle.std.proofs.lemmas.List.{with_items_is}
-use Rattle.tre_feed.specs.Each.{AllStand, LastsAre, RowsAre, all_asked}
+use Rattle.tre_feed.specs.Each.{AllStand, LastsAre, all_asked}
 use Rattle.tre_feed.specs.declared.each.Fed.{Fed}
 use Rattle.tre_feed.proofs.Inputs.{IsAsked-same, KeepsViews-same}
 use Rattle.tre_feed.specs.Shares.{group_of}
@@ -81,11 +81,4 @@ invariant_of-self g c =
 
 pub returns-clause-none : goal.returns-clause-none
 returns-clause-none g c =
-    let own = c.args.self.now.each in
-    let cleared = c.clear_each.new.each in
-    let same : length cleared ≡ own.len =
-    omega (arith, c.clear_each.auto.each, c.deref_mut.ensures.len) in
-    record {
-      rows = subst (λ (each : List (Fed g.row.R.Denot)). RowsAre g.R.TraceReader.names each [])
-          (sym (with_items_is own cleared same)) c.clear_each.ensures.none;
-    }
+    search (rules, with_items_is, c.args.self.now.each, c.clear_each.new.each)

@@ -1,28 +1,16 @@
-use Rattle.std.proofs.Common.{◌∙◌, ◌++◌, Bool, false, true, [], List, Err, take, refl, ap, subst}
-use Rattle.std.proofs.lemmas.Result.{err_from_is_err_and}
+use Rattle.std.proofs.Common.{◌∙◌, ◌++◌, false, true, [], List, take, refl, subst, rules}
 use Rattle.tre_trace.specs.Reading.{Stretch, segments_for}
 use Rattle.tre_trace.specs.Trace.{IsTrace}
-use Rattle.tre_feed.specs.Input.{HasReadCause, input_told}
+use Rattle.tre_feed.specs.Input.{input_told}
 use Rattle.tre_feed.specs.Packing.{ArePacked}
 use Rattle.tre_feed.specs.Standing.{Wait, WereFed, recording_of}
 use Rattle.tre_feed.proofs.Collected.{HasRead-bounded, IsCollected-as, IsCollected-more, IsWhole-ended, StopsReading-turn, StopsReading-unread, starts_by, told_more, told_start, traces_by}
 use Rattle.tre_feed.proofs.Seeing.{ArePacked-kept}
-use Rattle.tre_feed.proofs.Standing.{faultless_by}
 use Rattle.tre_feed.proofs.input.Input.collect.Goals as goal
 
 pub returns-in_err-open-clause-stops : goal.returns-in_err-open-clause-stops
 returns-in_err-open-clause-stops g c =
-    let p = err_from_is_err_and c.from_residual.result
-    c.from_residual.ensures.1 in
-    let reader = g.R.TraceReader in
-    let input = input_told (g.S.Source.told c.args.source.now)
-    (g.S.Source.told c.open.new.source) in
-    rw (p.1, p.2) (StopsReading-unread (recording_of reader.recording reader.terms c.args.self.now)
-    c.args.self.now.limit c.args.name.now input c.in_err-open.field-0.0 c.in_err-open.ensures.read
-    (faultless_by reader.terms reader.recording reader.represents
-    g.met.R.TraceReader.faultless c.args.self.now.each.items [] c.requires.new.fed)
-    c.in_err-open.ensures.refused c.in_err-open.ensures.cause
-    (λ good named is. c.in_err-open.ensures.sound good named (ap Err is)))
+    search (rules, StopsReading-unread, c.from_residual.ensures.1, g.R.TraceReader, g.S.Source.told)
 
 pub loop-more-init : goal.loop-more-init
 loop-more-init g c =
@@ -51,34 +39,11 @@ next-requires-clause-reads_on g c =
 
 pub returns-in_err-more-clause-stops : goal.returns-in_err-more-clause-stops
 returns-in_err-more-clause-stops g c =
-    let p = err_from_is_err_and c.from_residual-in_err-more.result
-    c.from_residual-in_err-more.ensures.1 in
-    let reader = g.R.TraceReader in
-    let inv = c.loop-more.invariant in
-    let so_far = inv.collected in
-    let file = (g.S.Source.told c.args.source.now).file in
-    let input = input_told (g.S.Source.told c.args.source.now)
-    (g.S.Source.told c.next.new.source) in
-    rw (p.1, p.2) (StopsReading-turn (recording_of reader.recording reader.terms c.args.self.now)
-    c.args.self.now.limit c.args.name.now input so_far.bytes (Wait reader.names c.loop-more.self)
-    (Wait reader.names c.next.new.self) c.in_err-more.field-0.0
-    (c.next.ensures.same_opened ∙ inv.opened)
-    (subst (λ n. HasReadCause {T = Bool} n input.now.faults (Err c.in_err-more.field-0.0))
-    inv.no_fault c.in_err-more.ensures.cause)
-    (λ good is. c.in_err-more.ensures.sound (rw inv.sound good) (ap Err is))
-    (rw (inv.same.said, inv.same.limit) at (faultless_by reader.terms reader.recording
-    reader.represents g.met.R.TraceReader.faultless c.loop-more.self.each.items
-    (take c.loop-more.self.limit so_far.bytes) so_far.fed.fed))
-    (rw (inv.same.said, inv.same.limit) at
-    (c.in_err-more.ensures.ends file so_far.bytes so_far.fed)))
+    search (rules, StopsReading-turn, c.from_residual-in_err-more.ensures.1, g.R.TraceReader)
 
 pub returns-in_err-more-clause-bounded : goal.returns-in_err-more-clause-bounded
 returns-in_err-more-clause-bounded g c =
-    let inv = c.loop-more.invariant in
-    let so_far = inv.collected in
-    let file = (g.S.Source.told c.args.source.now).file in
-    λ opened. HasRead-bounded (rw inv.same.limit at
-    (c.in_err-more.ensures.read file so_far.bytes so_far.fed))
+    search (rules, HasRead-bounded, c.loop-more.invariant, c.in_err-more.ensures.read)
 
 pub pack-requires : goal.pack-requires
 pack-requires g c =
@@ -103,11 +68,7 @@ pack-requires g c =
 
 pub returns-in_err-pack-clause-bounded : goal.returns-in_err-pack-clause-bounded
 returns-in_err-pack-clause-bounded g c =
-    let inv = c.loop-more.invariant in
-    let so_far = inv.collected in
-    let file = (g.S.Source.told c.args.source.now).file in
-    λ opened. HasRead-bounded (rw inv.same.limit at
-    (c.in_ok-more.ensures.read file so_far.bytes so_far.fed))
+    search (rules, HasRead-bounded, c.loop-more.invariant, c.in_ok-more.ensures.read)
 
 pub loop-more-preserved : goal.loop-more-preserved
 loop-more-preserved g c =
@@ -153,11 +114,7 @@ loop-more-preserved g c =
 
 pub returns-clause-bounded : goal.returns-clause-bounded
 returns-clause-bounded g c =
-    let inv = c.loop-more.invariant in
-    let so_far = inv.collected in
-    let file = (g.S.Source.told c.args.source.now).file in
-    λ opened. HasRead-bounded (rw inv.same.limit at
-    (c.in_ok-more.ensures.read file so_far.bytes so_far.fed))
+    search (rules, c.loop-more.invariant, g.S.Source.told, c.in_ok-more.ensures.read)
 
 pub returns-clause-read : goal.returns-clause-read
 returns-clause-read g c =

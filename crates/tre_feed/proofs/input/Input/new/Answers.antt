@@ -1,8 +1,5 @@
-use Rattle.std.proofs.Common.{◌≡◌, ◌<◌, List, [], length, refl, subst, arith}
-use Rattle.tre_trace.specs.Reading.{Vocabulary}
-use Rattle.tre_feed.specs.Standing.{AreFor}
+use Rattle.std.proofs.Common.{◌≡◌, [], refl, rules}
 use Rattle.tre_feed.proofs.Begun.{readers_count, readers_names, readers_so}
-use Rattle.tre_feed.proofs.Standing.{by_terms}
 use Rattle.tre_feed.proofs.input.Input.new.Goals as goal
 
 pub returns-clause-new : goal.returns-clause-new
@@ -19,30 +16,19 @@ returns-clause-new g c =
     }
 
 pub returns-clause-asks : goal.returns-clause-asks
-returns-clause-asks g c = λ asked are. record {
-  views = subst (λ (groups : List Vocabulary). AreFor asked groups c.args.views.items)
-      (readers_names g.R.TraceReader.names c.in-Ok-fed_each.each.items c.args.each.items
-      c.in-Ok-fed_each.ensures.readers) are;
-}
+returns-clause-asks g c =
+    search (rules, readers_names, g.R.TraceReader.names, c.in-Ok-fed_each.each.items)
 
 pub returns-clause-recording : goal.returns-clause-recording
 returns-clause-recording g c =
-    let reader = g.R.TraceReader in
-    let count = readers_count c.in-Ok-fed_each.each.items c.args.each.items
-    c.in-Ok-fed_each.ensures.readers in
-    let some : 0 < length c.in-Ok-fed_each.each.items = omega (arith, count, c.requires.some) in
-    λ terms stand. by_terms reader.terms reader.recording reader.represents
-    c.in-Ok-fed_each.each.items [] terms some
-    (readers_so (λ one. (reader.terms one ≡ terms) × reader.represents one [])
-    c.in-Ok-fed_each.each.items c.args.each.items c.in-Ok-fed_each.ensures.readers stand)
+    search (rules, readers_count, g.R.TraceReader, c.in-Ok-fed_each.each.items, c.args.each.items)
 
 pub invariant_of-result : goal.invariant_of-result
 invariant_of-result g c =
-    let count = readers_count c.in-Ok-fed_each.each.items c.args.each.items
-    c.in-Ok-fed_each.ensures.readers in
-    record {
-      bounded = c.requires.fits;
-      size = c.in-Ok.ensures;
-      some = omega (arith, count, c.requires.some);
-      within = λ k d below. omega (arith, count, c.requires.within k d below);
-    }
+    search (
+      rules,
+      readers_count,
+      c.in-Ok-fed_each.each.items,
+      c.in-Ok-fed_each.ensures.readers,
+      c.requires.within,
+    )

@@ -1,4 +1,4 @@
-use Rattle.std.proofs.Common.{◌≡◌, ◌∙◌, ◌<◌, List, length, get_or, refl, sym, ap, subst, arith}
+use Rattle.std.proofs.Common.{◌≡◌, ◌∙◌, ◌<◌, List, length, get_or, refl, sym, ap, subst, arith, rules}
 use Rattle.std.proofs.lemmas.List.{with_items_is}
 use Rattle.tre_feed.specs.Each.{all_asked}
 use Rattle.tre_feed.specs.declared.each.Fed.{Fed}
@@ -40,11 +40,7 @@ returns-clause-read g c =
 
 pub returns-clause-ends : goal.returns-clause-ends
 returns-clause-ends g c =
-    let own = c.args.self.now.each in
-    let fed = c.feed_next.new.each in
-    let same : length fed ≡ own.len =
-    omega (arith, c.feed_next.auto.each, c.deref_mut-2.ensures.len) in
-    rw (with_items_is own fed same) (rw c.deref_mut-2.ensures.value at c.feed_next.ensures.ends)
+    search (rules, with_items_is, c.args.self.now.each, c.feed_next.new.each)
 
 pub returns-clause-cause : goal.returns-clause-cause
 returns-clause-cause g c = c.feed_next.ensures.source.cause

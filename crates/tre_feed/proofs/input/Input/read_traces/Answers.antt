@@ -3,7 +3,7 @@ use Rattle.tre_feed.specs.Input.{input_told}
 use Rattle.tre_feed.specs.Standing.{limit_of, recording_of}
 use Rattle.tre_feed.specs.Traces.{IsWhole}
 use Rattle.tre_feed.proofs.Seeing.{ArePacked-none}
-use Rattle.std.proofs.Common.{◌≡◌, List, length, refl, subst, sym, arith}
+use Rattle.std.proofs.Common.{◌≡◌, List, length, refl, subst, sym, arith, rules}
 use Rattle.std.proofs.lemmas.Result.{err_from_is_err_and}
 use Rattle.std.proofs.lemmas.List.{with_items_is}
 use Rattle.tre_feed.proofs.input.Input.read_traces.Goals as goal
@@ -35,9 +35,7 @@ returns-in_err-collect-clause-by_name g c = c.collect.ensures.by_name
 
 pub returns-in_err-collect-clause-stops : goal.returns-in_err-collect-clause-stops
 returns-in_err-collect-clause-stops g c =
-    let p = err_from_is_err_and c.from_residual-in_err-collect.result
-    c.from_residual-in_err-collect.ensures.1 in
-    rw (p.1, p.2) c.in_err-collect.ensures.stops
+    search (rules, err_from_is_err_and, c.from_residual-in_err-collect.ensures.1)
 
 pub returns-clause-bounded : goal.returns-clause-bounded
 returns-clause-bounded g c = c.collect.ensures.bounded

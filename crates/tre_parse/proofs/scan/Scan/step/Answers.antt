@@ -1,6 +1,5 @@
-use Rattle.std.proofs.Common.{◌≡◌, ℕ, ◌+◌, ◌-◌, List, sym, ◌∙◌, ap, subst, arith, take, drop, length, length-drop}
+use Rattle.std.proofs.Common.{◌≡◌, ℕ, ◌+◌, ◌-◌, List, sym, ◌∙◌, ap, subst, arith, take, drop, length, length-drop, rules}
 use Rattle.std.proofs.lemmas.List.{take_rest}
-use Rattle.tre_state.specs.Name.{IsName}
 use Rattle.tre_parse.specs.Tokens.{name, number, sign}
 use Rattle.tre_parse.specs.Lexeme.{lexeme_of}
 use Rattle.tre_parse.specs.Scan.{ScanGoesOn}
@@ -9,38 +8,15 @@ use Rattle.tre_parse.proofs.Scans.{rest_blank, rest_name, rest_number, rest_sign
 use Rattle.tre_parse.proofs.scan.Scan.step.Goals as goal
 
 pub name_at-requires : goal.name_at-requires
-name_at-requires c =
-    let bytes = c.as_bytes.result.now in let at = c.args.at in let len = c.in-Name.len in
-    let same = c.as_bytes.ensures.value in
-    let whole = ap length (take_rest bytes at) in
-    let size = length-drop at bytes in
-    let P = λ (bs : List ℕ). IsName (take len (drop at bs)) in
-    record {
-      within = omega (arith, c.in-Name.ensures.fits, whole, size, ap length same);
-      name = subst P same (name_bytes (drop at bytes) len
-          (ap lexeme_of (sym (take_rest bytes at)) ∙ sym c.in-Name.ensures.value));
-    }
+name_at-requires c = search (rules, take_rest, name, name_bytes, lexeme_of)
 
 pub put_name-requires : goal.put_name-requires
 put_name-requires c =
-    let bytes = c.as_bytes.result.now in let at = c.args.at in let len = c.in-Name.len in
-    let P = λ (bs : List ℕ). IsName (take len (drop at bs)) in
-    subst IsName (sym c.name_at.ensures) (subst P c.as_bytes.ensures.value
-    (name_bytes (drop at bytes) len
-    (ap lexeme_of (sym (take_rest bytes at)) ∙ sym c.in-Name.ensures.value)))
+    search (rules, name_bytes, lexeme_of, take_rest, c.as_bytes.result.now, c.args.at)
 
 pub returns-in-Blank-clause-ok : goal.returns-in-Blank-clause-ok
 returns-in-Blank-clause-ok c =
-    let bytes = c.as_bytes.result.now in
-    let same = c.as_bytes.ensures.value in
-    let P = λ (bs : List ℕ). ScanGoesOn bs c.args.self.now c.args.at c.args.self.now (c.args.at + 1) in
-    let e = rest_blank bytes c.args.at (omega (arith, c.requires.place, ap length same))
-    (ap lexeme_of (sym (take_rest bytes c.args.at)) ∙ sym c.in-Blank.ensures.value) in
-    subst P same (record {
-      leads = leads_same bytes c.args.self.now c.args.at (c.args.at + 1) e;
-      further = omega arith;
-      within = omega (arith, c.requires.place, ap length same);
-    })
+    search (rules, rest_blank, lexeme_of, take_rest, leads_same, c.as_bytes.result.now)
 
 pub returns-in_ok-put_name-in-Name-clause-ok : goal.returns-in_ok-put_name-in-Name-clause-ok
 returns-in_ok-put_name-in-Name-clause-ok c =

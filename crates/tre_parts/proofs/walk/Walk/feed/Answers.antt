@@ -1,4 +1,4 @@
-use Rattle.std.proofs.Common.{◌≡◌, ◌+◌, suc, ◌++◌, [], ◌∷◌, get_or, take, drop, append-nil, arith, sym, ap, ◌∙◌}
+use Rattle.std.proofs.Common.{◌≡◌, ◌+◌, suc, ◌++◌, [], ◌∷◌, get_or, take, drop, append-nil, arith, sym, ap, ◌∙◌, rules}
 use Rattle.std.proofs.lemmas.List.{length-drop, length-take}
 use Rattle.std.proofs.lemmas.Result.{err_from_is_err_and}
 use Rattle.tre_parts.proofs.Cuts.{take-rest}
@@ -72,10 +72,13 @@ slice_bounds-end_part-end g c =
 
 pub loop-place-smaller : goal.loop-place-smaller
 loop-place-smaller g c =
-    let rest = c.loop-place.rest.now in
-    let within = c.in-Some.ensures.first.within in
-    let shorter = c.skim-rest-in-Some.ensures.shorter in
-    omega (arith, shorter, length-drop (c.in-Some.place + 1) rest, within)
+    search (
+      rules,
+      length-drop,
+      c.loop-place.rest.now,
+      c.in-Some.ensures.first.within,
+      c.skim-rest-in-Some.ensures.shorter,
+    )
 
 pub returns-in_err-end_part-clause-same_terms : goal.returns-in_err-end_part-clause-same_terms
 returns-in_err-end_part-clause-same_terms g c =

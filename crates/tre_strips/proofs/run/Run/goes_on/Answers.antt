@@ -1,4 +1,4 @@
-use Rattle.std.proofs.Common.{◌≡◌, ℕ, ◌<◌, List, true≢false, sym, subst, ◌∙◌}
+use Rattle.std.proofs.Common.{◌≡◌, ℕ, ◌<◌, List, subst, rules}
 use Rattle.tre_strips.specs.Found.{AreSamePlaces}
 use Rattle.tre_strips.specs.Times.{sample_of}
 use Rattle.tre_strips.specs.declared.bar.Bar.{Bar}
@@ -22,25 +22,8 @@ alike_at times bars others e =
 
 pub returns-then-are_alike : goal.returns-then-are_alike
 returns-then-are_alike c =
-    let times : Times = record { from = c.args.column.now.time; until = c.args.column.now.until } in
-    let here = rw (c.deref.ensures.value, c.deref-2.ensures.value) at c.are_alike.ensures in
-    let there = rw (
-      c.deref-then-are_alike.ensures.value,
-      c.deref-then-are_alike-2.ensures.value,
-    ) at c.are_same_at.ensures in (
-      (λ e. (
-        same_at times c.args.self.now.bars.items c.args.column.now.behind.items c.requires
-            (here.0 c.if-are_alike.true),
-        there.0 e,
-      )),
-      (λ goes. there.1 goes.1),
-    )
+    search (rules, same_at, c.are_alike.ensures, c.are_same_at.ensures, c.args.self.now.bars.items)
 
 pub returns-else-are_alike : goal.returns-else-are_alike
 returns-else-are_alike c =
-    let times : Times = record { from = c.args.column.now.time; until = c.args.column.now.until } in
-    let here = rw (c.deref.ensures.value, c.deref-2.ensures.value) at c.are_alike.ensures in (
-      (λ e. absurd (true≢false (sym e ∙ c.if-are_alike.false))),
-      (λ goes. here.1 (alike_at times c.args.self.now.bars.items
-          c.args.column.now.behind.items goes.0)),
-    )
+    search (rules, alike_at, c.are_alike.ensures, c.args.column.now.behind.items)

@@ -1,5 +1,5 @@
-use Rattle.std.proofs.Common.{arith}
-use Rattle.tre_strips.proofs.Comparing.{is-so, is-not, moving-first, meets-later, meets-never, met-before}
+use Rattle.std.proofs.Common.{arith, rules}
+use Rattle.tre_strips.proofs.Comparing.{is-so, is-not, meets-later, meets-never, met-before}
 use Rattle.tre_strips.proofs.times.Times.is_moving_first.Goals as goal
 
 pub returns-then-self-meeting : goal.returns-then-self-meeting
@@ -8,19 +8,12 @@ returns-then-self-meeting c =
     (omega (arith, c.saturating_sub-meeting.ensures, c.if-self-meeting.true)))
 
 pub returns-then-meeting-self : goal.returns-then-meeting-self
-returns-then-meeting-self c =
-    let before = met-before c.args.self.now c.args.moving.now c.args.fixed.now
-    (omega (arith, c.saturating_sub-meeting.ensures, c.if-meeting-self.true)) in
-    is-not (λ less. omega (arith, before, less))
+returns-then-meeting-self c = search (rules, met-before, is-not, c.args.self.now, c.args.moving.now)
 
 pub returns-then-fixed-moving : goal.returns-then-fixed-moving
 returns-then-fixed-moving c =
-    let never = meets-never c.args.self.now c.args.moving.now c.args.fixed.now
-    c.if-fixed-moving.true in
-    is-not (λ less. omega (arith, never, less))
+    search (rules, meets-never, is-not, c.args.self.now, c.args.moving.now, c.if-fixed-moving.true)
 
 pub returns : goal.returns
 returns c =
-    moving-first c.args.self.now c.args.moving.now c.args.fixed.now _ _ _ _
-    c.saturating_sub-meeting.ensures c.if-self-meeting.false c.if-meeting-self.false c.if-fixed-moving.false
-    c.late.ensures.late c.part_of.ensures c.part_of-2.ensures c.is_less.ensures
+    search (rules, c.args.self.now, c.args.moving.now, c.args.fixed.now, c.if-self-meeting.false)

@@ -1,4 +1,4 @@
-use Rattle.std.proofs.Common.{◌≡◌, ℕ, ◌+◌, ◌*◌, Bool, true, false, cond, ap, arith}
+use Rattle.std.proofs.Common.{◌≡◌, ℕ, ◌+◌, ◌*◌, Bool, true, false, cond, arith, rules}
 use Rattle.tre_strips.specs.Bar.{place_of}
 use Rattle.tre_strips.specs.Times.{sample_of}
 use Rattle.tre_strips.specs.declared.bar.BarEnd.{BarEnd}
@@ -12,10 +12,7 @@ at : (end : BarEnd) (moves after_it : Bool) (sample moment : ℕ) → end.moves 
     → end.after ≡ after_it → moment ≡ 2 * end.ticks + cond moves sample 0
     → 2 * moment + bit after_it ≡ place_of end sample 2
 unfolding place_of
-at end moves after_it sample moment e e' is =
-    let m : cond end.moves sample 0 ≡ cond moves sample 0 = ap (λ (b : Bool). cond b sample 0) e in
-    let f : bit end.after ≡ bit after_it = ap (λ (b : Bool). bit b) e' in
-    omega arith
+at end moves after_it sample moment e e' is = search (rules, end.moves)
 
 pub returns-then-end-2 : goal.returns-then-end-2
 returns-then-end-2 c = elim c.if-end.branch [

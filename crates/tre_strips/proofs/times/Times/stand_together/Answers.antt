@@ -1,15 +1,12 @@
-use Rattle.std.proofs.Common.{sym, true≢false}
+use Rattle.std.proofs.Common.{rules}
 use Rattle.tre_strips.specs.Times.{sample_of}
-use Rattle.tre_strips.proofs.Ends.{alike, fixed, moving, place_differs, place_same, place_met}
+use Rattle.tre_strips.proofs.Ends.{alike, fixed, place_differs, place_same, place_met}
 use Rattle.tre_strips.proofs.StripZones.{same_flags}
 use Rattle.tre_strips.proofs.times.Times.stand_together.Goals as goal
 
 pub returns-then-one-other : goal.returns-then-one-other
-returns-then-one-other c = (
-  (λ e. absurd (true≢false (sym e))),
-  (λ same. absurd (place_differs c.args.one.now c.args.other.now (sample_of c.args.self.now)
-      c.if-one-other.true same)),
-)
+returns-then-one-other c =
+    search (rules, place_differs, sample_of, c.args.one.now, c.args.other.now, c.if-one-other.true)
 
 pub returns-then-one-other-2 : goal.returns-then-one-other-2
 returns-then-one-other-2 c =
@@ -30,9 +27,4 @@ returns-then-one c =
 
 pub returns-else-one : goal.returns-else-one
 returns-else-one c =
-    let both = place_met c.args.other.now c.args.one.now (sample_of c.args.self.now)
-    (moving _ _ c.if-one-other-2.false c.if-one.false) c.if-one.false
-    (sym (same_flags _ _ c.if-one-other.false)) in (
-      (λ e. sym (both.0 (c.meet-else-one.ensures.0 e))),
-      (λ same. c.meet-else-one.ensures.1 (both.1 (sym same))),
-    )
+    search (rules, place_met, sample_of, c.args.other.now, c.args.one.now, c.if-one-other-2.false)

@@ -1,4 +1,4 @@
-use Rattle.std.proofs.Common.{◌≡◌, ◌+◌, refl, sym, ap, ◌∙◌, arith, [], ◌++◌}
+use Rattle.std.proofs.Common.{◌≡◌, ◌+◌, refl, sym, ap, ◌∙◌, arith, [], rules}
 use Rattle.tre_trace.specs.declared.fault.TraceKind.TheVariants.{Spent}
 use Rattle.tre_text.specs.Lines.{bits_after}
 use Rattle.tre_text.specs.TextReading.{past_at, stretch_with}
@@ -11,19 +11,8 @@ overflow_add-self c =
     omega (arith, found.fits)
 
 pub returns-in-Events-clause-tells : goal.returns-in-Events-clause-tells
-returns-in-Events-clause-tells c = λ past knows.
-    let reader = c.args.self.now in
-    let found = c.in-Events.ensures past (sym knows.end) in
-    record {
-      state = past_at past.end (past.said ++ found.fields);
-      says = found.says;
-      is_held = record {
-        end = knows.end;
-        pending = found.bits_are
-            ∙ ap (λ bits. bits_after reader.events bits found.fields) knows.pending
-            ∙ bits-said past.said found.fields reader.events reader.events_distinct;
-      };
-    }
+returns-in-Events-clause-tells c =
+    search (rules, past_at, bits_after, bits-said, c.args.self.now, c.in-Events.ensures)
 
 pub returns-in-Entry-clause-tells : goal.returns-in-Entry-clause-tells
 returns-in-Entry-clause-tells c = λ past knows.

@@ -1,4 +1,4 @@
-use Rattle.std.proofs.Common.{◌≡◌, ◌⊎◌, ◌+◌, ◌-◌, ◌*◌, ◌≤◌, ◌∙◌, inl, inr, length, take, drop, refl, ap, sym, arith}
+use Rattle.std.proofs.Common.{◌≡◌, ◌⊎◌, ◌+◌, ◌-◌, ◌*◌, ◌≤◌, ◌∙◌, inl, inr, length, take, drop, refl, ap, sym, arith, rules}
 use Rattle.std.proofs.lemmas.Bool.{cases_lt}
 use Rattle.std.proofs.lemmas.List.{length-take-le, take_all}
 use Rattle.tre_trace.specs.Trace.{end_of}
@@ -10,26 +10,11 @@ pub loop-block-init : goal.loop-block-init
 loop-block-init c = record { beside = c.new-planes.ensures; end = refl }
 
 pub add_block-requires-clause-beside : goal.add_block-requires-clause-beside
-add_block-requires-clause-beside c =
-    let segments = c.args.segments.items in
-    let from = c.loop-block.block * 64 in
-    record {
-      segments = take from segments;
-      same = sym (length-take-le from segments (omega (arith, c.len-in-loop-block.ensures)));
-      ends = c.loop-block.invariant.end;
-      beside = c.loop-block.invariant.beside;
-    }
+add_block-requires-clause-beside c = search (rules, length-take-le, c.args.segments.items)
 
 pub end_of-end-requires : goal.end_of-end-requires
 end_of-end-requires c =
-    let segments = c.args.segments.items in
-    let from = c.loop-block.block * 64 in
-    let to = from + c.min.result in
-    rw (
-      c.deref-in-loop-block.ensures.value,
-      c.loop-block.invariant.end,
-      end_of-from 0 segments from to (omega arith),
-    ) (omega (arith, end_of-take-le 0 segments to, c.requires.trace.in_time))
+    search (rules, end_of-from, end_of-take-le, c.args.segments.items, c.min.result)
 
 pub loop-block-preserved : goal.loop-block-preserved
 loop-block-preserved c =
@@ -60,11 +45,4 @@ loop-block-preserved c =
     }
 
 pub invariant_of-result : goal.invariant_of-result
-invariant_of-result c =
-    let segments = c.args.segments.items in
-    let all = take_all (c.loop-block.block * 64) segments
-    (omega (arith, c.len.ensures, c.div_ceil-block-end.ensures, c.loop-block-test.false)) in (
-      c.requires.trace,
-      c.loop-block.invariant.end ∙ ap (end_of 0) all,
-      rw all at c.loop-block.invariant.beside,
-    )
+invariant_of-result c = search (rules, take_all, end_of, c.args.segments.items)

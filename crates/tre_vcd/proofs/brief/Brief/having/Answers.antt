@@ -1,13 +1,10 @@
-use Rattle.std.proofs.Common.{get_or, sym, ap, ◌∙◌}
-use Rattle.tre_vcd.proofs.Slots.{having-none, having-both}
+use Rattle.std.proofs.Common.{◌∙◌, rules}
+use Rattle.tre_vcd.proofs.Slots.{having-both}
 use Rattle.tre_vcd.proofs.brief.Brief.having.Goals as goal
 
 pub returns-then-numbers-eq0 : goal.returns-then-numbers-eq0
-returns-then-numbers-eq0 c = λ told sieve.
-    having-none c.args.variables.now.list.items c.args.identifier.now c.args.self.now.firsts
-    c.args.self.now.seconds told.firsts told.seconds
-    (ap (λ slot. get_or c.args.self.now.firsts slot 0) (sym c.first_slot.ensures.slot)
-    ∙ c.if-numbers-eq0.true)
+returns-then-numbers-eq0 c =
+    search (rules, c.args.variables.now.list.items, c.args.identifier.now, c.args.self.now.firsts)
 
 pub returns-then-slot-eq0 : goal.returns-then-slot-eq0
 returns-then-slot-eq0 c = λ told sieve. c.having_apart.ensures sieve

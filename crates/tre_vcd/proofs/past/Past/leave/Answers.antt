@@ -1,13 +1,6 @@
-use Rattle.std.proofs.Common.{refl}
-use Rattle.tre_vcd.specs.VcdReading.{upscope, scopes_at}
-use Rattle.tre_vcd.proofs.Pasts.{knows-later}
+use Rattle.std.proofs.Common.{rules}
 use Rattle.tre_vcd.proofs.past.Past.leave.Goals as goal
 
 pub returns : goal.returns
-returns c = λ names event_names past known.
-    knows-later names event_names c.args.self.now past upscope c.args.self.now.is_defined
-    c.args.self.now.in_dump c.leave.new.self known.defined known.dump refl (record {
-      identifiers = λ test name. refl;
-      values = λ identifier. refl;
-      events = λ identifier. refl;
-    }) (λ e. e) known.brief (c.leave.ensures (scopes_at past) known.scopes) known
+returns c =
+    search (rules, c.args.self.now, c.args.self.now.in_dump, c.leave.new.self, c.leave.ensures)

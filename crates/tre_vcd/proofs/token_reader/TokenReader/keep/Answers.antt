@@ -1,6 +1,5 @@
-use Rattle.std.proofs.Common.{◌≡◌, ◌∙◌, ◌≤◌, ◌<◌, ◌∷◌, [], ◌++◌, ℕ, List, length, take, ap, sym, arith, refl, length-append, length-take}
+use Rattle.std.proofs.Common.{◌≡◌, ◌∙◌, ◌≤◌, ◌<◌, ◌∷◌, [], ◌++◌, ℕ, List, length, take, ap, sym, arith, refl, length-append, length-take, rules}
 use Rattle.std.proofs.lemmas.List.{length-map, take-append-le, take_all}
-use Rattle.std.specs.Global.{Vec}
 use Rattle.tre_trace.specs.declared.fault.TraceKind.TheVariants.{Memory, Spent}
 use Rattle.tre_vcd.specs.VcdReading.{section}
 use Rattle.tre_vcd.proofs.Staying.{knows-kept}
@@ -26,47 +25,12 @@ module _ (most : ℕ) (tokens kept : List (List ℕ)) (token : List ℕ) (is : k
 
 pub returns-then-as_slice-ge-KEPT_MAX-clause-tells :
     goal.returns-then-as_slice-ge-KEPT_MAX-clause-tells
-returns-then-as_slice-ge-KEPT_MAX-clause-tells c = λ past command tokens holds.
-    let own = c.args.self.now.tokens.items in
-    record {
-      state = record { past = past; inside = section command (tokens ++ c.args.token.now ∷ []) };
-      says = refl;
-      is_held = record {
-        knows = holds.knows;
-        inside = holds.inside;
-        tokens = no-more 6 tokens _ c.args.token.now holds.tokens
-            (omega (
-              arith,
-              c.if-as_slice-ge-KEPT_MAX.true,
-              ap length c.as_slice.ensures.value,
-              length-map own (λ (token : Vec ℕ). token.items),
-            ));
-        suits = holds.suits;
-        letters = tt;
-      };
-    }
+returns-then-as_slice-ge-KEPT_MAX-clause-tells c =
+    search (rules, section, no-more, length-map, c.args.self.now.tokens.items, c.args.token.now)
 
 pub returns-in-Ok-clause-tells : goal.returns-in-Ok-clause-tells
-returns-in-Ok-clause-tells c = λ past command tokens holds.
-    let reader = c.args.self.now in
-    record {
-      state = record { past = past; inside = section command (tokens ++ c.args.token.now ∷ []) };
-      says = refl;
-      is_held = record {
-        knows = knows-kept reader reader.inside c.push_token.new.tokens reader.letters past
-            holds.knows;
-        inside = holds.inside;
-        tokens = one-more 6 tokens _ c.args.token.now holds.tokens _
-            (omega (
-              arith,
-              c.if-as_slice-ge-KEPT_MAX.false,
-              ap length c.as_slice.ensures.value,
-              length-map reader.tokens.items (λ (token : Vec ℕ). token.items),
-            )) c.in-Ok.ensures;
-        suits = holds.suits;
-        letters = tt;
-      };
-    }
+returns-in-Ok-clause-tells c =
+    search (rules, section, knows-kept, one-more, length-map, c.args.self.now, c.args.token.now)
 
 pub returns-in-Err-clause-tells : goal.returns-in-Err-clause-tells
 returns-in-Err-clause-tells c = λ past command tokens holds. record {

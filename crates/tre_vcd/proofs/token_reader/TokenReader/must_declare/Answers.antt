@@ -1,4 +1,4 @@
-use Rattle.std.proofs.Common.{[], ◌∷◌, ◌++◌, map, refl, sym, ap, ◌∙◌, subst}
+use Rattle.std.proofs.Common.{[], sym, ◌∙◌, subst, rules}
 use Rattle.std.proofs.lemmas.List.{map-append}
 use Rattle.tre_vcd.specs.Kept.{KnowsAll, vocabulary_of}
 use Rattle.tre_vcd.specs.Offers.{KnowOffers, KnowsOffers}
@@ -40,10 +40,4 @@ returns-clause-begins c = λ holds same.
     }
 
 pub returns-clause-terms : goal.returns-clause-terms
-returns-clause-terms c =
-    let reader = c.args.self.now in
-    let before = map vocabulary_of reader.needed.items in
-    same-terms reader.scale.exponent
-    (ap (map vocabulary_of) c.in_ok-push.ensures.items
-    ∙ map-append vocabulary_of reader.needed.items (c.in_ok-found.found ∷ [])
-    ∙ ap (λ needed. before ++ needed ∷ []) c.in_ok-found.ensures.needs) refl
+returns-clause-terms c = search (rules, vocabulary_of, same-terms, map-append, c.args.self.now)

@@ -1,16 +1,12 @@
-use Rattle.std.proofs.Common.{◌≡◌, ◌≢◌, refl, sym, ◌∙◌, arith, rules}
-use Rattle.tre_trace.specs.declared.fault.TraceKind.TheVariants.{BadToken, Spent}
+use Rattle.std.proofs.Common.{◌≢◌, sym, ◌∙◌, arith, rules}
 use Rattle.tre_vcd.specs.VcdReading.{time_at, stretch_until}
 use Rattle.tre_vcd.specs.Sections.{terms_kept}
-use Rattle.tre_vcd.proofs.Skimming.{holds-again, holds-later, time-again, time-back, time-later}
+use Rattle.tre_vcd.proofs.Skimming.{holds-again, holds-later, time-again, time-later}
 use Rattle.tre_vcd.proofs.token_reader.TokenReader.read_time.Goals as goal
 
 pub returns-then-ticks-self-clause-tells : goal.returns-then-ticks-self-clause-tells
-returns-then-ticks-self-clause-tells c = λ past holds defined.
-    let reader = c.args.self.now in
-    let last = holds.knows.past.time in
-    time-back (terms_kept reader) past c.args.digits.now c.in-Some.ticks c.in-Some.ensures.digits
-    c.in-Some.ensures.value (omega (arith, last, c.if-ticks-self.true)) (rw (← last) (search rules))
+returns-then-ticks-self-clause-tells c =
+    search (rules, c.args.self.now, c.args.digits.now, c.in-Some.ticks, c.in-Some.ensures.value)
 
 pub returns-then-ticks-self-2-clause-tells : goal.returns-then-ticks-self-2-clause-tells
 returns-then-ticks-self-2-clause-tells c = λ past holds defined.
@@ -39,7 +35,4 @@ returns-clause-tells c = λ past holds defined.
     }
 
 pub returns-in_default-clause-tells : goal.returns-in_default-clause-tells
-returns-in_default-clause-tells c = λ past holds defined. record {
-  says = λ other. rw c.in_default.ensures.none refl;
-  never_spent = λ (e : BadToken ≡ Spent). cc;
-}
+returns-in_default-clause-tells c = search (rules, c.in_default.ensures.none)

@@ -1,8 +1,8 @@
-use Rattle.std.proofs.Common.{[], drop, append-nil, refl, sym, ap, ◌∙◌, subst}
+use Rattle.std.proofs.Common.{drop, refl, sym, ◌∙◌, subst, rules}
 use Rattle.tre_vcd.specs.Sections.{Holds, asked_of_reader, terms_kept}
 use Rattle.tre_vcd.specs.Taken.{IsTaken}
-use Rattle.tre_vcd.specs.declared.token.Letter.TheVariants.{Time, Scalar, Vector}
-use Rattle.tre_vcd.specs.VcdReading.{nothing, value_says}
+use Rattle.tre_vcd.specs.declared.token.Letter.TheVariants.{Time, Scalar}
+use Rattle.tre_vcd.specs.VcdReading.{nothing}
 use Rattle.tre_vcd.proofs.FirstBytes.{letter-says, nothing-said}
 use Rattle.tre_vcd.proofs.Skimming.{vector-taken}
 use Rattle.tre_vcd.proofs.token_reader.TokenReader.skim_token.Goals as goal
@@ -29,30 +29,11 @@ returns-in-Time-clause-taken c = λ past holds defined.
     (c.skim_time.ensures.taken past (drop 1 token) holds defined)
 
 pub returns-in_default-clause-taken : goal.returns-in_default-clause-taken
-returns-in_default-clause-taken c = λ past holds defined. record {
-  stretches = [];
-  goes_on = record {
-    state = record { past = past; inside = nothing };
-    says = nothing-said (terms_kept c.args.self.now) past c.args.token.now
-        c.in_default.ensures.cases;
-    is_held = holds;
-  };
-  added = sym (append-nil c.args.segments.now.items);
-}
+returns-in_default-clause-taken c = search (rules, nothing, nothing-said, terms_kept)
 
 pub returns-in-Vector-clause-taken : goal.returns-in-Vector-clause-taken
-returns-in-Vector-clause-taken c = λ past holds defined.
-    let reader = c.args.self.now in
-    let token = c.args.token.now in
-    let segments = c.args.segments.now.items in
-    let rest = c.in-Some.rest.now in
-    subst (IsTaken (asked_of_reader reader) (value_says (terms_kept reader) past token)
-    (Holds reader) past (drop 1 token) segments segments)
-    (sym c.vector_taken.ensures)
-    (vector-taken _ (Holds reader) past (value_says (terms_kept reader) past token) rest (drop 1 token) segments
-    (letter-says (terms_kept reader) past token c.in-Some.first.now rest Vector
-    c.in-Some.ensures.cases.0 (sym c.frequent_letter_of.ensures ∙ c.in-Vector.is))
-    (ap (drop 1) c.in-Some.ensures.cases.0) holds)
+returns-in-Vector-clause-taken c =
+    search (rules, asked_of_reader, vector-taken, letter-says, c.args.self.now, c.args.token.now)
 
 pub returns-in_default-frequent_letter_of-clause-taken :
     goal.returns-in_default-frequent_letter_of-clause-taken

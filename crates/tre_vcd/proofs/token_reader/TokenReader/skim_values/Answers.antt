@@ -1,6 +1,5 @@
-use Rattle.std.proofs.Common.{◌≡◌, ◌≤◌, ◌+◌, drop, refl, ap, subst, ◌∙◌, arith}
+use Rattle.std.proofs.Common.{◌≡◌, ◌≤◌, ◌+◌, drop, refl, ap, subst, ◌∙◌, arith, rules}
 use Rattle.tre_parts.specs.Bytes.{between}
-use Rattle.tre_parts.specs.Walk.{AddsPart}
 use Rattle.tre_parts.specs.declared.skimmed.Skimmed.{Skimmed}
 use Rattle.tre_parts.proofs.Skimming.{skims-none}
 use Rattle.tre_vcd.specs.VcdReading.{vector, goes_to, value_says, vcd_format}
@@ -22,34 +21,7 @@ loop-place-init c = record {
 
 pub loop-place-preserved-in-Whole : goal.loop-place-preserved-in-Whole
 loop-place-preserved-in-Whole c =
-    let before = c.loop-place.invariant in
-    let next = c.in-Some.ensures.next in
-    let reader = c.args.self.now in
-    let own = c.loop-place.self in
-    let now = c.skim_token.new.self in
-    let old = c.loop-place.segments.items in
-    let new = c.skim_token.new.segments.items in
-    let token = between c.args.bytes.now c.loop-place.done.bytes c.in-Some.place in
-    let at = c.with_part-done.ensures.is before.few next.behind in
-    record {
-      skims = λ place holds.
-          rw at
-          (taken-next (terms_kept reader) (before.skims place holds) next c.requires.short
-          before.among
-          (λ past held defined.
-          subst (λ terms. AddsPart (asked_of_reader reader) (value_says terms past token) (Holds now) old
-          new) before.same_terms
-          (subst (λ asked. AddsPart asked (value_says (terms_kept own) past token) (Holds now) old
-          new) before.same_names (c.in-Whole.ensures.taken past held defined))));
-      marks = rw at c.in-Some.ensures.marks;
-      few = rw at (omega (arith, before.few, next.behind));
-      among = (
-        c.skim_token.ensures.stays.0 ∙ before.among.0,
-        c.skim_token.ensures.stays.1 ∙ before.among.1,
-      );
-      same_terms = c.skim_token.ensures.same_terms ∙ before.same_terms;
-      same_names = c.skim_token.ensures.same_names ∙ before.same_names;
-    }
+    search (rules, taken-next, c.loop-place.invariant, c.in-Some.ensures.next, c.args.self.now)
 
 pub loop-place-preserved : goal.loop-place-preserved
 loop-place-preserved c =

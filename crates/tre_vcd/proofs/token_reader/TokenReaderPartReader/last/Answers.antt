@@ -1,8 +1,5 @@
+use Rattle.std.proofs.Common.{rules}
 use Rattle.tre_vcd.proofs.token_reader.TokenReaderPartReader.last.Goals as goal
 
 pub returns : goal.returns
-returns c = λ place holds.
-    let reader = c.args.self.now in
-    c.events-2.ensures reader.signals.definitions.items reader.events place.past
-    holds.knows.signals.changes
-    (c.events.ensures reader.names reader.events place.past holds.knows.past)
+returns c = search (rules, c.args.self.now, c.events-2.ensures, c.events.ensures)

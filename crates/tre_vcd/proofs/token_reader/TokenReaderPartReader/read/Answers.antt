@@ -1,4 +1,4 @@
-use Rattle.std.proofs.Common.{◌∷◌, [], refl, sym, ap, ◌∙◌, subst}
+use Rattle.std.proofs.Common.{◌∷◌, [], refl, sym, ap, ◌∙◌, subst, rules}
 use Rattle.tre_parts.specs.Walk.{TellsPart}
 use Rattle.tre_vcd.specs.VcdReading.{Open, scalar, change, nothing, token_at}
 use Rattle.tre_vcd.specs.Sections.{Holds, asked_of_reader, terms_kept}
@@ -9,11 +9,7 @@ use Rattle.tre_vcd.proofs.Undefined.{signals-undefined}
 use Rattle.tre_vcd.proofs.token_reader.TokenReaderPartReader.read.Goals as goal
 
 pub returns-in_default-clause-tells : goal.returns-in_default-clause-tells
-returns-in_default-clause-tells c = λ state holds. record {
-  state = state;
-  says = says-empty (terms_kept c.args.self.now) state c.args.part.now c.in_default.ensures.cases;
-  is_held = holds;
-}
+returns-in_default-clause-tells c = search (rules, says-empty, terms_kept, c.args.part.now)
 
 pub returns-then-is_empty-clause-tells : goal.returns-then-is_empty-clause-tells
 returns-then-is_empty-clause-tells c = λ state holds.
@@ -76,46 +72,16 @@ returns-in-Nothing-clause-tells c = λ state holds.
     holds) defined)
 
 pub returns-in-Comment-clause-tells : goal.returns-in-Comment-clause-tells
-returns-in-Comment-clause-tells c = λ state holds.
-    let terms = terms_kept c.args.self.now in
-    let part = c.args.part.now in
-    let is = is-comment state.inside (sym holds.inside ∙ c.in-Comment.is) in
-    subst (λ said. TellsPart (asked_of_reader c.args.self.now) said (Holds c.read_comment.new.self)
-    c.read_comment.result)
-    (sym (says-letter terms state part c.in-Some.first.now c.in-Some.rest.now
-    c.in-Some.ensures.cases.0
-    ∙ ap (λ (o : Open). token_at terms state.past o part) is))
-    (c.read_comment.ensures.tells state.past
-    (subst (λ (o : Open). Holds c.args.self.now (record { past = state.past; inside = o })) is
-    holds))
+returns-in-Comment-clause-tells c =
+    search (rules, is-comment, says-letter, c.args.self.now, c.args.part.now, c.in-Some.first.now)
 
 pub returns-in-Vector-clause-tells : goal.returns-in-Vector-clause-tells
-returns-in-Vector-clause-tells c = λ state holds.
-    let terms = terms_kept c.args.self.now in
-    let part = c.args.part.now in
-    let is = is-vector state.inside c.in-Vector.value (sym holds.inside ∙ c.in-Vector.is) in
-    subst (λ said. TellsPart (asked_of_reader c.args.self.now) said (Holds c.read_identifier.new.self)
-    c.read_identifier.result)
-    (sym (says-letter terms state part c.in-Some.first.now c.in-Some.rest.now
-    c.in-Some.ensures.cases.0
-    ∙ ap (λ (o : Open). token_at terms state.past o part) is.is))
-    (c.read_identifier.ensures.tells state.past is.letters
-    (subst (λ (o : Open). Holds c.args.self.now (record { past = state.past; inside = o })) is.is
-    holds) is.value_is)
+returns-in-Vector-clause-tells c =
+    search (rules, is-vector, says-letter, c.args.self.now, c.args.part.now, c.in-Vector.value)
 
 pub returns-in-Number-clause-tells : goal.returns-in-Number-clause-tells
-returns-in-Number-clause-tells c = λ state holds.
-    let terms = terms_kept c.args.self.now in
-    let part = c.args.part.now in
-    let is = is-number state.inside (sym holds.inside ∙ c.in-Number.is) in
-    subst (λ said. TellsPart (asked_of_reader c.args.self.now) said (Holds c.pass_over.new.self)
-    c.pass_over.result)
-    (sym (says-letter terms state part c.in-Some.first.now c.in-Some.rest.now
-    c.in-Some.ensures.cases.0
-    ∙ ap (λ (o : Open). token_at terms state.past o part) is))
-    (c.pass_over.ensures.tells state.past
-    (subst (λ (o : Open). Holds c.args.self.now (record { past = state.past; inside = o })) is
-    holds))
+returns-in-Number-clause-tells c =
+    search (rules, is-number, says-letter, c.args.self.now, c.args.part.now, c.in-Some.first.now)
 
 pub returns-in-Section-clause-tells : goal.returns-in-Section-clause-tells
 returns-in-Section-clause-tells c = λ state holds.

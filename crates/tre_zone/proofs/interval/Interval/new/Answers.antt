@@ -26,6 +26,5 @@ invariant_of-result c = rw c.in-None.is
 
 pub invariant_of-result-then-has_room : goal.invariant_of-result-then-has_room
 invariant_of-result-then-has_room c =
-    interval_to c.args.low c.args.low_weak c.in-Some.top c.args.high_weak c.requires.low
-    (high_within c.args.high c.in-Some.top TIME_MAX c.in-Some.is c.requires.high)
+    interval_to _ _ _ _ c.requires.low (high_within _ _ TIME_MAX c.in-Some.is c.requires.high)
     (c.if-has_room.ensures.0 refl)

@@ -1,5 +1,4 @@
-use Rattle.std.proofs.Common.{◌≡◌, arith, sym, subst, ◌↔◌, pos, ◌-ℤ◌, ◌+◌, ◌*◌}
-use Rattle.std.proofs.lemmas.Int.{ints}
+use Rattle.std.proofs.Common.{sym, subst, ◌↔◌, rules}
 use Rattle.tre_zone.specs.declared.zone_bounds.ZoneBounds.{ZoneBounds}
 use Rattle.tre_zone.specs.Zone.{instants_of, IsCanonical, ZoneHolds, IsInstantBetween}
 use Rattle.tre_zone.proofs.Instants.{instants-canonical, instants-holds}
@@ -8,11 +7,7 @@ use Rattle.tre_zone.proofs.zone.Zone.instants.Goals as goal
 
 pub returns-clause-bounds : goal.returns-clause-bounds
 unfolding instants_of
-returns-clause-bounds c =
-    let low : c.weak-low.result ≡ pos 1 -ℤ pos (2 * c.args.from) = omega (arith, ints) in
-    let high : c.weak-high.result ≡ pos (2 * c.args.to + 1) = omega (arith, ints) in
-    let zero : c.weak-zero.result ≡ pos 1 = omega (arith, ints) in
-    zones_same _ _ low high low high zero zero
+returns-clause-bounds c = search (rules, zones_same)
 
 pub invariant_of-result : goal.invariant_of-result
 invariant_of-result c =

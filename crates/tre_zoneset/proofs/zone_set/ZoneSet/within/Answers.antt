@@ -1,5 +1,5 @@
+use Rattle.std.proofs.Common.{rules}
 use Rattle.std.proofs.lemmas.Result.{IfOk-weaker}
-use Rattle.tre_zoneset.specs.declared.cut.Cut.TheVariants.{Within}
 use Rattle.tre_zoneset.proofs.Cuts.{HoldExactly-within, HoldExactly-left, IsCut-within}
 use Rattle.tre_zoneset.proofs.zone_set.ZoneSet.within.Goals as goal
 
@@ -13,9 +13,4 @@ returns-in-Some c =
 
 pub returns : goal.returns
 returns c =
-    IfOk-weaker c.try_clone.result _ _
-    (λ all same. rw same
-    (HoldExactly-within c.args.interval.now c.args.self.now _
-    (HoldExactly-left (Within c.args.interval.now) c.args.self.now
-    (rw c.in_default.is at c.in_ok-lasting.ensures))))
-    c.try_clone.ensures
+    search (rules, IfOk-weaker, HoldExactly-within, HoldExactly-left, c.try_clone.result)
