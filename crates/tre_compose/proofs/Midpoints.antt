@@ -1,17 +1,19 @@
 -- The composed bounds hold exactly the pairs that have a moment in the middle.
-use Rattle.std.proofs.Common.{◌≡◌, ℕ, ◌*◌, ◌<◌, refl, arith, ℤ, pos, ◌+ℤ◌, ◌-ℤ◌, ◌*ℤ◌, ◌≤ℤ◌}
+use Rattle.std.proofs.Common.{◌≡◌, ℕ, ◌+◌, ◌*◌, ◌<◌, refl, subst, arith, ℤ, pos, ◌+ℤ◌, ◌-ℤ◌, ◌*ℤ◌, ◌≤ℤ◌}
 use Rattle.std.proofs.lemmas.Int.{ints, clamps}
 use Rattle.std.proofs.Math.Nat.{mul-pos}
 use Rattle.std.specs.Int.{int_max}
 use borrow.Author.Differences.{up}
 use Rattle.tre_pairs.specs.Pairs.{Composed}
+use Rattle.tre_pairs.specs.declared.TheConstants.{TIME_MAX}
 use Rattle.tre_zone.specs.Bound.{value_of, weakness_of, sum_of, Meets}
 use Rattle.tre_zone.specs.Zone.{ZoneHolds, IsCanonical, IsZoneOf, HasNoPair}
 use Rattle.tre_zone.specs.declared.zone_bounds.ZoneBounds.{ZoneBounds}
 use Rattle.tre_zone.proofs.Bounds.{split, Meets-at_most, value_of-sum_of, weakness_of-sum_of}
 use Rattle.tre_zone.proofs.Paths.{Meets-looser, Meets-sum, Meets-min, Meets-loop, int_min-left, int_min-right, pos-up, add_times, le_times}
-use Rattle.tre_zone.proofs.Sums.{sum_of-swap}
+use Rattle.tre_zone.proofs.Sums.{sum_of-swap, le_sum_of-left, le_sum_of-right}
 use Rattle.tre_zone.proofs.Scaling.{ZoneHolds-scale, Meets-scale}
+use Rattle.tre_compose.specs.Begins.{BeginsOf, begins_of}
 use Rattle.tre_compose.specs.Composition.{HasHalfway, Touch, joined_of, composed_of}
 
 -- ---- a moment between bounds, at twice the denominator
@@ -244,4 +246,112 @@ pub apart-never : (x y : ZoneBounds) → (Touch x y → ⊥)
 apart-never x y not_touch = record {
   never = λ a b n some le h.
       not_touch (Composed-touch x y a b n some h);
+}
+
+-- ---- a pair for each begin
+
+record HasEnd (x : ZoneBounds) (a n : ℕ) : Type 0 where
+  midpoint : ℕ
+  there : ZoneHolds x (2 * a) midpoint (2 * n)
+
+has_end : (x : ZoneBounds) → IsCanonical x → (a n : ℕ) → 0 < n → Meets x.begin_low 0 a n
+    → Meets x.begin_high a 0 n → HasEnd x a n
+has_end x c a n some begin_low begin_high =
+    let g = greatest (pos (2 * 0) -ℤ reach_of x.end_low n) (pos (2 * a) -ℤ reach_of x.dur_low n)
+    (pos (2 * 0) -ℤ reach_of x.end_low n) (pos (2 * a) -ℤ reach_of x.dur_low n) in
+    let end = room x.end_low x.end_high 0 n some c.room.end_loop in
+    let by = gap x.dur_low x.end_high a 0 n
+    (Meets-looser _ _ a 0 n some c.closed.begin_high begin_high) in
+    let by_end : g.top ≤ℤ (pos (2 * 0) +ℤ reach_of x.end_high n) = g.least _ end by end by in
+    let way = gap x.end_low x.dur_high 0 a n
+    (Meets-looser _ _ 0 a n some c.closed.begin_low begin_low) in
+    let dur = room x.dur_low x.dur_high a n some c.room.dur_loop in
+    let by_dur : g.top ≤ℤ (pos (2 * a) +ℤ reach_of x.dur_high n) = g.least _ way dur way dur in
+    let at_least = g.second in
+    let start = below_zero x.dur_low n c.framed.lasts in
+    let e = pos-up g.top (omega (arith, ints)) in
+    record {
+      midpoint = up g.top;
+      there = record {
+        begin_low = (Meets-scale x.begin_low 2 0 a n (omega arith)).0 begin_low;
+        begin_high = (Meets-scale x.begin_high 2 a 0 n (omega arith)).0 begin_high;
+        end_low = Meets-reach x.end_low 0 (up g.top) n (omega (arith, ints, g.first));
+        end_high = Meets-reach x.end_high (up g.top) 0 n (omega (arith, ints));
+        dur_low = Meets-reach x.dur_low (2 * a) (up g.top) n (omega (arith, ints));
+        dur_high = Meets-reach x.dur_high (up g.top) (2 * a) n (omega (arith, ints));
+      };
+    }
+
+begun_at : (x : ZoneBounds) (a to n : ℕ) → ZoneHolds x a to n → ZoneHolds (begins_of x) a a n
+unfolding begins_of
+begun_at x a to n h = record {
+  begin_low = h.begin_low;
+  begin_high = h.begin_high;
+  end_low = h.begin_low;
+  end_high = h.begin_high;
+  dur_low = own a n;
+  dur_high = own a n;
+}
+
+begins_hold : (x : ZoneBounds) → IsCanonical x → (a b n : ℕ) → 0 < n
+    → ZoneHolds (begins_of x) a b n → BeginsOf (ZoneHolds x) a b n
+unfolding begins_of
+begins_hold x c a b n some h =
+    let le = (Meets-at_most (pos 1) 0 refl a b n).0 h.dur_low in
+    let ge = (Meets-at_most (pos 1) 0 refl b a n).0 h.dur_high in
+    let found = has_end x c a n some h.begin_low h.begin_high in
+    record {
+      same = omega arith;
+      leads = record {
+        factor = 2;
+        positive = omega arith;
+        to = found.midpoint;
+        led = found.there;
+      };
+    }
+
+pub begins-exact : (x : ZoneBounds) → IsCanonical x
+    → IsZoneOf (begins_of x) (BeginsOf (ZoneHolds x))
+begins-exact x c = record {
+  exact = λ a b n some le. (
+    (λ h. begins_hold x c a b n some h),
+    (λ h.
+        let k = h.leads.factor in
+        let there = (ZoneHolds-scale (begins_of x) k a a n h.leads.positive).1
+        (begun_at x (k * a) h.leads.to (k * n) h.leads.led) in
+        subst (λ (t : ℕ). ZoneHolds (begins_of x) a t n) h.same there),
+  );
+}
+
+begins_early : (x : ZoneBounds) → IsCanonical x → x.begin_high ≤ℤ pos (2 * TIME_MAX + 1)
+unfolding sum_of
+begins_early x c =
+    let way = c.closed.begin_high in
+    let lasts = c.framed.lasts in
+    let ends = c.framed.ends in
+    let low = split x.dur_low in
+    let high = split x.end_high in
+    omega (arith, ints)
+
+pub begins-canonical : (x : ZoneBounds) → IsCanonical x → IsCanonical (begins_of x)
+unfolding begins_of
+begins-canonical x c = record {
+  room = record {
+    begin_loop = c.room.begin_loop;
+    end_loop = c.room.begin_loop;
+    dur_loop = le_sum_of-right (pos 1) (pos 1) (omega (arith, ints));
+  };
+  closed = record {
+    begin_low = le_sum_of-right x.begin_low (pos 1) (omega (arith, ints));
+    begin_high = le_sum_of-left x.begin_high (pos 1) (omega (arith, ints));
+    end_low = le_sum_of-right x.begin_low (pos 1) (omega (arith, ints));
+    end_high = le_sum_of-left x.begin_high (pos 1) (omega (arith, ints));
+    dur_low = sum_of-swap _ _ c.room.begin_loop;
+    dur_high = sum_of-swap _ _ c.room.begin_loop;
+  };
+  framed = record {
+    starts = c.framed.starts;
+    ends = begins_early x c;
+    lasts = omega (arith, ints);
+  };
 }

@@ -15,7 +15,8 @@ ghost use Rattle.std.specs.Prelude.{◌≡◌, ℕ, ◌<◌, ◌^◌, ◌↔◌,
 ghost use Rattle.std.specs.Int.{int_min};
 ghost use Rattle.tre_pairs.specs.Pairs.{Composed};
 ghost use Rattle.tre_zone.specs.Bound.{sum_of, IsKeyWithin};
-ghost use Rattle.tre_zone.specs.Zone.{ZoneHolds, GivesZone, AreKeysWithin};
+ghost use Rattle.tre_zone.specs.Zone.{ZoneHolds, GivesZone, IsZoneOf, AreKeysWithin};
+ghost use Rattle.tre_compose.specs.Begins.{BeginsOf};
 ghost use Rattle.tre_compose.specs.Composition.{HasHalfway, Touch, composed_of};
 
 use tre_zone::{Bound, Zone, ZoneBounds};
@@ -35,6 +36,22 @@ pub fn compose(first: &Zone, second: &Zone) -> Option<Zone>
     } else {
         None
     }
+}
+
+/// The instants at which pairs of the zone begin.
+pub fn begins(zone: &Zone) -> Zone
+    ensures { IsZoneOf result (BeginsOf (ZoneHolds zone.now)) }
+{
+    let bounds = zone.bounds();
+    let zero = Bound::weak(0);
+    Zone::from_canonical(&ZoneBounds {
+        begin_low: bounds.begin_low,
+        begin_high: bounds.begin_high,
+        end_low: bounds.begin_low,
+        end_high: bounds.begin_high,
+        dur_low: zero,
+        dur_high: zero,
+    })
 }
 
 // Whether some pair of the first ends where one of the second begins: the two ranges of the moment

@@ -4,3 +4,4 @@ pub mod FoundZones
 pub mod LastingUpTo
 pub mod Iterating
 pub mod EdgedLiterals
+pub mod Beginnings

@@ -1,5 +1,6 @@
 -- The zones of all matches.
 use Rattle.std.specs.Prelude.{ℕ, ◌<◌, ◌≤◌, ◌↔◌, List}
+use Rattle.tre_syntax.specs.Begun.{HasBegun}
 use Rattle.tre_syntax.specs.Meaning.{Matches}
 use Rattle.tre_syntax.specs.PatternTree.{PatternTree}
 use Rattle.tre_trace.specs.Trace.{Timeline}
@@ -21,3 +22,10 @@ pub record AreMatchesAmong (zones : List ZoneBounds) (tree : PatternTree) (trace
     (set : List ZoneBounds) : Type 0 where
   pub exact : (a b n : ℕ) → 0 < n → a ≤ b → SetHolds set a b n
       → SetHolds zones a b n ↔ Matches tree trace a b n
+
+-- Of the pairs of the set, the zones hold those that have begun of the expression, and no other. Of
+-- other pairs they say nothing.
+pub record HaveBegunAmong (zones : List ZoneBounds) (tree : PatternTree) (trace : Timeline)
+    (set : List ZoneBounds) : Type 0 where
+  pub exact : (a b n : ℕ) → 0 < n → a ≤ b → SetHolds set a b n
+      → SetHolds zones a b n ↔ HasBegun tree trace a b n

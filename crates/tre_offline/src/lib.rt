@@ -16,10 +16,12 @@
 //! ```
 #![tactic(auto)]
 
+pub use beginning::{begun, begun_among};
 pub use closing::matches_at_end;
 pub use matching::{into_matches, local, matches, matches_among, run_matches};
 
 mod atoms;
+mod beginning;
 mod closing;
 mod edged;
 mod iterated;

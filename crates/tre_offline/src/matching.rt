@@ -131,7 +131,7 @@ fn edged_matches<A: Atoms>(
 
 // The matches of the expression that last at most `longest`: all, where there is none. Each
 // operator makes its set of those of its parts.
-fn matches_of<A: Atoms>(
+pub(crate) fn matches_of<A: Atoms>(
     alloc: Global,
     expr: &Expr,
     atoms: &A,

@@ -8,3 +8,4 @@ pub mod Separate
 pub mod OneWay
 pub mod Single
 pub mod Looking
+pub mod SetBegins

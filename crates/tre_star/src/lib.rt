@@ -14,9 +14,11 @@
 //! ```
 #![tactic(auto)]
 
+pub use begins::{begins_of, leading_on};
 pub use chains::{closure, closure_up_to};
 pub use composition::{compose_sets, compose_sets_up_to};
 
+mod begins;
 mod chains;
 mod composition;
 mod gather_up_to;

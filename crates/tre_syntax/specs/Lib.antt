@@ -4,6 +4,7 @@ pub mod Expr
 pub mod Pattern
 pub mod Rest
 pub mod Meaning
+pub mod Begun
 -- What the laws say in other words than the meaning.
 pub mod Neighbours
 pub mod FirstUse

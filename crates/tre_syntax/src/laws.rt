@@ -5,6 +5,9 @@ ghost use Rattle.std.specs.Prelude.{◌+◌, ◌*◌, ◌<◌, ◌≤◌, ◌↔
 ghost use Rattle.tre_pairs.specs.Cuts.{IsMoment};
 ghost use Rattle.tre_state.specs.StateTree.{StateTree, HoldsOn};
 ghost use Rattle.tre_syntax.specs.AtTheEnd.{MatchesAtEnd};
+ghost use Rattle.tre_pairs.specs.Pairs.{Either};
+ghost use Rattle.tre_syntax.specs.Begun.{BegunRest, Leads};
+ghost use Rattle.tre_syntax.specs.Cut.{CutRest, HasLongParts, MatchesAcross, front_of, time_of, uncut};
 ghost use Rattle.tre_syntax.specs.FirstUse.{AreInOrderOfUse};
 ghost use Rattle.tre_syntax.specs.Meaning.{Matches, MatchesRest};
 ghost use Rattle.tre_syntax.specs.Neighbours.{IsBetweenNeighbours, IsThroughout, IsWhereHappens};
@@ -128,6 +131,30 @@ pub fn cutting_off()
     ensures whole { (tree : PatternTree) (u : List Segment) (next : Timeline) (a b n : ℕ) →
         b < end_of 0 u * n →
         Matches tree (prefixed u next) a b n → Matches tree (quiet u) a b n }
+{}
+
+/// What comes late had begun: a match that begins no later than a cut, and ends no earlier, has
+/// begun over what is before the cut; and what has begun over the whole had begun there. Events at
+/// the cut don't count as known before it.
+pub fn late_had_begun()
+    ensures matched { (tree : PatternTree) (cut : CutRest) (a b n : ℕ) → HasLongParts cut → 0 < n →
+        MatchesAcross tree cut a b n → BegunRest tree (front_of cut) a (time_of cut * n) n }
+    ensures begun { (tree : PatternTree) (cut : CutRest) (a b n : ℕ) → HasLongParts cut → 0 < n →
+        a ≤ time_of cut * n → BegunRest tree (uncut cut) a b n →
+        BegunRest tree (front_of cut) a (time_of cut * n) n }
+{}
+
+/// A failure is final: what may match, or lead on, when a recording has gone on, already might
+/// where it was cut, of pairs up to there. So what neither matches nor has begun never comes to.
+pub fn failures_are_final()
+    ensures same { (tree : PatternTree) (cut : CutRest) (a b n : ℕ) → HasLongParts cut → 0 < n →
+        a ≤ b → b ≤ time_of cut * n →
+        Either (MatchesRest tree (uncut cut)) (BegunRest tree (uncut cut)) a b n →
+        Either (MatchesRest tree (front_of cut)) (BegunRest tree (front_of cut)) a b n }
+    ensures follows { (tree : PatternTree) (cut : CutRest) (b n : ℕ) → HasLongParts cut → 0 < n →
+        b ≤ time_of cut * n →
+        Leads (Either (MatchesRest tree (uncut cut)) (BegunRest tree (uncut cut))) b n →
+        Leads (Either (MatchesRest tree (front_of cut)) (BegunRest tree (front_of cut))) b n }
 {}
 
 /// The numbers of an expression's propositions, or of its events, are in the order of their first

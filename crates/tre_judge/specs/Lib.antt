@@ -1,0 +1,2 @@
+-- What a reader must believe: what a verdict says.
+pub mod Verdicts
