@@ -17,9 +17,9 @@ use Rattle.clap.specs.declared.builder.value_parser.Reading.{Reading}
 use Rattle.clap.specs.declared.parser.matches.ValueSource.TheVariants.{DefaultValue}
 use Rattle.clap.proofs.OnLiterals.{clap_on_literals}
 use Rattle.tre_words.specs.CommandLine.{command_line}
-use Rattle.tre_words.specs.Settings.{Setting, name_of_setting, value_of, value_in, default_of, Types}
+use Rattle.tre_words.specs.Settings.{Setting, name_of_setting, value_of, value_in, default_of, said, AreTyped, Types}
 use Rattle.tre_words.proofs.Settings.{held, state, shape, rules, names, at_none}
-use Rattle.tre_words.proofs.Typing.{row_of, text_row, found_rows, whole, setting_not}
+use Rattle.tre_words.proofs.Typing.{row_of, text_row, found_rows, Ended, reached}
 
 -- ---- the rows at the end
 
@@ -54,23 +54,35 @@ all_behind (rule ∷ rest) rows =
 
 -- ---- the text
 
-text_given : (settings : List Setting) (text : Text) (rows : List Row)
-    → is_given (codes "EXPR") (map row_of settings ++ text_row text ∷ rows) ≡ true
-text_given [] text rows = refl
-text_given (setting ∷ settings) text rows =
-    ap (λ (b : Bool). option_map_or (λ (row : Row). explicit_source row.source)
-    (cond b (Some (row_of setting)) (find (λ (row : Row). bytes_eq row.id (codes "EXPR"))
-    (map row_of settings ++ text_row text ∷ rows))) false) (setting_not setting)
-    ∙ text_given settings text rows
+-- what is found behind rows of which none has the name
+pub found_behind : (rows more : List Row) (name : Text) → has_row name rows ≡ false
+    → find (λ (row : Row). bytes_eq row.id name) (rows ++ more)
+    ≡ find (λ (row : Row). bytes_eq row.id name) more
+found_behind [] more name none = refl
+found_behind (row ∷ rows) more name none =
+    go (bytes_eq row.id name) none (found_behind rows more name)
+  where
+    go : (b : Bool) → (b || has_row name rows) ≡ false
+        → (has_row name rows ≡ false → find (λ (row : Row). bytes_eq row.id name) (rows ++ more)
+        ≡ find (λ (row : Row). bytes_eq row.id name) more)
+        → cond b (Some row) (find (λ (row : Row). bytes_eq row.id name) (rows ++ more))
+        ≡ find (λ (row : Row). bytes_eq row.id name) more
+    go true none rest = absurd (true≢false none)
+    go false none rest = rest none
 
-text_found : (settings : List Setting) (text : Text) (rows : List Row)
-    → first_of (codes "EXPR") (map row_of settings ++ text_row text ∷ rows) ≡ Some text
-text_found [] text rows = refl
-text_found (setting ∷ settings) text rows =
-    ap (λ (b : Bool). option_and_then (λ (row : Row). slice_get row.values 0)
-    (cond b (Some (row_of setting)) (find (λ (row : Row). bytes_eq row.id (codes "EXPR"))
-    (map row_of settings ++ text_row text ∷ rows)))) (setting_not setting)
-    ∙ text_found settings text rows
+text_given : (rows : List Row) (text : Text) (more : List Row)
+    → has_row (codes "EXPR") rows ≡ false
+    → is_given (codes "EXPR") (rows ++ text_row text ∷ more) ≡ true
+text_given rows text more none =
+    ap (λ (found : Option Row). option_map_or (λ (row : Row). explicit_source row.source) found false)
+    (found_behind rows (text_row text ∷ more) (codes "EXPR") none)
+
+text_found : (rows : List Row) (text : Text) (more : List Row)
+    → has_row (codes "EXPR") rows ≡ false
+    → first_of (codes "EXPR") (rows ++ text_row text ∷ more) ≡ Some text
+text_found rows text more none =
+    ap (option_and_then (λ (row : Row). slice_get row.values 0))
+    (found_behind rows (text_row text ∷ more) (codes "EXPR") none)
 
 -- ---- values
 
@@ -272,14 +284,14 @@ unfolding command_line clap_on_literals
 check_clean rows given = rw given refl
 
 -- what is found wrong behind the last word
-abbrev fault_behind : Walk → Kinds
+abbrev pub fault_behind : Walk → Kinds
 fault_behind walk = or_else (entered_fault (built command_line) walk.stopped)
     (or_else (settle_fault rules false walk.held)
     (or_else (defaults_fault (settled rules walk.held).rows rules)
     (check_fault shape (finished rules walk.held)
     (is_some (entered (built command_line) walk.stopped)))))
 
-fault_is : (words : List Text) → fault_of command_line words
+pub fault_is : (words : List Text) → fault_of command_line words
     ≡ or_else (walk_fault shape names (state [] None idle 1) words)
     (fault_behind (fold (walked rules names) (state [] None idle 1) words))
 unfolding command_line
@@ -290,66 +302,63 @@ matches_are : (words : List Text) → matches_of command_line words
 unfolding command_line
 matches_are words = refl
 
-nothing_left : (walk : Walk) → walk_fault shape names walk [] ≡ []
-unfolding walk_fault
-nothing_left walk = refl
-
-rows_are : (before after : List Setting) (text : Text) (words : List Text)
-    → Types before after text words
-    → matches_of command_line words ≡ fold with_default (found_rows before text after) rules
-rows_are before after text words types =
-    let walks = whole before after text words types in
-    matches_are words ∙ (ap (λ (walk : Walk). finished rules walk.held) walks.walks
-    ∙ ap (λ (rows : List Row). fold with_default rows rules) walks.settles)
+rows_are : (words : List Text) (found : List Row) → Ended words found
+    → matches_of command_line words ≡ fold with_default found rules
+rows_are words found ended =
+    matches_are words ∙ (ap (λ (walk : Walk). finished rules walk.held) ended.walks
+    ∙ ap (λ (rows : List Row). fold with_default rows rules) ended.settles)
 
 given_at_end : (before after : List Setting) (text : Text)
+    → has_row (codes "EXPR") (map row_of before) ≡ false
     → is_given (codes "EXPR") (fold with_default (found_rows before text after) rules) ≡ true
-given_at_end before after text =
+given_at_end before after text bare =
     let behind = all_behind rules (found_rows before text after) in
     subst (λ (rows : List Row). is_given (codes "EXPR") rows ≡ true)
     (sym (behind.is
     ∙ append_assoc (map row_of before) (text_row text ∷ map row_of after) behind.more))
-    (text_given before text (map row_of after ++ behind.more))
+    (text_given (map row_of before) text (map row_of after ++ behind.more) bare)
 
-pub settings_faultless : (before after : List Setting) (text : Text) (words : List Text)
-    → Types before after text words → fault_of command_line words ≡ []
-settings_faultless before after text words types =
-    let walks = whole before after text words types in
-    let none : walk_fault shape names (state [] None idle 1) words ≡ [] =
-    ap (walk_fault shape names (state [] None idle 1)) (sym (append-nil words))
-    ∙ (walks.faultless [] ∙ nothing_left _) in
-    let rows : finished rules (held walks.now walks.left)
-    ≡ fold with_default (found_rows before text after) rules =
-    ap (λ (rows : List Row). fold with_default rows rules) walks.settles in
-    let checked : check_fault shape (finished rules (held walks.now walks.left)) false ≡ [] =
-    check_clean (finished rules (held walks.now walks.left)) (subst (λ (rows : List Row). is_given (codes "EXPR") rows ≡ true) (sym rows)
-    (given_at_end before after text)) in
-    let settled_well = defaults_clean rules (settled_rows rules walks.left walks.now) rules_clean in
+pub settings_faultless : (words : List Text) (settings : List Setting) (text : Text)
+    → AreTyped settings → Types words settings text → fault_of command_line words ≡ []
+settings_faultless words settings text typed types =
+    let last = reached words settings text typed types in
+    let ended = last.ended in
+    let found = found_rows last.before text last.after in
+    let rows : finished rules (held ended.now ended.left) ≡ fold with_default found rules =
+    ap (λ (rows : List Row). fold with_default rows rules) ended.settles in
+    let checked : check_fault shape (finished rules (held ended.now ended.left)) false ≡ [] =
+    check_clean (finished rules (held ended.now ended.left))
+    (subst (λ (rows : List Row). is_given (codes "EXPR") rows ≡ true) (sym rows)
+    (given_at_end last.before last.after text last.bare)) in
+    let settled_well = defaults_clean rules (settled_rows rules ended.left ended.now) rules_clean in
     fault_is words
     ∙ (ap (λ (k : Kinds). or_else k
-    (fault_behind (fold (walked rules names) (state [] None idle 1) words))) none
-    ∙ (ap fault_behind walks.walks
+    (fault_behind (fold (walked rules names) (state [] None idle 1) words))) ended.faultless
+    ∙ (ap fault_behind ended.walks
     ∙ (ap (λ (k : Kinds). or_else k (or_else (defaults_fault
-    (settled_rows rules walks.left walks.now) rules)
-    (check_fault shape (finished rules (held walks.now walks.left)) false))) walks.clean
+    (settled_rows rules ended.left ended.now) rules)
+    (check_fault shape (finished rules (held ended.now ended.left)) false))) ended.clean
     ∙ (ap (λ (k : Kinds). or_else k
-    (check_fault shape (finished rules (held walks.now walks.left)) false)) settled_well
+    (check_fault shape (finished rules (held ended.now ended.left)) false)) settled_well
     ∙ checked))))
 
-pub settings_text : (before after : List Setting) (text : Text) (words : List Text)
-    → Types before after text words
+pub settings_text : (words : List Text) (settings : List Setting) (text : Text)
+    → AreTyped settings → Types words settings text
     → first_of (codes "EXPR") (matches_of command_line words) ≡ Some text
-settings_text before after text words types =
-    let behind = all_behind rules (found_rows before text after) in
-    ap (first_of (codes "EXPR")) (rows_are before after text words types ∙ (behind.is
-    ∙ append_assoc (map row_of before) (text_row text ∷ map row_of after) behind.more))
-    ∙ text_found before text (map row_of after ++ behind.more)
+settings_text words settings text typed types =
+    let last = reached words settings text typed types in
+    let behind = all_behind rules (found_rows last.before text last.after) in
+    ap (first_of (codes "EXPR")) (rows_are words _ last.ended ∙ (behind.is
+    ∙ append_assoc (map row_of last.before) (text_row text ∷ map row_of last.after) behind.more))
+    ∙ text_found (map row_of last.before) text (map row_of last.after ++ behind.more) last.bare
 
-pub settings_values : (before after : List Setting) (text : Text) (words : List Text)
-    → Types before after text words → (name : Text) → name ≢ codes "EXPR"
-    → first_of name (matches_of command_line words)
-    ≡ option_or (value_in name (before ++ after)) (default_of name)
-settings_values before after text words types name other =
+pub settings_values : (words : List Text) (settings : List Setting) (text : Text)
+    → AreTyped settings → Types words settings text → (name : Text) → name ≢ codes "EXPR"
+    → first_of name (matches_of command_line words) ≡ said settings name
+settings_values words settings text typed types name other =
+    let last = reached words settings text typed types in
+    let before = last.before in
+    let after = last.after in
     let valued : AreValued (found_rows before text after) =
     settings_valued before (text_row text ∷ map row_of after)
     (refl, subst AreValued (append-nil (map row_of after)) (settings_valued after [] tt)) in
@@ -357,12 +366,13 @@ settings_values before after text words types name other =
     past_text text name (map row_of after) other
     ∙ (ap (first_of name) (sym (append-nil (map row_of after)))
     ∙ (values_found after [] name ∙ none_behind (value_in name after))) in
-    ap (first_of name) (rows_are before after text words types)
+    ap (first_of name) (rows_are words _ last.ended)
     ∙ (defaults_found rules (found_rows before text after) name valued
     ∙ (ap (option_or (first_of name (found_rows before text after))) (default_is name)
     ∙ ap (λ (o : Option Text). option_or o (default_of name))
     (values_found before (text_row text ∷ map row_of after) name
-    ∙ (ap (option_or (value_in name before)) behind ∙ sym (value_in-append before after name)))))
+    ∙ (ap (option_or (value_in name before)) behind ∙ (sym (value_in-append before after name)
+    ∙ ap (value_in name) (sym last.same))))))
   where
     none_behind : (o : Option Text) → option_or o None ≡ o
     none_behind None = refl

@@ -3,21 +3,20 @@ use Rattle.std.proofs.Common.{◌≡◌, ◌≢◌, ◌∙◌, ◌↔◌, ℕ, �
 use Rattle.std.specs.Prelude.{option_and_then, option_map, is_some, nat_le}
 use Rattle.std.specs.Str.Parse.{digits_value}
 use Rattle.std.proofs.lemmas.Bool.Decides.{nat_tests}
-use Rattle.clap.specs.Words.{Row, Text, fault_of, first_of, matches_of}
+use Rattle.clap.specs.Words.{Row, fault_of, first_of}
 use Rattle.tre_decimal.specs.Decimal.{is_numeral}
 use Rattle.tre_decimal.specs.declared.TheConstants.{SCALE_MAX}
-use Rattle.tre_words.specs.CommandLine.{command_line}
-use Rattle.tre_words.specs.Job.{DefinesFor, GivesJob, GivesPlain, GivesWatch, IsCount, IsJob, MayStand, MayWatch, SaysJob, begins_with, format_named, is_given, made_count, made_job, mode_in, number_written, watch_job}
+use Rattle.tre_words.specs.CommandLine.{FindsJob, command_line, found_in}
+use Rattle.tre_words.specs.Job.{GivesJob, GivesPlain, GivesWatch, IsCount, IsJob, MayStand, MayWatch, Says, SaysJob, begins_with, format_named, is_given, made_count, made_job, mode_in, number_written, watch_job}
+use Rattle.tre_words.specs.Settings.{Text, said}
+use Rattle.tre_words.proofs.ByClap.{ByClap, by_clap, from_clap, rows_in}
+use Rattle.tre_words.proofs.Taken.{AreUtf8}
 use Rattle.tre_words.specs.declared.job.TheConstants.{COUNT_MAX, LIMIT_MAX}
 use Rattle.tre_words.specs.declared.job.Format.{Format}
 use Rattle.tre_words.specs.declared.job.Format.TheVariants.{Csv, Vcd}
 use Rattle.tre_words.specs.declared.job.Job.{Job}
 use Rattle.tre_words.specs.declared.job.Mode.{Mode}
 use Rattle.tre_words.specs.declared.job.Mode.TheVariants.{Offline, Online, Show, Generate, Watch}
-
--- what `clap` finds in words
-abbrev pub rows_in : List Text → List Row
-rows_in words = matches_of command_line words
 
 one_value : {X : Type 0} {x y : X} → Some x ≡ Some y → x ≡ y
 one_value e = cc
@@ -51,9 +50,9 @@ job_parts : (job : Job) → job ≡ job_of job.mode job.format job.input job.max
 unfolding job_of
 job_parts job = refl
 
-pub said_once : (rows : List Row) (job other : Job) → SaysJob rows job → SaysJob rows other
-    → job ≡ other
-said_once rows job other says says' =
+pub said_once : (says : Says) (job other : Job) → SaysJob says job → SaysJob says other
+    → job.expr ≡ other.expr → job ≡ other
+said_once said job other says says' expr =
     let mode : job.mode ≡ other.mode = sym says.mode ∙ says'.mode in
     let format : job.format ≡ other.format = one_value (sym says.format ∙ says'.format) in
     let input : job.input ≡ other.input = one_value (sym says.input ∙ says'.input) in
@@ -65,17 +64,30 @@ said_once rows job other says says' =
     some_once job.max_zones other.max_zones (sym says.max_zones ∙ says'.max_zones) in
     let minus : job.minus ≡ other.minus = sym says.minus ∙ says'.minus in
     let lets : job.lets ≡ other.lets = sym says.lets ∙ says'.lets in
-    let expr : job.expr ≡ other.expr = one_value (sym says.expr ∙ says'.expr) in
     let parts = job_parts job in
     let parts' = job_parts other in
     cc
+
+-- what `clap` finds is one job at most
+pub found_once : (rows : List Row) (job other : Job) → FindsJob rows job → FindsJob rows other
+    → job ≡ other
+found_once rows job other finds finds' =
+    said_once (found_in rows) job other finds.says finds'.says
+    (one_value (sym finds.expr ∙ finds'.expr))
+
+pub plain_once : (words : List Text) (job other : Job) → GivesPlain words job → GivesPlain words other
+    → job ≡ other
+plain_once words job other gives gives' =
+    let one = by_clap words job gives in
+    let two = by_clap words other gives' in
+    found_once (rows_in words) job other (record { says = one.says; expr = one.expr })
+    (record { says = two.says; expr = two.expr })
 
 watched_once : (words : List Text) (job other : Job) → GivesWatch words job
     → GivesWatch words other → job ≡ other
 watched_once words job other gives gives' =
     gives.watched
-    ∙ (ap watch_job
-    (said_once (rows_in words) gives.plain gives'.plain gives.gives.says gives'.gives.says)
+    ∙ (ap watch_job (plain_once words gives.plain gives'.plain gives.gives gives'.gives)
     ∙ sym gives'.watched)
 
 -- Words give this job where the first says that it is that of a made run, or of a watch.
@@ -91,7 +103,7 @@ given_once true watched words job other gives gives' = one_value (sym gives ∙ 
 given_once false true words job other gives gives' =
     watched_once (drop 1 words) job other gives gives'
 given_once false false words job other gives gives' =
-    said_once (rows_in words) job other gives.says gives'.says
+    plain_once words job other gives gives'
 
 pub job_unique : (words : List Text) (job other : Job) → GivesJob words job
     → GivesJob words other → job ≡ other
@@ -156,47 +168,42 @@ flags_never_watch false true file e = cc
 flags_never_watch false false file e = cc
 
 -- what `clap` finds in words gives their job
-pub plain_from : (words : List Text) (rows : List Row) (job : Job) → rows ≡ rows_in words
-    → fault_of command_line words ≡ [] → SaysJob rows job
-    → MayStand rows job → GivesPlain words job
-plain_from words rows job same faultless says stands = record {
+pub plain_from : (words : List Text) (rows : List Row) (job : Job) → AreUtf8 words
+    → rows ≡ rows_in words → fault_of command_line words ≡ [] → FindsJob rows job
+    → MayStand (found_in rows) job → GivesPlain words job
+plain_from words rows job utf8 same faultless finds stands = from_clap words job utf8 (record {
   faultless = faultless;
-  says = subst (λ (rows : List Row). SaysJob rows job) same says;
-  together = stands.0;
-  offline = λ csv. ap (is_given (codes "online")) (sym same) ∙ stands.1 csv;
-  defines = subst (DefinesFor job.format) same stands.2;
-}
+  says = subst (λ (rows : List Row). SaysJob (found_in rows) job) same finds.says;
+  expr = ap (first_of (codes "EXPR")) (sym same) ∙ finds.expr;
+  stands = subst (λ (rows : List Row). MayStand (found_in rows) job) same stands;
+})
 
 -- and their job is what it finds
-pub plain_says : (words : List Text) (rows : List Row) (job : Job) → rows ≡ rows_in words
-    → GivesPlain words job → SaysJob rows job
-plain_says words rows job same gives =
-    subst (λ (rows : List Row). SaysJob rows job) (sym same) gives.says
+pub plain_finds : (words : List Text) (rows : List Row) (job : Job) → rows ≡ rows_in words
+    → GivesPlain words job → FindsJob rows job
+plain_finds words rows job same gives = let by = by_clap words job gives in
+    subst (λ (rows : List Row). FindsJob rows job) (sym same)
+    (record { says = by.says; expr = by.expr })
 
 pub plain_stands : (words : List Text) (rows : List Row) (job : Job) → rows ≡ rows_in words
-    → GivesPlain words job → MayStand rows job
-plain_stands words rows job same gives = (
-  gives.together,
-  λ csv. ap (is_given (codes "online")) same ∙ gives.offline csv,
-  subst (DefinesFor job.format) (sym same) gives.defines,
-)
+    → GivesPlain words job → MayStand (found_in rows) job
+plain_stands words rows job same gives = subst (λ (rows : List Row). MayStand (found_in rows) job)
+    (sym same) (by_clap words job gives).stands
 
 pub from_options : (words : List Text) (job : Job) → GivesPlain words job → IsJob job
 from_options words job gives =
-    let rows = rows_in words in
+    let told = said gives.settings in
     let says = gives.says in
-    let show = is_given (codes "show") rows in
-    let online = is_given (codes "online") rows in
+    let show = is_given (codes "show") told in
+    let online = is_given (codes "online") told in
     record {
-      small = said_within 1 LIMIT_MAX (first_of (codes "max-bytes") rows) job.max_bytes
-          says.max_bytes;
-      scale = said_within 0 SCALE_MAX (first_of (codes "scale") rows) job.scale says.scale;
-      zones = limit_within 0 LIMIT_MAX (first_of (codes "max-zones") rows) job.max_zones
-          says.max_zones;
+      small = said_within 1 LIMIT_MAX (told (codes "max-bytes")) job.max_bytes says.max_bytes;
+      scale = said_within 0 SCALE_MAX (told (codes "scale")) job.scale says.scale;
+      zones = limit_within 0 LIMIT_MAX (told (codes "max-zones")) job.max_zones says.max_zones;
       counted = λ count mode.
           absurd (flags_never_generate show online count (says.mode ∙ mode));
-      together = gives.together;
-      offline = λ mode csv. flags_offline show online (gives.offline csv) (says.mode ∙ mode);
+      together = gives.stands.0;
+      offline = λ mode csv. flags_offline show online (gives.stands.1 csv) (says.mode ∙ mode);
       watched = λ file mode. absurd (flags_never_watch show online file (says.mode ∙ mode));
     }
 
@@ -327,74 +334,74 @@ first_plain words job other plain = (
 
 -- ---- options that stand apart
 
-pub apart-normal : (words : List Text) (job : Job) → GivesPlain words job
-    → is_given (codes "normal") (rows_in words) ≡ true → mode_in (rows_in words) ≢ Offline → ⊥
+pub apart-normal : (words : List Text) (job : Job) → ByClap words job
+    → is_given (codes "normal") (found_in (rows_in words)) ≡ true → mode_in (found_in (rows_in words)) ≢ Offline → ⊥
 apart-normal words job gives given other =
-    other (gives.says.mode ∙ gives.together.normal (sym gives.says.normal ∙ given))
+    other (gives.says.mode ∙ gives.stands.0.normal (sym gives.says.normal ∙ given))
 
-pub apart-minus : (words : List Text) (job : Job) → GivesPlain words job
-    → is_some (first_of (codes "minus") (rows_in words)) ≡ true → mode_in (rows_in words) ≢ Offline → ⊥
+pub apart-minus : (words : List Text) (job : Job) → ByClap words job
+    → is_some (first_of (codes "minus") (rows_in words)) ≡ true → mode_in (found_in (rows_in words)) ≢ Offline → ⊥
 apart-minus words job gives given other =
-    other (gives.says.mode ∙ gives.together.minus (ap is_some (sym gives.says.minus) ∙ given))
+    other (gives.says.mode ∙ gives.stands.0.minus (ap is_some (sym gives.says.minus) ∙ given))
 
 some_told : (told : Option (Option ℕ)) (limit : Option ℕ) → told ≡ option_map Some limit
     → is_some told ≡ is_some limit
 some_told told None e = ap is_some e
 some_told told (Some number) e = ap is_some e
 
-pub apart-max_zones : (words : List Text) (job : Job) → GivesPlain words job
+pub apart-max_zones : (words : List Text) (job : Job) → ByClap words job
     → is_some (option_map (number_written 0 LIMIT_MAX) (first_of (codes "max-zones") (rows_in words))) ≡ true
-    → is_given (codes "normal") (rows_in words) ≡ false → ⊥
+    → is_given (codes "normal") (found_in (rows_in words)) ≡ false → ⊥
 apart-max_zones words job gives given without =
     let some = some_told (option_map (number_written 0 LIMIT_MAX)
     (first_of (codes "max-zones") (rows_in words))) job.max_zones gives.says.max_zones in
-    let normal = gives.together.max_zones (sym some ∙ given) in
+    let normal = gives.stands.0.max_zones (sym some ∙ given) in
     let false_true : false ≡ true = sym without ∙ (gives.says.normal ∙ normal) in
     cc
 
-pub apart-lets : (words : List Text) (job : Job) (format : Format) → GivesPlain words job
+pub apart-lets : (words : List Text) (job : Job) (format : Format) → ByClap words job
     → is_some (first_of (codes "let") (rows_in words)) ≡ true → Some format ≡ Some job.format
     → format ≢ Csv → ⊥
 apart-lets words job format gives given told other =
-    let none = gives.defines.columns (λ csv. other (one_value told ∙ csv)) in
+    let none = gives.stands.2.columns (λ csv. other (one_value told ∙ csv)) in
     let false_true : true ≡ false = sym given ∙ ap is_some none in
     cc
 
-pub apart-define : (words : List Text) (job : Job) (format : Format) → GivesPlain words job
+pub apart-define : (words : List Text) (job : Job) (format : Format) → ByClap words job
     → is_some (first_of (codes "define") (rows_in words)) ≡ true → Some format ≡ Some job.format
     → format ≢ Vcd → ⊥
 apart-define words job format gives given told other =
-    let none = gives.defines.signals (λ dump. other (one_value told ∙ dump)) in
+    let none = gives.stands.2.signals (λ dump. other (one_value told ∙ dump)) in
     let false_true : true ≡ false = sym given ∙ ap is_some none in
     cc
 
-pub apart-columns : (words : List Text) (job : Job) → GivesPlain words job
-    → is_given (codes "online") (rows_in words) ≡ true → Some Csv ≡ Some job.format → ⊥
+pub apart-columns : (words : List Text) (job : Job) → ByClap words job
+    → is_given (codes "online") (found_in (rows_in words)) ≡ true → Some Csv ≡ Some job.format → ⊥
 apart-columns words job gives given told =
-    let false_true : true ≡ false = sym given ∙ gives.offline (sym (one_value told)) in
+    let false_true : true ≡ false = sym given ∙ gives.stands.1 (sym (one_value told)) in
     cc
 
 -- ---- what stands behind `--watch`
 
-pub watch-mode : (words : List Text) (job : Job) → GivesWatch words job → mode_in (rows_in words) ≡ Offline
-watch-mode words job gives = gives.gives.says.mode ∙ gives.may.mode
+pub watch-mode : (words : List Text) (job : Job) → GivesWatch words job → mode_in (found_in (rows_in words)) ≡ Offline
+watch-mode words job gives = (by_clap words gives.plain gives.gives).says.mode ∙ gives.may.mode
 
 pub watch-normal : (words : List Text) (job : Job) → GivesWatch words job
-    → is_given (codes "normal") (rows_in words) ≡ false
-watch-normal words job gives = gives.gives.says.normal ∙ gives.may.normal
+    → is_given (codes "normal") (found_in (rows_in words)) ≡ false
+watch-normal words job gives = (by_clap words gives.plain gives.gives).says.normal ∙ gives.may.normal
 
 pub watch-format : (words : List Text) (job : Job) → GivesWatch words job
     → option_and_then format_named (first_of (codes "format") (rows_in words)) ≢ Some Csv
 watch-format words job gives told =
-    gives.may.format (one_value (sym gives.gives.says.format ∙ told))
+    gives.may.format (one_value (sym (by_clap words gives.plain gives.gives).says.format ∙ told))
 
 pub watch-apart : (words : List Text) (job : Job) → GivesWatch words job
     → first_of (codes "EXPR") (rows_in words) ≡ Some (codes "-")
     → first_of (codes "input") (rows_in words) ≢ Some (codes "-")
 watch-apart words job gives file input =
-    gives.may.apart (one_value (sym gives.gives.says.expr ∙ file))
-    (one_value (sym gives.gives.says.input ∙ input))
+    gives.may.apart (one_value (sym (by_clap words gives.plain gives.gives).expr ∙ file))
+    (one_value (sym (by_clap words gives.plain gives.gives).says.input ∙ input))
 
 pub faulty : {words : List Text} {job : Job} → fault_of command_line words ≢ []
     → GivesWatch words job → ⊥
-faulty fault gives = fault gives.gives.faultless
+faulty fault gives = fault (by_clap _ gives.plain gives.gives).faultless

@@ -4,3 +4,6 @@ pub mod Typed
 pub mod Settings
 pub mod Typing
 pub mod Ending
+pub mod Seen
+pub mod Taken
+pub mod ByClap

@@ -1,21 +1,23 @@
--- One setting in the walk of `clap` over the words.
-use Rattle.std.proofs.Common.{◌≡◌, ◌∙◌, ◌++◌, ◌==◌, ⊎_elim, ◌&&◌, ◌||◌, cond, not, ℕ, Bool, true, false, List, ◌∷◌, [], Option, None, Some, refl, sym, ap, subst, codes, get_or, true≢false}
+-- One word in the walk of `clap` over the words.
+use Rattle.std.proofs.Common.{◌≡◌, arith, ◌∙◌, inl, inr, ◌++◌, ◌==◌, ◌&&◌, ◌||◌, cond, not, ℕ, Bool, true, false, List, ◌∷◌, [], Option, None, Some, refl, sym, ap, subst, codes, get_or, true≢false}
+use Rattle.std.proofs.lemmas.Bool.Decides.{nat_tests}
 use Rattle.std.proofs.lemmas.List.{append-nil}
+use Rattle.std.proofs.lemmas.Slice.Eq.{bytes_eq-Decides}
+use Rattle.std.specs.Prelude.{nat_lt}
+use Rattle.std.specs.Option.{option_map_or}
 use Rattle.std.specs.Str.{bytes_eq}
-use Rattle.clap.specs.Lexer.{strip_byte}
-use Rattle.clap.specs.Walk.{Rule, Row, Text, Walk, Held, Waiting, idle, option, Names, walked, used, settled_rows, has_row, at_row, without, with_values, more_values, reading_by}
-use Rattle.clap.specs.Simple.{built, names_of, Shape}
+use Rattle.clap.specs.Lexer.{long_of, short_of}
+use Rattle.clap.specs.Walk.{Held, Names, Row, Rule, Step, Text, Waiting, Walk, after_step, after_flag, arg_by_id, arg_by_long, at_row, has_row, idle, long_met, long_or_other, more_values, next, option, option_word, pushed, settled, used_by_id, value as goes_on, short_or_plain, is_pending, plain_word, positional, reading_by, settled_rows, trailing, used, walked, with_values, without}
+use Rattle.clap.specs.Simple.{Shape, built, filled, names_of}
 use Rattle.clap.specs.Kinds.{Kinds, or_else}
-use Rattle.clap.specs.Faults.{settle_fault, turn_fault, use_fault}
+use Rattle.clap.specs.Faults.{bundle_fault, flag_word_fault, long_fault, settle_fault, step_fault, turn_fault, use_fault}
 use Rattle.clap.specs.Words.{new_rule}
 use Rattle.clap.specs.declared.builder.value_parser.Reading.{Reading}
-use Rattle.clap.specs.declared.error.kind.ErrorKind.TheVariants.{ArgumentConflict}
+use Rattle.clap.specs.declared.error.kind.ErrorKind.TheVariants.{ArgumentConflict, InvalidValue, UnknownArgument}
 use Rattle.clap.specs.declared.parser.matches.ValueSource.TheVariants.{CommandLine}
 use Rattle.clap.proofs.OnLiterals.{clap_on_literals}
-use Rattle.tre_words.specs.CommandLine.{command_line}
-use Rattle.tre_words.specs.Settings.{Flag, Valued, flag_name, valued_name, IsPlain}
-use Rattle.tre_words.specs.Settings.{online_flag, show_flag, normal_flag}
-use Rattle.tre_words.specs.Settings.{format_option, input_option, limit_option, scale_option, zones_option, minus_option, let_option, define_option}
+use Rattle.tre_words.specs.CommandLine.{command_line, flag_rule, option_rule}
+use Rattle.tre_words.specs.Settings.{IsPlain, flags, is_among, options}
 
 abbrev pub Pending : Type 0
 Pending = Option (Text × List Text)
@@ -23,15 +25,18 @@ Pending = Option (Text × List Text)
 abbrev pub held : List Row → Pending → Held
 held rows pending = record { rows = rows; pending = pending; skip = 0 }
 
--- where the walk stands between two words
-abbrev pub state : List Row → Pending → Waiting → ℕ → Walk
-state rows pending waiting position = record {
+-- where the walk stands between two words, also behind `--`
+abbrev pub standing : Bool → List Row → Pending → Waiting → ℕ → Walk
+standing marked rows pending waiting position = record {
   held = held rows pending;
   waiting = waiting;
   position = position;
-  is_trailing = false;
+  is_trailing = marked;
   stopped = None;
 }
+
+abbrev pub state : List Row → Pending → Waiting → ℕ → Walk
+state = standing false
 
 abbrev pub shape : Shape
 shape = (built command_line).top
@@ -42,26 +47,84 @@ rules = shape.rules
 abbrev pub names : Names
 names = names_of (built command_line)
 
-abbrev pub rule_at : ℕ → Rule
-rule_at place = get_or rules place (new_rule [])
+-- the rules of a flag, of an option with these defaults, and of the text
+abbrev pub flag_of : Text → Rule
+flag_of name = filled (flag_rule name)
 
-abbrev pub flag_rule : Flag → Rule
-flag_rule online_flag = rule_at 0
-flag_rule show_flag = rule_at 1
-flag_rule normal_flag = rule_at 6
-
-abbrev pub valued_rule : Valued → Rule
-valued_rule format_option = rule_at 2
-valued_rule input_option = rule_at 3
-valued_rule limit_option = rule_at 4
-valued_rule scale_option = rule_at 5
-valued_rule zones_option = rule_at 7
-valued_rule minus_option = rule_at 8
-valued_rule let_option = rule_at 9
-valued_rule define_option = rule_at 10
+abbrev pub option_of : Text → List Text → Rule
+option_of name defaults = filled (record (option_rule name) { defaults = defaults })
 
 abbrev pub text_rule : Rule
-text_rule = rule_at 11
+text_rule = get_or rules 11 (new_rule [])
+
+-- ---- the options
+
+-- What is computed of a name that is written out: the rule that it names, and how `--name` and
+-- `--name=value` are cut.
+abbrev pub IsNamed : Text → Rule → Type 0
+IsNamed name rule = (arg_by_long rules name ≡ Some rule)
+    × (arg_by_id rules name ≡ Some rule)
+    × (long_of (codes "--" ++ name) ≡ Some (name, None))
+    × ((value : Text) → long_of (codes "--" ++ name ++ codes "=" ++ value) ≡ Some (name, Some value))
+    × (bytes_eq (codes "--" ++ name) (codes "--") ≡ false)
+    × ((value : Text) → bytes_eq (codes "--" ++ name ++ codes "=" ++ value) (codes "--") ≡ false)
+    × (bytes_eq name name ≡ true)
+    × (bytes_eq name (codes "EXPR") ≡ false)
+
+abbrev pub Optional : Text → Type 0
+Optional name = (defaults : List Text) × IsNamed name (option_of name defaults)
+
+abbrev AreAll : (Text → Type 0) → List Text → Type 0
+AreAll P [] = Unit {0}
+AreAll P (name ∷ all) = P name × AreAll P all
+
+pick : (P : Text → Type 0) (all : List Text) → AreAll P all → (name : Text)
+    → is_among all name ≡ true → P name
+pick P [] are name is = absurd (true≢false (sym is))
+pick P (one ∷ all) are name is = go (bytes_eq one name) refl is (pick P all are.1 name)
+  where
+    go : (b : Bool) → bytes_eq one name ≡ b → (b || is_among all name) ≡ true
+        → (is_among all name ≡ true → P name) → P name
+    go true e is later = subst P ((bytes_eq-Decides one name).0 e) are.0
+    go false e is later = later is
+
+pub flag_named : (name : Text) → is_among flags name ≡ true → IsNamed name (flag_of name)
+unfolding command_line clap_on_literals
+flag_named = pick (λ name. IsNamed name (flag_of name)) flags (
+  (refl, refl, refl, (λ value. refl), refl, (λ value. refl), refl, refl),
+  (
+    (refl, refl, refl, (λ value. refl), refl, (λ value. refl), refl, refl),
+    ((refl, refl, refl, (λ value. refl), refl, (λ value. refl), refl, refl), tt),
+  ),
+)
+
+pub option_named : (name : Text) → is_among options name ≡ true → Optional name
+unfolding command_line clap_on_literals
+option_named = pick Optional options (
+  (codes "text" ∷ [], (refl, refl, refl, (λ value. refl), refl, (λ value. refl), refl, refl)),
+  (
+    (codes "-" ∷ [], (refl, refl, refl, (λ value. refl), refl, (λ value. refl), refl, refl)),
+    (
+      (codes "1073741824" ∷ [], (refl, refl, refl, (λ value. refl), refl, (λ value. refl), refl, refl)),
+      (
+        (codes "0" ∷ [], (refl, refl, refl, (λ value. refl), refl, (λ value. refl), refl, refl)),
+        (
+          ([], (refl, refl, refl, (λ value. refl), refl, (λ value. refl), refl, refl)),
+          (
+            ([], (refl, refl, refl, (λ value. refl), refl, (λ value. refl), refl, refl)),
+            (
+              ([], (refl, refl, refl, (λ value. refl), refl, (λ value. refl), refl, refl)),
+              (
+                ([], (refl, refl, refl, (λ value. refl), refl, (λ value. refl), refl, refl)),
+                tt,
+              ),
+            ),
+          ),
+        ),
+      ),
+    ),
+  ),
+)
 
 -- ---- what a use of an option adds
 
@@ -88,7 +151,7 @@ at_none id change missing (row ∷ rows) none =
     go true none rest = absurd (true≢false none)
     go false none rest = ap (λ (more : List Row). row ∷ more) (rest none)
 
-adds : (id : Text) (how : Reading) (value : Text) (rows : List Row) → has_row id rows ≡ false
+pub adds : (id : Text) (how : Reading) (value : Text) (rows : List Row) → has_row id rows ≡ false
     → with_values id how CommandLine (value ∷ []) (without id rows)
     ≡ rows ++ new_row id how value ∷ []
 adds id how value rows none =
@@ -96,271 +159,353 @@ adds id how value rows none =
     ap (with_values id how CommandLine (value ∷ [])) same
     ∙ at_none id (more_values CommandLine (value ∷ [])) (new_row id how value ∷ []) rows none
 
-pub flag_adds : (name : Flag) (rows : List Row) → has_row (flag_name name) rows ≡ false
-    → used (flag_rule name) [] rows
-    ≡ rows ++ new_row (flag_name name) (reading_by (flag_rule name)) (codes "true") ∷ []
-unfolding command_line clap_on_literals
-flag_adds online_flag rows none = adds _ _ _ rows none
-flag_adds show_flag rows none = adds _ _ _ rows none
-flag_adds normal_flag rows none = adds _ _ _ rows none
-
-pub valued_adds : (name : Valued) (value : Text) (rows : List Row)
-    → has_row (valued_name name) rows ≡ false
-    → used (valued_rule name) (value ∷ []) rows
-    ≡ rows ++ new_row (valued_name name) (reading_by (valued_rule name)) value ∷ []
-unfolding command_line clap_on_literals
-valued_adds format_option value rows none = adds _ _ _ rows none
-valued_adds input_option value rows none = adds _ _ _ rows none
-valued_adds limit_option value rows none = adds _ _ _ rows none
-valued_adds scale_option value rows none = adds _ _ _ rows none
-valued_adds zones_option value rows none = adds _ _ _ rows none
-valued_adds minus_option value rows none = adds _ _ _ rows none
-valued_adds let_option value rows none = adds _ _ _ rows none
-valued_adds define_option value rows none = adds _ _ _ rows none
-
 pub text_adds : (value : Text) (rows : List Row) → has_row (codes "EXPR") rows ≡ false
     → used text_rule (value ∷ []) rows
     ≡ rows ++ new_row (codes "EXPR") (reading_by text_rule) value ∷ []
 unfolding command_line clap_on_literals
 text_adds value rows none = adds _ _ _ rows none
 
--- ---- that it has no fault
+-- what is wrong with a second use
+abbrev pub again : Bool → Kinds
+again given = or_else (cond (given && not false) (ArgumentConflict ∷ []) []) []
 
-once : (given : Bool) → given ≡ false
-    → or_else (cond (given && not false) (ArgumentConflict ∷ []) []) [] ≡ []
+pub once : (given : Bool) → given ≡ false → again given ≡ []
 once given none = rw none refl
 
-pub flag_faultless : (name : Flag) (rows : List Row) → has_row (flag_name name) rows ≡ false
-    → use_fault false (flag_rule name) [] rows ≡ []
-unfolding command_line clap_on_literals
-flag_faultless online_flag rows none = once (has_row (flag_name online_flag) rows) none
-flag_faultless show_flag rows none = once (has_row (flag_name show_flag) rows) none
-flag_faultless normal_flag rows none = once (has_row (flag_name normal_flag) rows) none
+pub never_twice : (given : Bool) → again given ≡ [] → given ≡ false
+never_twice true e = cc
+never_twice false e = refl
 
-pub valued_faultless : (name : Valued) (value : Text) (rows : List Row)
-    → has_row (valued_name name) rows ≡ false
-    → use_fault false (valued_rule name) (value ∷ []) rows ≡ []
-unfolding command_line clap_on_literals
-valued_faultless format_option value rows none = once (has_row (valued_name format_option) rows) none
-valued_faultless input_option value rows none = once (has_row (valued_name input_option) rows) none
-valued_faultless limit_option value rows none = once (has_row (valued_name limit_option) rows) none
-valued_faultless scale_option value rows none = once (has_row (valued_name scale_option) rows) none
-valued_faultless zones_option value rows none = once (has_row (valued_name zones_option) rows) none
-valued_faultless minus_option value rows none = once (has_row (valued_name minus_option) rows) none
-valued_faultless let_option value rows none = once (has_row (valued_name let_option) rows) none
-valued_faultless define_option value rows none = once (has_row (valued_name define_option) rows) none
+-- ---- a word that is `--name` or `--name=value`
 
-pub text_faultless : (value : Text) (rows : List Row) → has_row (codes "EXPR") rows ≡ false
-    → use_fault false text_rule (value ∷ []) rows ≡ []
-unfolding command_line clap_on_literals
-text_faultless value rows none = once (has_row (codes "EXPR") rows) none
+abbrev Lexed : Type 0
+Lexed = Option (Text × Option Text)
 
-both_none : (one other : Kinds) → one ≡ [] → other ≡ []
-    → or_else (or_else one other) [] ≡ []
-both_none one other none none' = rw (none, none') refl
+-- what the word comes to, where it is no subcommand, and is `--` or else is cut so
+abbrev met_at : Bool → Lexed → Text → Waiting → ℕ → Held → Held × Step
+met_at is_end lexed word waiting position h =
+    cond is_end (h, trailing position) (long_or_other rules waiting word lexed h)
 
-past_none : (one : Kinds) → one ≡ [] → or_else one [] ≡ []
-past_none one none = rw none refl
+abbrev walk_at : Bool → Lexed → Text → List Row → Pending → Waiting → ℕ → Walk
+walk_at is_end lexed word rows pending waiting position =
+    let met = met_at is_end lexed word waiting position (held rows pending) in
+    after_step rules word (state rows pending waiting position) met.0 met.1
 
--- ---- where a word leads
+walks_at : (word : Text) (rows : List Row) (pending : Pending) (waiting : Waiting) (position : ℕ)
+    → walked rules names (state rows pending waiting position) word
+    ≡ walk_at (bytes_eq word (codes "--")) (long_of word) word rows pending waiting position
+unfolding command_line walked
+walks_at word rows pending idle position = refl
+walks_at word rows pending (option name) position = refl
+walks_at word rows pending positional position = refl
 
-pub flag_walks : (name : Flag) (rows : List Row) (pending : Pending) (position : ℕ)
-    → walked rules names (state rows pending idle position) (codes "--" ++ flag_name name)
-    ≡ state (used (flag_rule name) [] (settled_rows rules pending rows)) None idle position
-unfolding command_line clap_on_literals
-flag_walks online_flag rows pending position = refl
-flag_walks show_flag rows pending position = refl
-flag_walks normal_flag rows pending position = refl
+abbrev fault_at : Bool → Lexed → Text → List Row → Pending → Waiting → ℕ → Kinds
+fault_at is_end lexed word rows pending waiting position =
+    let met = met_at is_end lexed word waiting position (held rows pending) in
+    or_else (cond is_end [] (flag_word_fault rules false lexed word (held rows pending)))
+    (step_fault shape position met.0 met.1)
 
-pub joined_walks : (name : Valued) (value : Text) (rows : List Row) (pending : Pending)
-    (position : ℕ) → walked rules names (state rows pending idle position)
-    (codes "--" ++ valued_name name ++ codes "=" ++ value)
-    ≡ state (used (valued_rule name) (value ∷ []) (settled_rows rules pending rows)) None idle
+faults_at : (word : Text) (rows : List Row) (pending : Pending) (waiting : Waiting) (position : ℕ)
+    → turn_fault shape names (state rows pending waiting position) word
+    ≡ fault_at (bytes_eq word (codes "--")) (long_of word) word rows pending waiting position
+unfolding command_line
+faults_at word rows pending idle position = refl
+faults_at word rows pending (option name) position = refl
+faults_at word rows pending positional position = refl
+
+-- the word names the rule, with this value or none
+record IsCut (word name : Text) (value : Option Text) (rule : Rule) : Type 0 where
+  other : bytes_eq word (codes "--") ≡ false
+  cut : long_of word ≡ Some (name, value)
+  found : arg_by_long rules name ≡ Some rule
+
+abbrev met_by : Option Rule → Option Text → Text → Waiting → Held → Held × Step
+met_by rule value word waiting h = after_flag rules waiting word (long_met rules rule value h).0
+    (long_met rules rule value h).1
+
+long_walks : (word name : Text) (value : Option Text) (rule : Rule) → IsCut word name value rule
+    → (rows : List Row) (pending : Pending) (waiting : Waiting) (position : ℕ)
+    → walked rules names (state rows pending waiting position) word
+    ≡ after_step rules word (state rows pending waiting position)
+    (met_by (Some rule) value word waiting (held rows pending)).0
+    (met_by (Some rule) value word waiting (held rows pending)).1
+long_walks word name value rule is rows pending waiting position =
+    walks_at word rows pending waiting position
+    ∙ (ap (λ (b : Bool). walk_at b (long_of word) word rows pending waiting position) is.other
+    ∙ (ap (λ (lexed : Lexed). walk_at false lexed word rows pending waiting position) is.cut
+    ∙ ap (λ (found : Option Rule). after_step rules word (state rows pending waiting position)
+    (met_by found value word waiting (held rows pending)).0
+    (met_by found value word waiting (held rows pending)).1) is.found))
+
+long_faults : (word name : Text) (value : Option Text) (rule : Rule) → IsCut word name value rule
+    → (rows : List Row) (pending : Pending) (waiting : Waiting) (position : ℕ)
+    → turn_fault shape names (state rows pending waiting position) word
+    ≡ or_else (long_fault rules false (Some rule) value (held rows pending))
+    (step_fault shape position (met_by (Some rule) value word waiting (held rows pending)).0
+    (met_by (Some rule) value word waiting (held rows pending)).1)
+long_faults word name value rule is rows pending waiting position =
+    faults_at word rows pending waiting position
+    ∙ (ap (λ (b : Bool). fault_at b (long_of word) word rows pending waiting position) is.other
+    ∙ (ap (λ (lexed : Lexed). fault_at false lexed word rows pending waiting position) is.cut
+    ∙ ap (λ (found : Option Rule). or_else (long_fault rules false found value (held rows pending))
+    (step_fault shape position (met_by found value word waiting (held rows pending)).0
+    (met_by found value word waiting (held rows pending)).1)) is.found))
+
+-- what is wrong with a use behind what is pending
+abbrev pub used_behind : Text → List Row → Pending → Kinds
+used_behind name rows pending = or_else (or_else (settle_fault rules false (held rows pending))
+    (again (has_row name (settled_rows rules pending rows)))) []
+
+pub used_clean : (name : Text) (rows : List Row) (pending : Pending)
+    → settle_fault rules false (held rows pending) ≡ []
+    → has_row name (settled_rows rules pending rows) ≡ false → used_behind name rows pending ≡ []
+used_clean name rows pending clean none =
+    let none_again = once (has_row name (settled_rows rules pending rows)) none in
+    rw (clean, none_again) refl
+
+flag_cut : (name : Text) → is_among flags name ≡ true
+    → IsCut (codes "--" ++ name) name None (flag_of name)
+flag_cut name is = let named = flag_named name is in
+    record { other = named.4; cut = named.2; found = named.0 }
+
+pub flag_walks : (name : Text) → is_among flags name ≡ true → (rows : List Row)
+    (pending : Pending) (waiting : Waiting) (position : ℕ)
+    → walked rules names (state rows pending waiting position) (codes "--" ++ name)
+    ≡ state (used (flag_of name) [] (settled_rows rules pending rows)) None idle position
+flag_walks name is = long_walks (codes "--" ++ name) name None (flag_of name) (flag_cut name is)
+
+pub flag_faults : (name : Text) → is_among flags name ≡ true → (rows : List Row)
+    (pending : Pending) (waiting : Waiting) (position : ℕ)
+    → turn_fault shape names (state rows pending waiting position) (codes "--" ++ name)
+    ≡ used_behind name rows pending
+flag_faults name is = long_faults (codes "--" ++ name) name None (flag_of name) (flag_cut name is)
+
+joined_cut : (name value : Text) (is : is_among options name ≡ true)
+    → IsCut (codes "--" ++ name ++ codes "=" ++ value) name (Some value)
+    (option_of name (option_named name is).0)
+joined_cut name value is = let named = (option_named name is).1 in
+    record { other = named.5 value; cut = named.3 value; found = named.0 }
+
+pub joined_walks : (name value : Text) (is : is_among options name ≡ true) (rows : List Row)
+    (pending : Pending) (waiting : Waiting) (position : ℕ)
+    → walked rules names (state rows pending waiting position)
+    (codes "--" ++ name ++ codes "=" ++ value)
+    ≡ state (used (option_of name []) (value ∷ []) (settled_rows rules pending rows)) None idle
     position
-unfolding command_line clap_on_literals
-joined_walks format_option value rows pending position = refl
-joined_walks input_option value rows pending position = refl
-joined_walks limit_option value rows pending position = refl
-joined_walks scale_option value rows pending position = refl
-joined_walks zones_option value rows pending position = refl
-joined_walks minus_option value rows pending position = refl
-joined_walks let_option value rows pending position = refl
-joined_walks define_option value rows pending position = refl
+joined_walks name value is = long_walks (codes "--" ++ name ++ codes "=" ++ value) name (Some value)
+    (option_of name (option_named name is).0) (joined_cut name value is)
 
-pub apart_walks : (name : Valued) (rows : List Row) (pending : Pending) (position : ℕ)
-    → walked rules names (state rows pending idle position) (codes "--" ++ valued_name name)
-    ≡ state (settled_rows rules pending rows) (Some (valued_name name, []))
-    (option (valued_name name)) position
-unfolding command_line clap_on_literals
-apart_walks format_option rows pending position = refl
-apart_walks input_option rows pending position = refl
-apart_walks limit_option rows pending position = refl
-apart_walks scale_option rows pending position = refl
-apart_walks zones_option rows pending position = refl
-apart_walks minus_option rows pending position = refl
-apart_walks let_option rows pending position = refl
-apart_walks define_option rows pending position = refl
+pub joined_faults : (name value : Text) (is : is_among options name ≡ true) (rows : List Row)
+    (pending : Pending) (waiting : Waiting) (position : ℕ)
+    → turn_fault shape names (state rows pending waiting position)
+    (codes "--" ++ name ++ codes "=" ++ value) ≡ used_behind name rows pending
+joined_faults name value is = long_faults (codes "--" ++ name ++ codes "=" ++ value) name
+    (Some value) (option_of name (option_named name is).0) (joined_cut name value is)
 
--- a word that begins with no hyphen, or is one
-pub no_hyphen : (byte : ℕ) (rest : Text) → strip_byte 45 (byte ∷ rest) ≡ None → (byte == 45) ≡ false
-no_hyphen byte rest none = go (byte == 45) none
+apart_cut : (name : Text) (is : is_among options name ≡ true)
+    → IsCut (codes "--" ++ name) name None (option_of name (option_named name is).0)
+apart_cut name is = let named = (option_named name is).1 in
+    record { other = named.4; cut = named.2; found = named.0 }
+
+pub apart_walks : (name : Text) (is : is_among options name ≡ true) (rows : List Row)
+    (pending : Pending) (waiting : Waiting) (position : ℕ)
+    → walked rules names (state rows pending waiting position) (codes "--" ++ name)
+    ≡ state (settled_rows rules pending rows) (Some (name, [])) (option name) position
+apart_walks name is = long_walks (codes "--" ++ name) name None
+    (option_of name (option_named name is).0) (apart_cut name is)
+
+pub apart_faults : (name : Text) (is : is_among options name ≡ true) (rows : List Row)
+    (pending : Pending) (waiting : Waiting) (position : ℕ)
+    → turn_fault shape names (state rows pending waiting position) (codes "--" ++ name)
+    ≡ or_else (settle_fault rules false (held rows pending)) []
+apart_faults name is = long_faults (codes "--" ++ name) name None
+    (option_of name (option_named name is).0) (apart_cut name is)
+
+-- ---- what is pending
+
+abbrev settle_by : Option Rule → List Text → List Row → Kinds
+settle_by found values rows = option_map_or (λ rule. use_fault false rule values rows) found []
+
+pub option_settles : (name value : Text) (is : is_among options name ≡ true) (rows : List Row)
+    → settled_rows rules (Some (name, value ∷ [])) rows
+    ≡ used (option_of name []) (value ∷ []) rows
+option_settles name value is rows =
+    ap (λ (found : Option Rule). used_by_id found (value ∷ []) rows) (option_named name is).1.1
+
+pub option_pending : (name value : Text) (is : is_among options name ≡ true) (rows : List Row)
+    → settle_fault rules false (held rows (Some (name, value ∷ []))) ≡ again (has_row name rows)
+option_pending name value is rows =
+    ap (λ (found : Option Rule). settle_by found (value ∷ []) rows) (option_named name is).1.1
+
+-- an option that waits for its value settles never
+pub never_settles : (name : Text) → is_among options name ≡ true → (rows : List Row)
+    → settle_fault rules false (held rows (Some (name, []))) ≡ [] → ⊥
+never_settles name is rows clean =
+    let wants : settle_fault rules false (held rows (Some (name, []))) ≡ InvalidValue ∷ [] =
+    ap (λ (found : Option Rule). settle_by found [] rows) (option_named name is).1.1 in
+    let it = sym wants ∙ clean in cc
+
+pub text_settles : (text : Text) (rows : List Row)
+    → settled_rows rules (Some (codes "EXPR", text ∷ [])) rows ≡ used text_rule (text ∷ []) rows
+unfolding command_line clap_on_literals
+text_settles text rows = refl
+
+pub text_pending : (text : Text) (rows : List Row)
+    → settle_fault rules false (held rows (Some (codes "EXPR", text ∷ [])))
+    ≡ again (has_row (codes "EXPR") rows)
+unfolding command_line clap_on_literals
+text_pending text rows = refl
+
+-- ---- a word that is no option
+
+record IsOther (word : Text) : Type 0 where
+  other : bytes_eq word (codes "--") ≡ false
+  cut : long_of word ≡ None
+  bundle : short_of word ≡ None
+
+other : (word : Text) → IsPlain word → IsOther word
+other word (inl hyphen) =
+    subst IsOther (sym hyphen) (record { other = refl; cut = refl; bundle = refl })
+other [] (inr none) = record { other = refl; cut = refl; bundle = refl }
+other (byte ∷ rest) (inr none) = go (byte == 45) refl
   where
-    go : (b : Bool) → cond b (Some rest) None ≡ None → b ≡ false
-    go true e = absurd cc
-    go false e = refl
+    go : (b : Bool) → (byte == 45) ≡ b → IsOther (byte ∷ rest)
+    go true e = let same : byte ≡ 45 = grind (arith, nat_tests) in
+        absurd (none rest (ap (λ (first : ℕ). first ∷ rest) same))
+    go false e = record { other = rw e refl; cut = rw e refl; bundle = rw e refl }
 
-hyphen_walks : (name : Valued) (rows : List Row) (position : ℕ) → walked rules names
-    (state rows (Some (valued_name name, [])) (option (valued_name name)) position) (codes "-")
-    ≡ state rows (Some (valued_name name, codes "-" ∷ [])) idle position
+plain_walks : (word : Text) → IsPlain word → (rows : List Row) (pending : Pending)
+    (waiting : Waiting) (position : ℕ)
+    → walked rules names (state rows pending waiting position) word
+    ≡ after_step rules word (state rows pending waiting position)
+    (plain_word rules waiting word (held rows pending)).0
+    (plain_word rules waiting word (held rows pending)).1
+plain_walks word plain rows pending waiting position = let is = other word plain in
+    walks_at word rows pending waiting position
+    ∙ (ap (λ (b : Bool). walk_at b (long_of word) word rows pending waiting position) is.other
+    ∙ (ap (λ (lexed : Lexed). walk_at false lexed word rows pending waiting position) is.cut
+    ∙ ap (λ (flags : Option Text). after_step rules word (state rows pending waiting position)
+    (short_or_plain rules waiting word flags (held rows pending)).0
+    (short_or_plain rules waiting word flags (held rows pending)).1) is.bundle))
+
+plain_faults : (word : Text) → IsPlain word → (rows : List Row) (pending : Pending)
+    (waiting : Waiting) (position : ℕ)
+    → turn_fault shape names (state rows pending waiting position) word
+    ≡ step_fault shape position (plain_word rules waiting word (held rows pending)).0
+    (plain_word rules waiting word (held rows pending)).1
+plain_faults word plain rows pending waiting position = let is = other word plain in
+    faults_at word rows pending waiting position
+    ∙ (ap (λ (b : Bool). fault_at b (long_of word) word rows pending waiting position) is.other
+    ∙ (ap (λ (lexed : Lexed). fault_at false lexed word rows pending waiting position) is.cut
+    ∙ ap (λ (flags : Option Text).
+    or_else (option_map_or (λ flags. bundle_fault rules false flags (held rows pending)) flags [])
+    (step_fault shape position (short_or_plain rules waiting word flags (held rows pending)).0
+    (short_or_plain rules waiting word flags (held rows pending)).1)) is.bundle))
+
+pub value_walks : (name value : Text) → is_among options name ≡ true → IsPlain value
+    → (rows : List Row) (position : ℕ)
+    → walked rules names (state rows (Some (name, [])) (option name) position) value
+    ≡ state rows (Some (name, value ∷ [])) idle position
+value_walks name value is plain rows position = let named = (option_named name is).1 in
+    plain_walks value plain rows (Some (name, [])) (option name) position
+    ∙ (ap (λ (found : Option Rule). after_step rules value
+    (state rows (Some (name, [])) (option name) position)
+    (option_word found name value (held rows (Some (name, [])))).0
+    (next (option_word found name value (held rows (Some (name, [])))).1)) named.1
+    ∙ ap (λ (b : Bool). state rows (Some (name, value ∷ []))
+    (cond (nat_lt (cond b 1 0) 1) (option name) idle) position) named.6)
+
+pub value_faults : (name value : Text) → IsPlain value → (rows : List Row) (position : ℕ)
+    → turn_fault shape names (state rows (Some (name, [])) (option name) position) value ≡ []
+value_faults name value plain rows position =
+    plain_faults value plain rows (Some (name, [])) (option name) position
+
+-- ---- the text
+
+-- where the text leads; an option with several values would take it
+abbrev text_at : Bool → Bool → List Row → Pending → Text → Walk
+text_at several marked rows pending text = record {
+  held = pushed (codes "EXPR") text
+      (cond (several && false) (held rows pending) (settled rules (held rows pending)));
+  waiting = idle;
+  position = 2;
+  is_trailing = marked;
+  stopped = None;
+}
+
+text_is : (several marked : Bool) (rows : List Row) (pending : Pending) (text : Text)
+    → text_at several marked rows pending text
+    ≡ standing marked (settled_rows rules pending rows) (Some (codes "EXPR", text ∷ [])) idle 2
+text_is true marked rows pending text = refl
+text_is false marked rows pending text = refl
+
+text_goes : (rows : List Row) (pending : Pending) (text : Text)
+    → after_step rules text (state rows pending idle 1) (held rows pending) goes_on
+    ≡ text_at (is_pending text_rule pending) false rows pending text
 unfolding command_line clap_on_literals
-hyphen_walks format_option rows position = refl
-hyphen_walks input_option rows position = refl
-hyphen_walks limit_option rows position = refl
-hyphen_walks scale_option rows position = refl
-hyphen_walks zones_option rows position = refl
-hyphen_walks minus_option rows position = refl
-hyphen_walks let_option rows position = refl
-hyphen_walks define_option rows position = refl
+text_goes rows pending text = refl
 
-other_walks : (name : Valued) (value : Text) (rows : List Row) (position : ℕ)
-    → strip_byte 45 value ≡ None → walked rules names
-    (state rows (Some (valued_name name, [])) (option (valued_name name)) position) value
-    ≡ state rows (Some (valued_name name, value ∷ [])) idle position
+pub text_walks : (text : Text) → IsPlain text → (rows : List Row) (pending : Pending)
+    → walked rules names (state rows pending idle 1) text
+    ≡ state (settled_rows rules pending rows) (Some (codes "EXPR", text ∷ [])) idle 2
+text_walks text plain rows pending = plain_walks text plain rows pending idle 1
+    ∙ (text_goes rows pending text ∙ text_is (is_pending text_rule pending) false rows pending text)
+
+settles_first : (several : Bool) (kinds : Kinds) → cond (several && false) [] kinds ≡ kinds
+settles_first true kinds = refl
+settles_first false kinds = refl
+
+text_step : (rows : List Row) (pending : Pending)
+    → step_fault shape 1 (held rows pending) goes_on
+    ≡ cond (is_pending text_rule pending && false) [] (settle_fault rules false (held rows pending))
 unfolding command_line clap_on_literals
-other_walks format_option [] rows position none = refl
-other_walks format_option (byte ∷ rest) rows position none =
-    let e = no_hyphen byte rest none in rw e (rw e refl)
-other_walks input_option [] rows position none = refl
-other_walks input_option (byte ∷ rest) rows position none =
-    let e = no_hyphen byte rest none in rw e (rw e refl)
-other_walks limit_option [] rows position none = refl
-other_walks limit_option (byte ∷ rest) rows position none =
-    let e = no_hyphen byte rest none in rw e (rw e refl)
-other_walks scale_option [] rows position none = refl
-other_walks scale_option (byte ∷ rest) rows position none =
-    let e = no_hyphen byte rest none in rw e (rw e refl)
-other_walks zones_option [] rows position none = refl
-other_walks zones_option (byte ∷ rest) rows position none =
-    let e = no_hyphen byte rest none in rw e (rw e refl)
-other_walks minus_option [] rows position none = refl
-other_walks minus_option (byte ∷ rest) rows position none =
-    let e = no_hyphen byte rest none in rw e (rw e refl)
-other_walks let_option [] rows position none = refl
-other_walks let_option (byte ∷ rest) rows position none =
-    let e = no_hyphen byte rest none in rw e (rw e refl)
-other_walks define_option [] rows position none = refl
-other_walks define_option (byte ∷ rest) rows position none =
-    let e = no_hyphen byte rest none in rw e (rw e refl)
+text_step rows pending = refl
 
-pub value_walks : (name : Valued) (value : Text) (rows : List Row) (position : ℕ)
-    → IsPlain value → walked rules names
-    (state rows (Some (valued_name name, [])) (option (valued_name name)) position) value
-    ≡ state rows (Some (valued_name name, value ∷ [])) idle position
-value_walks name value rows position plain =
-    ⊎_elim (λ none. other_walks name value rows position none)
-    (λ hyphen. subst (λ (text : Text). walked rules names
-    (state rows (Some (valued_name name, [])) (option (valued_name name)) position) text
-    ≡ state rows (Some (valued_name name, text ∷ [])) idle position) (sym hyphen)
-    (hyphen_walks name rows position)) plain
+pub text_faults : (text : Text) → IsPlain text → (rows : List Row) (pending : Pending)
+    → turn_fault shape names (state rows pending idle 1) text
+    ≡ settle_fault rules false (held rows pending)
+text_faults text plain rows pending = plain_faults text plain rows pending idle 1
+    ∙ (text_step rows pending ∙ settles_first (is_pending text_rule pending) _)
 
--- ---- that a word has no fault
-
-pub flag_turns : (name : Flag) (rows : List Row) (pending : Pending) (position : ℕ)
-    → settle_fault rules false (held rows pending) ≡ []
-    → has_row (flag_name name) (settled_rows rules pending rows) ≡ false
-    → turn_fault shape names (state rows pending idle position) (codes "--" ++ flag_name name) ≡ []
+second_step : (rows : List Row) (pending : Pending)
+    → step_fault shape 2 (held rows pending) goes_on ≡ UnknownArgument ∷ []
 unfolding command_line clap_on_literals
-flag_turns online_flag rows pending position settles none =
-    both_none _ _ settles (flag_faultless online_flag (settled_rows rules pending rows) none)
-flag_turns show_flag rows pending position settles none =
-    both_none _ _ settles (flag_faultless show_flag (settled_rows rules pending rows) none)
-flag_turns normal_flag rows pending position settles none =
-    both_none _ _ settles (flag_faultless normal_flag (settled_rows rules pending rows) none)
+second_step rows pending = refl
 
-pub joined_turns : (name : Valued) (value : Text) (rows : List Row) (pending : Pending)
-    (position : ℕ) → settle_fault rules false (held rows pending) ≡ []
-    → has_row (valued_name name) (settled_rows rules pending rows) ≡ false
-    → turn_fault shape names (state rows pending idle position)
-    (codes "--" ++ valued_name name ++ codes "=" ++ value) ≡ []
+pub no_second : (text : Text) → IsPlain text → (rows : List Row) (pending : Pending)
+    → turn_fault shape names (state rows pending idle 2) text ≡ [] → ⊥
+no_second text plain rows pending clean = let it = sym (second_step rows pending)
+    ∙ (sym (plain_faults text plain rows pending idle 2) ∙ clean) in cc
+
+-- ---- `--`, and behind it
+
+pub end_walks : (rows : List Row) (pending : Pending) (waiting : Waiting) (position : ℕ)
+    → walked rules names (state rows pending waiting position) (codes "--")
+    ≡ standing true rows pending waiting position
+end_walks rows pending waiting position = walks_at (codes "--") rows pending waiting position
+
+pub end_faults : (rows : List Row) (pending : Pending) (waiting : Waiting) (position : ℕ)
+    → turn_fault shape names (state rows pending waiting position) (codes "--") ≡ []
+end_faults rows pending waiting position = faults_at (codes "--") rows pending waiting position
+
+trail_goes : (rows : List Row) (pending : Pending) (waiting : Waiting) (text : Text)
+    → walked rules names (standing true rows pending waiting 1) text
+    ≡ text_at (is_pending text_rule pending) true rows pending text
 unfolding command_line clap_on_literals
-joined_turns format_option value rows pending position settles none =
-    both_none _ _ settles (valued_faultless format_option value (settled_rows rules pending rows) none)
-joined_turns input_option value rows pending position settles none =
-    both_none _ _ settles (valued_faultless input_option value (settled_rows rules pending rows) none)
-joined_turns limit_option value rows pending position settles none =
-    both_none _ _ settles (valued_faultless limit_option value (settled_rows rules pending rows) none)
-joined_turns scale_option value rows pending position settles none =
-    both_none _ _ settles (valued_faultless scale_option value (settled_rows rules pending rows) none)
-joined_turns zones_option value rows pending position settles none =
-    both_none _ _ settles (valued_faultless zones_option value (settled_rows rules pending rows) none)
-joined_turns minus_option value rows pending position settles none =
-    both_none _ _ settles (valued_faultless minus_option value (settled_rows rules pending rows) none)
-joined_turns let_option value rows pending position settles none =
-    both_none _ _ settles (valued_faultless let_option value (settled_rows rules pending rows) none)
-joined_turns define_option value rows pending position settles none =
-    both_none _ _ settles (valued_faultless define_option value (settled_rows rules pending rows) none)
+trail_goes rows pending waiting text = refl
 
-pub apart_turns : (name : Valued) (rows : List Row) (pending : Pending) (position : ℕ)
-    → settle_fault rules false (held rows pending) ≡ []
-    → turn_fault shape names (state rows pending idle position)
-    (codes "--" ++ valued_name name) ≡ []
-unfolding command_line clap_on_literals
-apart_turns format_option rows pending position settles = past_none _ settles
-apart_turns input_option rows pending position settles = past_none _ settles
-apart_turns limit_option rows pending position settles = past_none _ settles
-apart_turns scale_option rows pending position settles = past_none _ settles
-apart_turns zones_option rows pending position settles = past_none _ settles
-apart_turns minus_option rows pending position settles = past_none _ settles
-apart_turns let_option rows pending position settles = past_none _ settles
-apart_turns define_option rows pending position settles = past_none _ settles
+pub trail_walks : (rows : List Row) (pending : Pending) (waiting : Waiting) (text : Text)
+    → walked rules names (standing true rows pending waiting 1) text
+    ≡ standing true (settled_rows rules pending rows) (Some (codes "EXPR", text ∷ [])) idle 2
+trail_walks rows pending waiting text = trail_goes rows pending waiting text
+    ∙ text_is (is_pending text_rule pending) true rows pending text
 
-hyphen_turns : (name : Valued) (rows : List Row) (position : ℕ) → turn_fault shape names
-    (state rows (Some (valued_name name, [])) (option (valued_name name)) position) (codes "-")
-    ≡ []
-unfolding command_line clap_on_literals
-hyphen_turns format_option rows position = refl
-hyphen_turns input_option rows position = refl
-hyphen_turns limit_option rows position = refl
-hyphen_turns scale_option rows position = refl
-hyphen_turns zones_option rows position = refl
-hyphen_turns minus_option rows position = refl
-hyphen_turns let_option rows position = refl
-hyphen_turns define_option rows position = refl
+pub trail_faults : (rows : List Row) (pending : Pending) (waiting : Waiting) (text : Text)
+    → turn_fault shape names (standing true rows pending waiting 1) text
+    ≡ settle_fault rules false (held rows pending)
+trail_faults rows pending waiting text =
+    text_step rows pending ∙ settles_first (is_pending text_rule pending) _
 
-other_turns : (name : Valued) (value : Text) (rows : List Row) (position : ℕ)
-    → strip_byte 45 value ≡ None → turn_fault shape names
-    (state rows (Some (valued_name name, [])) (option (valued_name name)) position) value ≡ []
-unfolding command_line clap_on_literals
-other_turns format_option [] rows position none = refl
-other_turns format_option (byte ∷ rest) rows position none =
-    let e = no_hyphen byte rest none in rw e (rw e refl)
-other_turns input_option [] rows position none = refl
-other_turns input_option (byte ∷ rest) rows position none =
-    let e = no_hyphen byte rest none in rw e (rw e refl)
-other_turns limit_option [] rows position none = refl
-other_turns limit_option (byte ∷ rest) rows position none =
-    let e = no_hyphen byte rest none in rw e (rw e refl)
-other_turns scale_option [] rows position none = refl
-other_turns scale_option (byte ∷ rest) rows position none =
-    let e = no_hyphen byte rest none in rw e (rw e refl)
-other_turns zones_option [] rows position none = refl
-other_turns zones_option (byte ∷ rest) rows position none =
-    let e = no_hyphen byte rest none in rw e (rw e refl)
-other_turns minus_option [] rows position none = refl
-other_turns minus_option (byte ∷ rest) rows position none =
-    let e = no_hyphen byte rest none in rw e (rw e refl)
-other_turns let_option [] rows position none = refl
-other_turns let_option (byte ∷ rest) rows position none =
-    let e = no_hyphen byte rest none in rw e (rw e refl)
-other_turns define_option [] rows position none = refl
-other_turns define_option (byte ∷ rest) rows position none =
-    let e = no_hyphen byte rest none in rw e (rw e refl)
-
-pub value_turns : (name : Valued) (value : Text) (rows : List Row) (position : ℕ)
-    → IsPlain value → turn_fault shape names
-    (state rows (Some (valued_name name, [])) (option (valued_name name)) position) value ≡ []
-value_turns name value rows position plain =
-    ⊎_elim (λ none. other_turns name value rows position none)
-    (λ hyphen. subst (λ (text : Text). turn_fault shape names
-    (state rows (Some (valued_name name, [])) (option (valued_name name)) position) text ≡ [])
-    (sym hyphen) (hyphen_turns name rows position)) plain
+pub no_second_behind : (rows : List Row) (pending : Pending) (waiting : Waiting) (text : Text)
+    → turn_fault shape names (standing true rows pending waiting 2) text ≡ [] → ⊥
+no_second_behind rows pending waiting text clean = let it = sym (second_step rows pending) ∙ clean in cc

@@ -1,12 +1,13 @@
 -- Words as they are typed give a job where that is computed: what the values of the options say is
 -- compared with the parts of the job, and what may stand together is tested.
-use Rattle.std.proofs.Common.{◌≡◌, ◌≢◌, ℕ, Bool, true, false, not, ◌||◌, List, [], Option, Some, None, codes, refl, ap}
+use Rattle.std.proofs.lemmas.List.{append-nil}
+use Rattle.std.specs.List.{flat_map}
+use Rattle.std.proofs.Common.{◌≡◌, ◌≢◌, ◌∙◌, ◌++◌, ◌∷◌, inl, sym, ℕ, Bool, true, false, not, ◌||◌, List, [], Option, Some, None, codes, refl, ap}
 use Rattle.std.specs.Option.{option_or}
 use Rattle.std.specs.Prelude.{option_and_then, option_map, is_some, is_none}
-use Rattle.clap.specs.Words.{Row, Text, fault_of, first_of, matches_of}
 use Rattle.tre_decimal.specs.declared.TheConstants.{SCALE_MAX}
-use Rattle.tre_words.specs.CommandLine.{command_line}
-use Rattle.tre_words.specs.Job.{GivesPlain, GivesWatch, MayWatch, SaysJob, StandsTogether, format_named, is_given, mode_in, number_written, watch_job}
+use Rattle.tre_words.specs.Settings.{AreTyped, IsPlain, Setting, Text, Types, among, said, words_of_setting}
+use Rattle.tre_words.specs.Job.{GivesPlain, GivesWatch, MayWatch, Says, SaysJob, StandsTogether, format_named, is_given, mode_in, number_written, watch_job}
 use Rattle.tre_words.specs.declared.job.TheConstants.{LIMIT_MAX}
 use Rattle.tre_words.specs.declared.job.Format.{Format}
 use Rattle.tre_words.specs.declared.job.Format.TheVariants.{Text as TextFormat, Vcd, Csv}
@@ -27,20 +28,18 @@ pub record Values : Type 0 where
   pub max_zones : Option (Option ℕ)
   pub minus : Option Text
   pub lets : Option Text
-  pub expr : Option Text
 
-abbrev pub values_in : List Row → Values
-values_in rows = record {
-  mode = mode_in rows;
-  format = option_and_then format_named (first_of (codes "format") rows);
-  input = first_of (codes "input") rows;
-  max_bytes = option_and_then (number_written 1 LIMIT_MAX) (first_of (codes "max-bytes") rows);
-  scale = option_and_then (number_written 0 SCALE_MAX) (first_of (codes "scale") rows);
-  normal = is_given (codes "normal") rows;
-  max_zones = option_map (number_written 0 LIMIT_MAX) (first_of (codes "max-zones") rows);
-  minus = first_of (codes "minus") rows;
-  lets = option_or (first_of (codes "let") rows) (first_of (codes "define") rows);
-  expr = first_of (codes "EXPR") rows;
+abbrev pub values_in : Says → Values
+values_in says = record {
+  mode = mode_in says;
+  format = option_and_then format_named (says (codes "format"));
+  input = says (codes "input");
+  max_bytes = option_and_then (number_written 1 LIMIT_MAX) (says (codes "max-bytes"));
+  scale = option_and_then (number_written 0 SCALE_MAX) (says (codes "scale"));
+  normal = is_given (codes "normal") says;
+  max_zones = option_map (number_written 0 LIMIT_MAX) (says (codes "max-zones"));
+  minus = says (codes "minus");
+  lets = option_or (says (codes "let")) (says (codes "define"));
 }
 
 abbrev pub values_of : Job → Values
@@ -54,11 +53,10 @@ values_of job = record {
   max_zones = option_map Some job.max_zones;
   minus = job.minus;
   lets = job.lets;
-  expr = Some job.expr;
 }
 
-said : (rows : List Row) (job : Job) → values_in rows ≡ values_of job → SaysJob rows job
-said rows job same = record {
+says_job : (says : Says) (job : Job) → values_in says ≡ values_of job → SaysJob says job
+says_job says job same = record {
   mode = ap (λ (values : Values). values.mode) same;
   format = ap (λ (values : Values). values.format) same;
   input = ap (λ (values : Values). values.input) same;
@@ -68,7 +66,6 @@ said rows job same = record {
   max_zones = ap (λ (values : Values). values.max_zones) same;
   minus = ap (λ (values : Values). values.minus) same;
   lets = ap (λ (values : Values). values.lets) same;
-  expr = ap (λ (values : Values). values.expr) same;
 }
 
 -- ---- what may stand together
@@ -137,18 +134,18 @@ never_is true e = cc
 never_is false e = refl
 
 -- the tests that a job and the values of its options pass
-abbrev pub Stands : List Row → Job → Type 0
-Stands rows job = (implies job.normal (is_offline job.mode) ≡ true)
+abbrev pub Stands : Says → Job → Type 0
+Stands says job = (implies job.normal (is_offline job.mode) ≡ true)
     × (implies (is_some job.max_zones) job.normal ≡ true)
     × (implies (is_some job.minus) (is_offline job.mode) ≡ true)
     × (implies (is_csv job.format) (is_none job.minus) ≡ true)
     × (implies (is_some job.lets) (not (is_text job.format)) ≡ true)
-    × (implies (is_csv job.format) (not (is_given (codes "online") rows)) ≡ true)
-    × (is_csv job.format || is_none (first_of (codes "let") rows) ≡ true)
-    × (is_dump job.format || is_none (first_of (codes "define") rows) ≡ true)
+    × (implies (is_csv job.format) (not (is_given (codes "online") says)) ≡ true)
+    × (is_csv job.format || is_none (says (codes "let")) ≡ true)
+    × (is_dump job.format || is_none (says (codes "define")) ≡ true)
 
-together : (rows : List Row) (job : Job) → Stands rows job → StandsTogether job
-together rows job stands = record {
+together : (says : Says) (job : Job) → Stands says job → StandsTogether job
+together says job stands = record {
   normal = λ normal. offline_is job.mode (implied stands.0 normal);
   max_zones = λ given. implied stands.1 given;
   minus = λ given. offline_is job.mode (implied stands.2 given);
@@ -156,21 +153,33 @@ together rows job stands = record {
   lets = λ given. text_never job.format (implied stands.4 given);
 }
 
--- words that pass the tests and say the job give it
-pub typed : (words : List Text) (job : Job) → fault_of command_line words ≡ []
-    → values_in (matches_of command_line words) ≡ values_of job
-    → Stands (matches_of command_line words) job → GivesPlain words job
-typed words job faultless same stands = record {
-  faultless = faultless;
-  says = said (matches_of command_line words) job same;
-  together = together (matches_of command_line words) job stands;
-  offline = λ csv. never_is (is_given (codes "online") (matches_of command_line words))
-      (implied stands.5 (ap is_csv csv));
-  defines = record {
-    columns = csv_or job.format _ stands.6;
-    signals = dump_or job.format _ stands.7;
-  };
+-- settings that pass the tests and say the job give it
+pub typed : (words : List Text) (job : Job) (settings : List Setting) → AreTyped settings
+    → Types words settings job.expr → values_in (said settings) ≡ values_of job
+    → Stands (said settings) job → GivesPlain words job
+typed words job settings are types same stands = record {
+  settings = settings;
+  typed = are;
+  types = types;
+  says = says_job (said settings) job same;
+  stands = (
+    together (said settings) job stands,
+    (λ csv. never_is (is_given (codes "online") (said settings))
+        (implied stands.5 (ap is_csv csv))),
+    record {
+      columns = csv_or job.format _ stands.6;
+      signals = dump_or job.format _ stands.7;
+    },
+  );
 }
+
+-- a text that doesn't begin with `-`, among settings
+pub told : (words : List Text) (before after : List Setting) (text : Text) → IsPlain text
+    → words ≡ flat_map words_of_setting before ++ (text ∷ flat_map words_of_setting after)
+    → Types words (before ++ after) text
+told words before after text plain are = among before after [] refl plain (inl refl)
+    (are ∙ ap (λ (more : List Text). flat_map words_of_setting before ++ (text ∷ more))
+    (sym (append-nil (flat_map words_of_setting after))))
 
 -- those behind `--watch` give the watch of a job that may be one
 pub typed_watch : (words : List Text) (plain : Job) → GivesPlain words plain → MayWatch plain

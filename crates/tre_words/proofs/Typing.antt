@@ -1,5 +1,5 @@
 -- Settings as the walk of `clap` reads them, and what it has at the end.
-use Rattle.std.proofs.Common.{◌≡◌, ◌∙◌, ⊎_elim, ◌++◌, ◌&&◌, ◌||◌, cond, ℕ, Bool, true, false, List, ◌∷◌, [], map, Option, None, Some, refl, sym, ap, subst, codes, true≢false}
+use Rattle.std.proofs.Common.{◌≡◌, ◌∙◌, ◌⊎◌, inl, inr, ◌++◌, ◌||◌, cond, ℕ, Bool, true, false, List, ◌∷◌, [], map, Option, None, Some, refl, sym, ap, subst, codes, true≢false}
 use Rattle.std.proofs.lemmas.List.{append-nil, append_assoc}
 use Rattle.std.proofs.lemmas.List.Sums.{fold-append}
 use Rattle.std.proofs.lemmas.List.Folds.{list_any-append}
@@ -7,20 +7,15 @@ use Rattle.std.proofs.lemmas.Slice.Eq.{bytes_eq-Decides}
 use Rattle.std.specs.List.{flat_map, fold}
 use Rattle.std.specs.Str.{bytes_eq}
 use Rattle.clap.specs.Faults.{settle_fault, turn_fault, walk_fault}
-use Rattle.clap.specs.Lexer.{strip_byte}
 use Rattle.clap.specs.Kinds.{Kinds, or_else}
-use Rattle.clap.specs.Walk.{Row, Rule, Text, Walk, has_row, idle, reading_by, settled, settled_rows, is_pending, used, walked, pushed}
-use Rattle.clap.proofs.OnLiterals.{clap_on_literals}
-use Rattle.tre_words.specs.CommandLine.{command_line}
-use Rattle.tre_words.specs.Settings.{Flag, Valued, Setting, flag, joined, apart, flag_name, valued_name, name_of_setting, value_of, words_of_setting, value_in, AreTyped, IsPlain, IsTyped, Types}
-use Rattle.tre_words.specs.Settings.{online_flag, show_flag, normal_flag}
-use Rattle.tre_words.specs.Settings.{format_option, input_option, limit_option, scale_option, zones_option, minus_option, let_option, define_option}
-use Rattle.tre_words.proofs.Settings.{Pending, held, state, shape, rules, names, flag_rule, valued_rule, text_rule, new_row, flag_adds, valued_adds, text_adds, valued_faultless, text_faultless, flag_walks, joined_walks, apart_walks, value_walks, flag_turns, joined_turns, apart_turns, value_turns, no_hyphen}
+use Rattle.clap.specs.Walk.{Row, Rule, Text, Walk, has_row, idle, reading_by, settled_rows, used, walked}
+use Rattle.tre_words.specs.Settings.{Setting, flag, joined, apart, name_of_setting, value_of, words_of_setting, value_in, AreTyped, IsPlain, IsTyped, Types, among, behind}
+use Rattle.tre_words.proofs.Settings.{Pending, held, standing, state, shape, rules, names, flag_of, option_of, text_rule, flag_named, option_named, new_row, adds, text_adds, once, flag_walks, flag_faults, joined_walks, joined_faults, apart_walks, apart_faults, used_clean, option_settles, option_pending, text_settles, text_pending, value_walks, value_faults, text_walks, text_faults, end_walks, end_faults, trail_walks, trail_faults}
 
 abbrev pub rule_of : Setting → Rule
-rule_of (flag name) = flag_rule name
-rule_of (joined name value) = valued_rule name
-rule_of (apart name value) = valued_rule name
+rule_of (flag name) = flag_of name
+rule_of (joined name value) = option_of name []
+rule_of (apart name value) = option_of name []
 
 abbrev pub row_of : Setting → Row
 row_of setting = new_row (name_of_setting setting) (reading_by (rule_of setting)) (value_of setting)
@@ -48,156 +43,58 @@ turned before after word rest clean walks =
 
 -- ---- one setting
 
-valued_settles : (name : Valued) (value : Text) (rows : List Row)
-    → settled_rows rules (Some (valued_name name, value ∷ [])) rows
-    ≡ used (valued_rule name) (value ∷ []) rows
-unfolding command_line clap_on_literals
-valued_settles format_option value rows = refl
-valued_settles input_option value rows = refl
-valued_settles limit_option value rows = refl
-valued_settles scale_option value rows = refl
-valued_settles zones_option value rows = refl
-valued_settles minus_option value rows = refl
-valued_settles let_option value rows = refl
-valued_settles define_option value rows = refl
-
-valued_clean : (name : Valued) (value : Text) (rows : List Row)
-    → has_row (valued_name name) rows ≡ false
-    → settle_fault rules false (held rows (Some (valued_name name, value ∷ []))) ≡ []
-unfolding command_line clap_on_literals
-valued_clean format_option value rows none = valued_faultless format_option value rows none
-valued_clean input_option value rows none = valued_faultless input_option value rows none
-valued_clean limit_option value rows none = valued_faultless limit_option value rows none
-valued_clean scale_option value rows none = valued_faultless scale_option value rows none
-valued_clean zones_option value rows none = valued_faultless zones_option value rows none
-valued_clean minus_option value rows none = valued_faultless minus_option value rows none
-valued_clean let_option value rows none = valued_faultless let_option value rows none
-valued_clean define_option value rows none = valued_faultless define_option value rows none
-
 one : (setting : Setting) (rows : List Row) (pending : Pending) (from : ℕ) (found : List Row)
     → settled_rows rules pending rows ≡ found → settle_fault rules false (held rows pending) ≡ []
     → IsTyped setting → has_row (name_of_setting setting) found ≡ false
     → Walks (words_of_setting setting) rows pending from (found ++ row_of setting ∷ []) from
 one (flag name) rows pending from found settles clean typed none =
-    let fresh : has_row (flag_name name) (settled_rows rules pending rows) ≡ false =
-    subst (λ (more : List Row). has_row (flag_name name) more ≡ false) (sym settles) none in
-    let walks = flag_walks name rows pending from in
+    let fresh : has_row name (settled_rows rules pending rows) ≡ false =
+    ap (has_row name) settles ∙ none in
+    let walks = flag_walks name typed rows pending idle from in
     record {
-      now = used (flag_rule name) [] (settled_rows rules pending rows);
+      now = used (flag_of name) [] (settled_rows rules pending rows);
       left = None;
       walks = walks;
-      settles = flag_adds name _ fresh
+      settles = adds name _ (codes "true") _ fresh
           ∙ ap (λ (more : List Row). more ++ row_of (flag name) ∷ []) settles;
       clean = refl;
-      faultless = λ rest. turned _ _ _ rest (flag_turns name rows pending from clean fresh) walks;
+      faultless = λ rest. turned _ _ _ rest
+          (flag_faults name typed rows pending idle from ∙ used_clean name rows pending clean fresh)
+          walks;
     }
 one (joined name value) rows pending from found settles clean typed none =
-    let fresh : has_row (valued_name name) (settled_rows rules pending rows) ≡ false =
-    subst (λ (more : List Row). has_row (valued_name name) more ≡ false) (sym settles) none in
-    let walks = joined_walks name value rows pending from in
+    let fresh : has_row name (settled_rows rules pending rows) ≡ false =
+    ap (has_row name) settles ∙ none in
+    let walks = joined_walks name value typed rows pending idle from in
     record {
-      now = used (valued_rule name) (value ∷ []) (settled_rows rules pending rows);
+      now = used (option_of name []) (value ∷ []) (settled_rows rules pending rows);
       left = None;
       walks = walks;
-      settles = valued_adds name value _ fresh
+      settles = adds name _ value _ fresh
           ∙ ap (λ (more : List Row). more ++ row_of (joined name value) ∷ []) settles;
       clean = refl;
-      faultless = λ rest. turned _ _ _ rest
-          (joined_turns name value rows pending from clean fresh) walks;
+      faultless = λ rest. turned _ _ _ rest (joined_faults name value typed rows pending idle from
+          ∙ used_clean name rows pending clean fresh) walks;
     }
 one (apart name value) rows pending from found settles clean typed none =
-    let fresh : has_row (valued_name name) (settled_rows rules pending rows) ≡ false =
-    subst (λ (more : List Row). has_row (valued_name name) more ≡ false) (sym settles) none in
-    let first = apart_walks name rows pending from in
-    let second = value_walks name value (settled_rows rules pending rows) from typed in
+    let fresh : has_row name (settled_rows rules pending rows) ≡ false =
+    ap (has_row name) settles ∙ none in
+    let first = apart_walks name typed.0 rows pending idle from in
+    let second = value_walks name value typed.0 typed.1 (settled_rows rules pending rows) from in
     record {
       now = settled_rows rules pending rows;
-      left = Some (valued_name name, value ∷ []);
+      left = Some (name, value ∷ []);
       walks = ap (λ (walk : Walk). walked rules names walk value) first ∙ second;
-      settles = valued_settles name value _ ∙ (valued_adds name value _ fresh
+      settles = option_settles name value typed.0 _ ∙ (adds name _ value _ fresh
           ∙ ap (λ (more : List Row). more ++ row_of (apart name value) ∷ []) settles);
-      clean = valued_clean name value _ fresh;
-      faultless = λ rest. turned _ _ _ (value ∷ rest) (apart_turns name rows pending from clean)
-          first ∙ turned _ _ _ rest (value_turns name value _ from typed) second;
+      clean = option_pending name value typed.0 _ ∙ once _ fresh;
+      faultless = λ rest. turned _ _ _ (value ∷ rest)
+          (apart_faults name typed.0 rows pending idle from
+          ∙ ap (λ (kinds : Kinds). or_else kinds []) clean) first
+          ∙ turned _ _ _ rest (value_faults name value typed.1 _ from) second;
     }
 
 -- ---- the text
-
--- where the text leads; an option with several values would take it
-abbrev text_at : Bool → List Row → Pending → Text → Walk
-text_at several rows pending text = record {
-  held = pushed (codes "EXPR") text
-      (cond (several && false) (held rows pending) (settled rules (held rows pending)));
-  waiting = idle;
-  position = 2;
-  is_trailing = false;
-  stopped = None;
-}
-
-text_is : (several : Bool) (rows : List Row) (pending : Pending) (text : Text)
-    → text_at several rows pending text
-    ≡ state (settled_rows rules pending rows) (Some (codes "EXPR", text ∷ [])) idle 2
-text_is true rows pending text = refl
-text_is false rows pending text = refl
-
-plain_goes : (rows : List Row) (pending : Pending) (text : Text) → strip_byte 45 text ≡ None
-    → walked rules names (state rows pending idle 1) text
-    ≡ text_at (is_pending text_rule pending) rows pending text
-unfolding command_line clap_on_literals
-plain_goes rows pending [] none = refl
-plain_goes rows pending (byte ∷ rest) none =
-    let e = no_hyphen byte rest none in rw e (rw e refl)
-
-hyphen_goes : (rows : List Row) (pending : Pending)
-    → walked rules names (state rows pending idle 1) (codes "-")
-    ≡ text_at (is_pending text_rule pending) rows pending (codes "-")
-unfolding command_line clap_on_literals
-hyphen_goes rows pending = refl
-
-text_goes : (rows : List Row) (pending : Pending) (text : Text) → IsPlain text
-    → walked rules names (state rows pending idle 1) text
-    ≡ text_at (is_pending text_rule pending) rows pending text
-text_goes rows pending text plain = ⊎_elim (λ none. plain_goes rows pending text none)
-    (λ hyphen. subst (λ (word : Text). walked rules names (state rows pending idle 1) word
-    ≡ text_at (is_pending text_rule pending) rows pending word) (sym hyphen)
-    (hyphen_goes rows pending)) plain
-
-text_clean : (several : Bool) (kinds : Kinds) → kinds ≡ [] → cond (several && false) [] kinds ≡ []
-text_clean true kinds none = none
-text_clean false kinds none = none
-
-plain_turns : (rows : List Row) (pending : Pending) (text : Text) → strip_byte 45 text ≡ None
-    → settle_fault rules false (held rows pending) ≡ []
-    → turn_fault shape names (state rows pending idle 1) text ≡ []
-unfolding command_line clap_on_literals
-plain_turns rows pending [] none clean = text_clean (is_pending text_rule pending) _ clean
-plain_turns rows pending (byte ∷ rest) none clean =
-    let e = no_hyphen byte rest none in
-    rw e (rw e (text_clean (is_pending text_rule pending) _ clean))
-
-hyphen_text : (rows : List Row) (pending : Pending)
-    → settle_fault rules false (held rows pending) ≡ []
-    → turn_fault shape names (state rows pending idle 1) (codes "-") ≡ []
-unfolding command_line clap_on_literals
-hyphen_text rows pending clean = text_clean (is_pending text_rule pending) _ clean
-
-text_turns : (rows : List Row) (pending : Pending) (text : Text) → IsPlain text
-    → settle_fault rules false (held rows pending) ≡ []
-    → turn_fault shape names (state rows pending idle 1) text ≡ []
-text_turns rows pending text plain clean =
-    ⊎_elim (λ none. plain_turns rows pending text none clean)
-    (λ hyphen. subst (λ (word : Text). turn_fault shape names (state rows pending idle 1) word ≡ [])
-    (sym hyphen) (hyphen_text rows pending clean)) plain
-
-text_settles : (text : Text) (rows : List Row)
-    → settled_rows rules (Some (codes "EXPR", text ∷ [])) rows ≡ used text_rule (text ∷ []) rows
-unfolding command_line clap_on_literals
-text_settles text rows = refl
-
-text_settled : (text : Text) (rows : List Row) → has_row (codes "EXPR") rows ≡ false
-    → settle_fault rules false (held rows (Some (codes "EXPR", text ∷ []))) ≡ []
-unfolding command_line clap_on_literals
-text_settled text rows none = text_faultless text rows none
 
 told : (text : Text) (rows : List Row) (pending : Pending) (found : List Row)
     → settled_rows rules pending rows ≡ found → settle_fault rules false (held rows pending) ≡ []
@@ -205,17 +102,16 @@ told : (text : Text) (rows : List Row) (pending : Pending) (found : List Row)
     → Walks (text ∷ []) rows pending 1 (found ++ text_row text ∷ []) 2
 told text rows pending found settles clean plain none =
     let fresh : has_row (codes "EXPR") (settled_rows rules pending rows) ≡ false =
-    subst (λ (more : List Row). has_row (codes "EXPR") more ≡ false) (sym settles) none in
-    let walks = text_goes rows pending text plain
-    ∙ text_is (is_pending text_rule pending) rows pending text in
+    ap (has_row (codes "EXPR")) settles ∙ none in
+    let walks = text_walks text plain rows pending in
     record {
       now = settled_rows rules pending rows;
       left = Some (codes "EXPR", text ∷ []);
       walks = walks;
       settles = text_settles text _ ∙ (text_adds text _ fresh
           ∙ ap (λ (more : List Row). more ++ text_row text ∷ []) settles);
-      clean = text_settled text _ fresh;
-      faultless = λ rest. turned _ _ _ rest (text_turns rows pending text plain clean) walks;
+      clean = text_pending text _ ∙ once _ fresh;
+      faultless = λ rest. turned _ _ _ rest (text_faults text plain rows pending ∙ clean) walks;
     }
 
 -- ---- one after another
@@ -238,7 +134,7 @@ then words more rows pending from middle at found to first second = record {
 }
 
 -- none of the settings has a row
-abbrev Fresh : List Row → List Setting → Type 0
+abbrev pub Fresh : List Row → List Setting → Type 0
 Fresh found [] = Unit {0}
 Fresh found (setting ∷ settings) = (has_row (name_of_setting setting) found ≡ false) × Fresh found settings
 
@@ -274,9 +170,9 @@ fresh_more found row (setting ∷ settings) fresh none =
       fresh_more found row settings fresh.1 here.1,
     )
 
-record AreLeft (found : List Row) (settings : List Setting) : Type 0 where
-  fresh : Fresh found settings
-  typed : AreTyped settings
+pub record AreLeft (found : List Row) (settings : List Setting) : Type 0 where
+  pub fresh : Fresh found settings
+  pub typed : AreTyped settings
 
 left_after : (settings more : List Setting) (found : List Row) → AreLeft found (settings ++ more)
     → AreLeft (found ++ map row_of settings) more
@@ -314,62 +210,153 @@ all (setting ∷ settings) more rows pending from found settles clean left =
     (then (words_of_setting setting) (flat_map words_of_setting settings) rows pending from _ from _ from first
     second)
 
-flag_not : (name : Flag) → bytes_eq (flag_name name) (codes "EXPR") ≡ false
-flag_not online_flag = refl
-flag_not show_flag = refl
-flag_not normal_flag = refl
+pub setting_not : (setting : Setting) → IsTyped setting
+    → bytes_eq (name_of_setting setting) (codes "EXPR") ≡ false
+setting_not (flag name) typed = (flag_named name typed).7
+setting_not (joined name value) typed = (option_named name typed).1.7
+setting_not (apart name value) typed = (option_named name typed.0).1.7
 
-valued_not : (name : Valued) → bytes_eq (valued_name name) (codes "EXPR") ≡ false
-valued_not format_option = refl
-valued_not input_option = refl
-valued_not limit_option = refl
-valued_not scale_option = refl
-valued_not zones_option = refl
-valued_not minus_option = refl
-valued_not let_option = refl
-valued_not define_option = refl
-
-pub setting_not : (setting : Setting) → bytes_eq (name_of_setting setting) (codes "EXPR") ≡ false
-setting_not (flag name) = flag_not name
-setting_not (joined name value) = valued_not name
-setting_not (apart name value) = valued_not name
-
-no_text : (settings : List Setting) → value_in (codes "EXPR") settings ≡ None
-no_text [] = refl
-no_text (setting ∷ settings) =
+no_text : (settings : List Setting) → AreTyped settings → value_in (codes "EXPR") settings ≡ None
+no_text [] typed = refl
+no_text (setting ∷ settings) typed =
     ap (λ (b : Bool). cond b (Some (value_of setting)) (value_in (codes "EXPR") settings))
-    (setting_not setting) ∙ no_text settings
+    (setting_not setting typed.0) ∙ no_text settings typed.2
 
-no_row : (settings : List Setting) → has_row (codes "EXPR") (map row_of settings) ≡ false
-no_row [] = refl
-no_row (setting ∷ settings) =
-    ap (λ (b : Bool). b || has_row (codes "EXPR") (map row_of settings)) (setting_not setting)
-    ∙ no_row settings
+no_row : (settings more : List Setting) → AreTyped (settings ++ more)
+    → has_row (codes "EXPR") (map row_of settings) ≡ false
+no_row [] more typed = refl
+no_row (setting ∷ settings) more typed =
+    ap (λ (b : Bool). b || has_row (codes "EXPR") (map row_of settings)) (setting_not setting typed.0)
+    ∙ no_row settings more typed.2
 
 abbrev pub found_rows : List Setting → Text → List Setting → List Row
 found_rows before text after = map row_of before ++ text_row text ∷ map row_of after
 
-pub whole : (before after : List Setting) (text : Text) (words : List Text)
-    → Types before after text words → Walks words [] None 1 (found_rows before text after) 2
-whole before after text words types =
+whole : (before after : List Setting) (text : Text) → AreTyped (before ++ after) → IsPlain text
+    → Walks (flat_map words_of_setting before ++ (text ∷ flat_map words_of_setting after)) [] None 1
+    (found_rows before text after) 2
+whole before after text typed plain =
     let left : AreLeft [] (before ++ after) = record {
       fresh = fresh_first (before ++ after);
-      typed = types.typed;
+      typed = typed;
     } in
     let first = all before after [] None 1 [] refl refl left in
     let rest = left_after before after [] left in
     let second = told text first.now first.left (map row_of before) first.settles first.clean
-    types.plain (no_row before) in
+    plain (no_row before after typed) in
     let third = all after [] second.now second.left 2 (map row_of before ++ text_row text ∷ [])
     second.settles second.clean
     (subst (AreLeft (map row_of before ++ text_row text ∷ [])) (sym (append-nil after)) (record {
-      fresh = fresh_more (map row_of before) (text_row text) after rest.fresh (no_text after);
+      fresh = fresh_more (map row_of before) (text_row text) after rest.fresh (no_text after rest.typed);
       typed = rest.typed;
     })) in
-    subst (λ (all : List Text). Walks all [] None 1 (found_rows before text after) 2)
-    (sym types.are)
-    (subst (λ (found : List Row). Walks
-    (flat_map words_of_setting before ++ (text ∷ [] ++ flat_map words_of_setting after)) [] None 1 found 2)
+    subst (λ (found : List Row). Walks
+    (flat_map words_of_setting before ++ (text ∷ flat_map words_of_setting after)) [] None 1 found 2)
     (append_assoc (map row_of before) (text_row text ∷ []) (map row_of after))
     (then (flat_map words_of_setting before) (text ∷ [] ++ flat_map words_of_setting after) [] None 1 _ 1 _ 2 first
-    (then (text ∷ []) (flat_map words_of_setting after) first.now first.left 1 _ 2 _ 2 second third)))
+    (then (text ∷ []) (flat_map words_of_setting after) first.now first.left 1 _ 2 _ 2 second third))
+
+-- ---- `--`
+
+-- The walk goes over all the words without a fault, and has found these rows then.
+pub record Ended (words : List Text) (found : List Row) : Type 0 where
+  pub now : List Row
+  pub left : Pending
+  pub trailing : Bool
+  pub position : ℕ
+  pub walks : fold (walked rules names) (state [] None idle 1) words
+      ≡ standing trailing now left idle position
+  pub settles : settled_rows rules left now ≡ found
+  pub clean : settle_fault rules false (held now left) ≡ []
+  pub faultless : walk_fault shape names (state [] None idle 1) words ≡ []
+
+nothing_left : (walk : Walk) → walk_fault shape names walk [] ≡ []
+unfolding walk_fault
+nothing_left walk = refl
+
+ended : (first end : List Text) (found : List Row) (to : ℕ) → Walks first [] None 1 found to
+    → (end ≡ []) ⊎ (end ≡ codes "--" ∷ []) → Ended (first ++ end) found
+ended first end found to walks (inl none) =
+    subst (λ (end : List Text). Ended (first ++ end) found) (sym none) (record {
+      now = walks.now;
+      left = walks.left;
+      trailing = false;
+      position = to;
+      walks = ap (fold (walked rules names) (state [] None idle 1)) (append-nil first) ∙ walks.walks;
+      settles = walks.settles;
+      clean = walks.clean;
+      faultless = walks.faultless [] ∙ nothing_left _;
+    })
+ended first end found to walks (inr marked) =
+    subst (λ (end : List Text). Ended (first ++ end) found) (sym marked) (record {
+      now = walks.now;
+      left = walks.left;
+      trailing = true;
+      position = to;
+      walks = fold-append (walked rules names) _ first (codes "--" ∷ [])
+          ∙ (ap (λ (walk : Walk). walked rules names walk (codes "--")) walks.walks
+          ∙ end_walks walks.now walks.left idle to);
+      settles = walks.settles;
+      clean = walks.clean;
+      faultless = walks.faultless (codes "--" ∷ [])
+          ∙ (turned _ _ _ [] (end_faults walks.now walks.left idle to)
+          (end_walks walks.now walks.left idle to) ∙ nothing_left _);
+    })
+
+ended_behind : (settings : List Setting) (text : Text) → AreTyped settings
+    → Ended (flat_map words_of_setting settings ++ (codes "--" ∷ text ∷ []))
+    (found_rows settings text [])
+ended_behind settings text typed =
+    let first = all settings [] [] None 1 [] refl refl
+    (subst (AreLeft []) (sym (append-nil settings))
+    (record { fresh = fresh_first settings; typed = typed })) in
+    let marked = end_walks first.now first.left idle 1 in
+    let last = trail_walks first.now first.left idle text in
+    let found = settled_rows rules first.left first.now in
+    let none : has_row (codes "EXPR") found ≡ false =
+    ap (has_row (codes "EXPR")) first.settles ∙ no_row settings []
+    (subst AreTyped (sym (append-nil settings)) typed) in
+    record {
+      now = found;
+      left = Some (codes "EXPR", text ∷ []);
+      trailing = true;
+      position = 2;
+      walks = fold-append (walked rules names) _ (flat_map words_of_setting settings) (codes "--" ∷ text ∷ [])
+          ∙ (ap (λ (walk : Walk). walked rules names (walked rules names walk (codes "--")) text)
+          first.walks ∙ (ap (λ (walk : Walk). walked rules names walk text) marked ∙ last));
+      settles = text_settles text found ∙ (text_adds text found none
+          ∙ ap (λ (rows : List Row). rows ++ text_row text ∷ []) first.settles);
+      clean = text_pending text found ∙ once _ none;
+      faultless = first.faultless (codes "--" ∷ text ∷ [])
+          ∙ (turned _ _ _ (text ∷ []) (end_faults first.now first.left idle 1) marked
+          ∙ (turned _ _ _ [] (trail_faults first.now first.left idle text ∙ first.clean)
+          last ∙ nothing_left _));
+    }
+
+pub record Reached (words : List Text) (settings : List Setting) (text : Text) : Type 0 where
+  pub before : List Setting
+  pub after : List Setting
+  pub same : settings ≡ before ++ after
+  pub bare : has_row (codes "EXPR") (map row_of before) ≡ false
+  pub ended : Ended words (found_rows before text after)
+
+pub reached : (words : List Text) (settings : List Setting) (text : Text) → AreTyped settings
+    → Types words settings text → Reached words settings text
+reached words settings text typed (among before after end same plain ends are) = record {
+  before = before;
+  after = after;
+  same = same;
+  bare = no_row before after (subst AreTyped same typed);
+  ended = subst (λ (all : List Text). Ended all (found_rows before text after))
+      (append_assoc (flat_map words_of_setting before) (text ∷ flat_map words_of_setting after) end
+      ∙ sym are)
+      (ended _ end _ 2 (whole before after text (subst AreTyped same typed) plain) ends);
+}
+reached words settings text typed (behind are) = record {
+  before = settings;
+  after = [];
+  same = sym (append-nil settings);
+  bare = no_row settings [] (subst AreTyped (sym (append-nil settings)) typed);
+  ended = subst (λ (all : List Text). Ended all (found_rows settings text [])) (sym are)
+      (ended_behind settings text typed);
+}

@@ -1,9 +1,11 @@
 -- The command line as `clap` sees it.
-use Rattle.std.specs.Prelude.{true, [], ◌∷◌, Some, codes}
+use Rattle.std.specs.Prelude.{◌≡◌, true, List, [], ◌∷◌, Option, Some, codes}
 use Rattle.std.specs.List.{fold}
 use Rattle.clap.specs.Simple.{on_top}
-use Rattle.clap.specs.Words.{App, Rule, Text, new_app, new_rule, with_rule}
+use Rattle.clap.specs.Words.{App, Row, Rule, Text, first_of, new_app, new_rule, with_rule}
 use Rattle.clap.specs.declared.builder.action.ArgAction.TheVariants.{Set, SetTrue}
+use Rattle.tre_words.specs.Job.{SaysJob}
+use Rattle.tre_words.specs.declared.job.Job.{Job}
 
 -- a flag, as `--show`
 abbrev pub flag_rule : Text → Rule
@@ -44,3 +46,12 @@ command_line =
     ∷ option_rule (codes "define")
     ∷ operand_rule (codes "EXPR")
     ∷ [])
+
+-- what `clap` finds for each option
+abbrev pub found_in : List Row → Text → Option Text
+found_in rows name = first_of name rows
+
+-- What `clap` finds is this job.
+pub record FindsJob (rows : List Row) (job : Job) : Type 0 where
+  pub says : SaysJob (found_in rows) job
+  pub expr : first_of (codes "EXPR") rows ≡ Some job.expr

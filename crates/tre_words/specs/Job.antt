@@ -3,10 +3,9 @@ use Rattle.std.specs.Prelude.{◌≡◌, ◌≢◌, ℕ, ◌≤◌, nat_le, Bool
 use Rattle.std.specs.Option.{option_map_or, option_or}
 use Rattle.std.specs.Str.{bytes_eq}
 use Rattle.std.specs.Str.Parse.{digits_value}
-use Rattle.clap.specs.Words.{Row, Text, fault_of, first_of, matches_of}
 use Rattle.tre_decimal.specs.Decimal.{is_numeral}
 use Rattle.tre_decimal.specs.declared.TheConstants.{SCALE_MAX}
-use Rattle.tre_words.specs.CommandLine.{command_line}
+use Rattle.tre_words.specs.Settings.{AreTyped, Setting, Text, Types, said}
 use Rattle.tre_words.specs.declared.job.TheConstants.{COUNT_MAX, LIMIT_MAX, LIMIT_DEFAULT}
 use Rattle.tre_words.specs.declared.job.Format.{Format}
 use Rattle.tre_words.specs.declared.job.Format.TheVariants.{Text as TextFormat, Vcd, Csv}
@@ -57,15 +56,19 @@ plain_job mode input expr = record {
 
 -- ---- what the values of the options say
 
--- the flag stands among the words
-abbrev pub is_given : Text → List Row → Bool
-is_given name rows = option_map_or (λ text. bytes_eq text (codes "true")) (first_of name rows) false
+-- what is said of each option
+abbrev pub Says : Type 0
+Says = Text → Option Text
+
+-- the flag is given
+abbrev pub is_given : Text → Says → Bool
+is_given name says = option_map_or (λ text. bytes_eq text (codes "true")) (says name) false
 
 -- `--show` counts where both flags are given
-abbrev pub mode_in : List Row → Mode
-mode_in rows =
-    if is_given (codes "show") rows then Show
-    else (if is_given (codes "online") rows then Online else Offline)
+abbrev pub mode_in : Says → Mode
+mode_in says =
+    if is_given (codes "show") says then Show
+    else (if is_given (codes "online") says then Online else Offline)
 
 abbrev pub format_named : Text → Option Format
 format_named text =
@@ -80,48 +83,42 @@ number_written least most text =
     && (nat_le least (digits_value 10 text) && nat_le (digits_value 10 text) most)
     then Some (digits_value 10 text) else None
 
--- What the values of the options say is this job.
-pub record SaysJob (rows : List Row) (job : Job) : Type 0 where
-  pub mode : mode_in rows ≡ job.mode
-  pub format : option_and_then format_named (first_of (codes "format") rows) ≡ Some job.format
-  pub input : first_of (codes "input") rows ≡ Some job.input
+-- What is said of the options is this job, but for its text.
+pub record SaysJob (says : Says) (job : Job) : Type 0 where
+  pub mode : mode_in says ≡ job.mode
+  pub format : option_and_then format_named (says (codes "format")) ≡ Some job.format
+  pub input : says (codes "input") ≡ Some job.input
   pub max_bytes :
-      option_and_then (number_written 1 LIMIT_MAX) (first_of (codes "max-bytes") rows)
-      ≡ Some job.max_bytes
+      option_and_then (number_written 1 LIMIT_MAX) (says (codes "max-bytes")) ≡ Some job.max_bytes
   pub scale :
-      option_and_then (number_written 0 SCALE_MAX) (first_of (codes "scale") rows)
-      ≡ Some job.scale
-  pub normal : is_given (codes "normal") rows ≡ job.normal
+      option_and_then (number_written 0 SCALE_MAX) (says (codes "scale")) ≡ Some job.scale
+  pub normal : is_given (codes "normal") says ≡ job.normal
   pub max_zones :
-      option_map (number_written 0 LIMIT_MAX) (first_of (codes "max-zones") rows)
+      option_map (number_written 0 LIMIT_MAX) (says (codes "max-zones"))
       ≡ option_map Some job.max_zones
-  pub minus : first_of (codes "minus") rows ≡ job.minus
-  pub lets : option_or (first_of (codes "let") rows) (first_of (codes "define") rows) ≡ job.lets
-  pub expr : first_of (codes "EXPR") rows ≡ Some job.expr
+  pub minus : says (codes "minus") ≡ job.minus
+  pub lets : option_or (says (codes "let")) (says (codes "define")) ≡ job.lets
 
 -- Names are defined only as the format has them: by its columns with `--let`, or by the signals of
 -- a dump with `--define`.
-pub record DefinesFor (format : Format) (rows : List Row) : Type 0 where
-  pub columns : format ≢ Csv → first_of (codes "let") rows ≡ None
-  pub signals : format ≢ Vcd → first_of (codes "define") rows ≡ None
+pub record DefinesFor (format : Format) (says : Says) : Type 0 where
+  pub columns : format ≢ Csv → says (codes "let") ≡ None
+  pub signals : format ≢ Vcd → says (codes "define") ≡ None
 
--- What these values say may stand so. Columns stand beside no `--online`, also where `--show`
--- counts.
-abbrev pub MayStand : List Row → Job → Type 0
-MayStand rows job =
-    StandsTogether job × (job.format ≡ Csv → is_given (codes "online") rows ≡ false)
-    × DefinesFor job.format rows
+-- What is said may stand so. Columns stand beside no `--online`, also where `--show` counts.
+abbrev pub MayStand : Says → Job → Type 0
+MayStand says job =
+    StandsTogether job × (job.format ≡ Csv → is_given (codes "online") says ≡ false)
+    × DefinesFor job.format says
 
--- Words that are options and a pattern's text give this job: `clap` has no fault of its own for
--- them, the values of the options that it finds say this job, and it may stand so. Columns stand
--- beside no `--online`, also where `--show` counts.
+-- Words that are options, each once, and a pattern's text give this job: what the options say is the
+-- job, and may stand so.
 pub record GivesPlain (words : List Text) (job : Job) : Type 0 where
-  pub faultless : fault_of command_line words ≡ []
-  pub says : SaysJob (matches_of command_line words) job
-  pub together : StandsTogether job
-  pub offline :
-      job.format ≡ Csv → is_given (codes "online") (matches_of command_line words) ≡ false
-  pub defines : DefinesFor job.format (matches_of command_line words)
+  pub settings : List Setting
+  pub typed : AreTyped settings
+  pub types : Types words settings job.expr
+  pub says : SaysJob (said settings) job
+  pub stands : MayStand (said settings) job
 
 -- ---- watches
 

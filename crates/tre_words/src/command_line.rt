@@ -1,7 +1,7 @@
 // The command line as `clap` sees it, and what `clap` finds in words.
 ghost use Rattle.std.specs.Prelude.{◌≡◌, ◌≢◌, map, string_bytes, IfOk, OnOk, IsErrOf, IfSome, IfNone, Some, None, [], false};
 ghost use Rattle.clap.specs.Words.{app_of, rule_of, found_of, rows_of, matches_of, fault_of, first_of};
-ghost use Rattle.tre_words.specs.CommandLine.{flag_rule, option_rule, default_rule, operand_rule, command_line};
+ghost use Rattle.tre_words.specs.CommandLine.{flag_rule, option_rule, default_rule, operand_rule, command_line, found_in};
 ghost use Rattle.tre_words.specs.Job.{is_given};
 
 use crate::job::WordsFault;
@@ -101,7 +101,7 @@ pub(crate) fn value_of<'a>(matches: &ArgMatches<'a>, name: &str) -> Option<&'a s
 }
 
 pub(crate) fn is_given(matches: &ArgMatches, name: &str) -> bool
-    ensures { result ≡ is_given name.now (rows_of (found_of matches.now)) }
+    ensures { result ≡ is_given name.now (found_in (rows_of (found_of matches.now))) }
 {
     match value_of(matches, name) {
         Some(text) => text == "true",

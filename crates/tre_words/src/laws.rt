@@ -1,11 +1,7 @@
 //! Laws of the words of a command line, each as a function whose contract it is.
 
-ghost use Rattle.std.specs.Prelude.{◌≡◌, ◌≢◌, ◌∷◌, ◌++◌, ℕ, true, List, [], Some, codes};
-ghost use Rattle.std.specs.Option.{option_or};
-ghost use Rattle.clap.specs.Words.{fault_of, first_of, matches_of};
-ghost use Rattle.tre_words.specs.CommandLine.{command_line};
+ghost use Rattle.std.specs.Prelude.{◌≡◌, ◌∷◌, true, ℕ, List, [], Some, codes};
 ghost use Rattle.tre_words.specs.Job.{IsJob, GivesJob, GivesNoJob, plain_job, watch_job};
-ghost use Rattle.tre_words.specs.Settings.{Setting, Types, default_of, value_in};
 ghost use Rattle.tre_words.specs.declared.job.Format.TheVariants.{Csv, Vcd};
 ghost use Rattle.tre_words.specs.declared.job.Job.{Job};
 ghost use Rattle.tre_words.specs.declared.job.Mode.TheVariants.{Offline, Online};
@@ -22,17 +18,16 @@ pub fn given_is_job()
     ensures { (words : List (List ℕ)) (job : Job) → GivesJob words job → IsJob job }
 {}
 
-/// Words as they are typed: the job of some, and that `clap` has a fault of others.
+/// Words as they are typed: the job of some, and that others give none.
 pub fn typed_words()
     ensures pattern { GivesJob (codes "p" ∷ []) (plain_job Offline (codes "-") (codes "p")) }
     ensures online { GivesJob (codes "--online" ∷ codes "p" ∷ [])
         (plain_job Online (codes "-") (codes "p")) }
     ensures dashes { GivesJob (codes "--input=a" ∷ codes "--" ∷ codes "-p" ∷ [])
         (plain_job Offline (codes "a") (codes "-p")) }
-    ensures no_words { fault_of command_line [] ≢ [] }
-    ensures two_patterns { fault_of command_line (codes "p" ∷ codes "q" ∷ []) ≢ [] }
-    ensures flag_twice { fault_of command_line
-        (codes "--online" ∷ codes "--online" ∷ codes "p" ∷ []) ≢ [] }
+    ensures no_words { GivesNoJob [] }
+    ensures two_patterns { GivesNoJob (codes "p" ∷ codes "q" ∷ []) }
+    ensures flag_twice { GivesNoJob (codes "--online" ∷ codes "--online" ∷ codes "p" ∷ []) }
 {}
 
 /// Options as they are typed.
@@ -96,29 +91,4 @@ pub fn watches_refused()
         (codes "--watch" ∷ codes "--format" ∷ codes "csv" ∷ codes "f" ∷ []) }
     ensures both_standard_input { GivesNoJob (codes "--watch" ∷ codes "-" ∷ []) }
     ensures made_run { GivesNoJob (codes "--watch" ∷ codes "--generate" ∷ codes "5" ∷ []) }
-{}
-
-/// Texts that are whatever they are: the values of options, and what stands behind `--`.
-pub fn any_values()
-    ensures behind { (input text : List ℕ) →
-        GivesJob ((codes "--input=" ++ input) ∷ codes "--" ∷ text ∷ [])
-        (plain_job Offline input text) }
-    ensures two { (input minus text : List ℕ) →
-        GivesJob ((codes "--minus=" ++ minus) ∷ codes "--format=vcd"
-        ∷ (codes "--input=" ++ input) ∷ codes "--" ∷ text ∷ [])
-        (record (plain_job Offline input text) { minus = Some minus; format = Vcd }) }
-{}
-
-/// Options in any order, each once, and among them a word that is no option: `clap` has no fault
-/// of them, and finds what they say.
-pub fn typed_settings()
-    ensures faultless { (before after : List Setting) (text : List ℕ) (words : List (List ℕ)) →
-        Types before after text words → fault_of command_line words ≡ [] }
-    ensures text { (before after : List Setting) (text : List ℕ) (words : List (List ℕ)) →
-        Types before after text words →
-        first_of (codes "EXPR") (matches_of command_line words) ≡ Some text }
-    ensures values { (before after : List Setting) (text : List ℕ) (words : List (List ℕ)) →
-        Types before after text words → (name : List ℕ) → name ≢ codes "EXPR" →
-        first_of name (matches_of command_line words)
-        ≡ option_or (value_in name (before ++ after)) (default_of name) }
 {}

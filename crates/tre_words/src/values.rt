@@ -3,7 +3,8 @@ ghost use Rattle.std.specs.Prelude.{◌≡◌, ◌≤◌, ◌<◌, ◌^◌, ◌-
 ghost use Rattle.std.specs.Option.{option_or};
 ghost use Rattle.clap.specs.Words.{found_of, rows_of, first_of};
 ghost use Rattle.tre_decimal.specs.declared.TheConstants.{SCALE_MAX};
-ghost use Rattle.tre_words.specs.Job.{mode_in, format_named, number_written, SaysJob};
+ghost use Rattle.tre_words.specs.CommandLine.{found_in, FindsJob};
+ghost use Rattle.tre_words.specs.Job.{mode_in, format_named, number_written};
 ghost use Rattle.tre_words.specs.declared.job.Job.{Job};
 
 use crate::command_line::{is_given, value_of};
@@ -13,7 +14,7 @@ use std::alloc::{AllocError, Global};
 use tre_decimal::{SCALE_MAX, read_numeral};
 
 fn mode_in(matches: &ArgMatches) -> Mode
-    ensures { result ≡ mode_in (rows_of (found_of matches.now)) }
+    ensures { result ≡ mode_in (found_in (rows_of (found_of matches.now))) }
 {
     if is_given(matches, "show") {
         return Mode::Show;
@@ -114,9 +115,9 @@ fn lets_in(alloc: Global, matches: &ArgMatches) -> Result<Option<Word>, AllocErr
 
 // The job that the values of the options say, where they say one.
 pub(crate) fn job_in(alloc: Global, matches: &ArgMatches) -> Result<Job, WordsFault>
-    ensures ok { IfOk result (SaysJob (rows_of (found_of matches.now))) }
+    ensures ok { IfOk result (FindsJob (rows_of (found_of matches.now))) }
     ensures usage { IsErrOf result WordsFault.Usage →
-        (job : Job) → SaysJob (rows_of (found_of matches.now)) job → ⊥ }
+        (job : Job) → FindsJob (rows_of (found_of matches.now)) job → ⊥ }
 {
     let Some(format) = format_in(matches) else {
         return Err(WordsFault::Usage);

@@ -1,7 +1,8 @@
 // The words of the command line.
 ghost use Rattle.std.specs.Prelude.{◌≡◌, ◌↔◌, map, string_bytes, IfOk, IsErrOf, Some, None, true, false, codes, option_map};
 ghost use Rattle.clap.specs.Words.{found_of, rows_of};
-ghost use Rattle.tre_words.specs.Job.{begins_with, is_given, made_count, made_job, watch_job, DefinesFor, StandsTogether, MayStand, IsJob, MayWatch, SaysJob, GivesPlain, GivesWatch, GivesJob, GivesNoJob};
+ghost use Rattle.tre_words.specs.CommandLine.{found_in, FindsJob};
+ghost use Rattle.tre_words.specs.Job.{begins_with, is_given, made_count, made_job, watch_job, DefinesFor, StandsTogether, MayStand, IsJob, MayWatch, GivesPlain, GivesWatch, GivesJob, GivesNoJob};
 ghost use Rattle.tre_words.specs.declared.job.Format.TheVariants.{Csv};
 ghost use Rattle.tre_words.specs.declared.job.Job.{Job};
 
@@ -31,7 +32,7 @@ fn stands_together(job: &Job) -> bool
 
 // Whether names are defined only as the format has them.
 fn defines_for(format: Format, matches: &ArgMatches) -> bool
-    ensures { result ≡ true ↔ DefinesFor format (rows_of (found_of matches.now)) }
+    ensures { result ≡ true ↔ DefinesFor format (found_in (rows_of (found_of matches.now))) }
 {
     if format != Format::Csv && value_of(matches, "let").is_some() {
         return false;
@@ -41,7 +42,7 @@ fn defines_for(format: Format, matches: &ArgMatches) -> bool
 
 // Whether what the values of the options say may stand so.
 fn may_stand(matches: &ArgMatches, job: &Job) -> bool
-    ensures { result ≡ true ↔ MayStand (rows_of (found_of matches.now)) job.now }
+    ensures { result ≡ true ↔ MayStand (found_in (rows_of (found_of matches.now))) job.now }
 {
     if job.format == Format::Csv && is_given(matches, "online") {
         return false;
@@ -51,11 +52,11 @@ fn may_stand(matches: &ArgMatches, job: &Job) -> bool
 
 // The job that the values of the options say, where it may stand so.
 fn plain_job(alloc: Global, matches: &ArgMatches) -> Result<Job, WordsFault>
-    ensures ok { IfOk result (λ job. SaysJob (rows_of (found_of matches.now)) job
-        × MayStand (rows_of (found_of matches.now)) job) }
+    ensures ok { IfOk result (λ job. FindsJob (rows_of (found_of matches.now)) job
+        × MayStand (found_in (rows_of (found_of matches.now))) job) }
     ensures usage { IsErrOf result WordsFault.Usage → (job : Job) →
-        SaysJob (rows_of (found_of matches.now)) job →
-        ¬ MayStand (rows_of (found_of matches.now)) job }
+        FindsJob (rows_of (found_of matches.now)) job →
+        ¬ MayStand (found_in (rows_of (found_of matches.now))) job }
 {
     let job = job_in(alloc, matches)?;
     if !may_stand(matches, &job) {

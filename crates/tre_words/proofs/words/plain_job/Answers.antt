@@ -1,7 +1,8 @@
 use Rattle.std.proofs.Common.{◌∙◌, true≢false, subst, sym}
 use Rattle.clap.specs.Words.{found_of, rows_of}
+use Rattle.tre_words.specs.CommandLine.{found_in}
 use Rattle.tre_words.specs.Job.{MayStand}
-use Rattle.tre_words.proofs.Jobs.{said_once}
+use Rattle.tre_words.proofs.Jobs.{found_once}
 use Rattle.tre_words.proofs.words.plain_job.Goals as goal
 
 pub returns-clause-ok : goal.returns-clause-ok
@@ -10,8 +11,8 @@ returns-clause-ok c =
 
 pub returns-then-not-may_stand-clause-usage : goal.returns-then-not-may_stand-clause-usage
 returns-then-not-may_stand-clause-usage c = λ usage job says stands.
-    let same = said_once (rows_of (found_of c.args.matches.now)) job c.in_ok-job.job says
+    let same = found_once (rows_of (found_of c.args.matches.now)) job c.in_ok-job.job says
     c.in_ok-job.ensures.ok in
     absurd (true≢false (sym (c.may_stand.ensures.1
-    (subst (MayStand (rows_of (found_of c.args.matches.now))) same stands))
+    (subst (MayStand (found_in (rows_of (found_of c.args.matches.now)))) same stands))
     ∙ c.if-not-may_stand.true))
