@@ -1,6 +1,9 @@
 // The summary of a made trace.
 ghost use Rattle.std.specs.Prelude.{◌≡◌, ◌++◌, ◌≤◌, string_bytes, IfOk, OnOk};
 ghost use Rattle.tre_syntax.specs.Pattern.{pattern_tree};
+ghost use Rattle.tre_offline.specs.MatchSet.{IsMatchSet};
+ghost use Rattle.tre_trace.specs.Trace.{quiet};
+ghost use Rattle.tre_generate.specs.Made.{made_trace};
 ghost use Rattle.tre_generate.specs.Summary.{count_line, share_line, summary_text, IsSummary};
 
 use crate::made::made_trace;
@@ -9,7 +12,9 @@ use crate::told::told_zones;
 use std::alloc::{AllocError, Global};
 use tre_decimal::push_units;
 use tre_offline::matches;
-use tre_syntax::Pattern;
+use tre_syntax::{Pattern, beside};
+use tre_trace::Trace;
+use tre_zoneset::ZoneSet;
 
 /// How many segments a made trace may have.
 pub const SEGMENTS_MAX: u64 = 10_000;
@@ -21,10 +26,41 @@ pub fn summary(alloc: Global, pattern: Pattern, count: u64) -> Result<String, Al
     requires limit { count ≤ SEGMENTS_MAX }
     ensures { IfOk result (λ text. IsSummary (pattern_tree pattern) count (string_bytes text)) }
 {
-    let trace = made_trace(alloc, count)?;
-    let whole = matches(alloc, &pattern, &trace)?;
-    let told = told_zones(alloc, pattern, &trace)?;
-    let tally = count_probes(&trace, &whole, &told);
+    let (trace, pattern) = beside(made_trace(alloc, count), pattern)?;
+    summary_of(alloc, pattern, &trace, count)
+}
+
+fn summary_of(
+    alloc: Global,
+    pattern: Pattern,
+    trace: &Trace,
+    count: u64,
+) -> Result<String, AllocError>
+    requires some { 1 ≤ count }
+    requires limit { count ≤ SEGMENTS_MAX }
+    requires made { trace.now ≡ quiet (made_trace count) }
+    ensures { IfOk result (λ text. IsSummary (pattern_tree pattern) count (string_bytes text)) }
+{
+    let (whole, pattern) = beside(matches(alloc, &pattern, trace), pattern)?;
+    compared(alloc, pattern, trace, &whole, count)
+}
+
+// The summary, once the whole trace is matched.
+fn compared(
+    alloc: Global,
+    pattern: Pattern,
+    trace: &Trace,
+    whole: &ZoneSet,
+    count: u64,
+) -> Result<String, AllocError>
+    requires some { 1 ≤ count }
+    requires limit { count ≤ SEGMENTS_MAX }
+    requires made { trace.now ≡ quiet (made_trace count) }
+    requires matched { IsMatchSet whole.now (pattern_tree pattern) (quiet (made_trace count)) }
+    ensures { IfOk result (λ text. IsSummary (pattern_tree pattern) count (string_bytes text)) }
+{
+    let told = told_zones(alloc, pattern, trace)?;
+    let tally = count_probes(trace, whole, &told);
     let zones = whole.zones().len() as u64;
     summary_text(alloc, count, trace.end(), zones, &tally)
 }
