@@ -8,10 +8,11 @@ use Rattle.tre_parse.specs.declared.lexeme.Lexeme.{Lexeme}
 use Rattle.tre_parse.specs.declared.lexeme.Lexeme.TheVariants.{Blank, Wrong, Name, Number, Sign}
 use Rattle.tre_parse.specs.Lexeme.{lexeme_of, FitsIn}
 use Rattle.tre_parse.specs.Written.{is_white_space}
-use Rattle.tre_syntax.specs.declared.name_kind.NameKind.TheVariants.{Proposition, Event as EventKind}
-use Rattle.tre_parse.specs.Tokens.{RawToken, name, number, RawTokenAt, with_events, names_in, token_of}
-use Rattle.tre_parse.specs.Scanned.{RawTokens, raw_tokens_from, scanned, with_raw_token, raw_tokens_of, bad_byte, words_of, names_of}
-use Rattle.tre_parse.specs.TokenGrammar.{expr, Spells}
+use Rattle.tre_parse.specs.Tokens.{RawToken, name, number, RawTokenAt}
+use Rattle.tre_parse.specs.Known.{Known, nothing_known, next_token, known_after, tokens_from, names_from}
+use Rattle.tre_parse.specs.Scanned.{RawTokens, raw_tokens_from, scanned, with_raw_token, raw_tokens_of, bad_byte}
+use Rattle.tre_parse.specs.TokenWords.{words_for}
+use Rattle.tre_parse.specs.Grammar.{expr, Spells}
 use Rattle.tre_parse.specs.ScannedOutcome.{IsScannedSpelling}
 use Rattle.tre_parse.specs.Blanks.{counted_on, SaysAs}
 use Rattle.tre_parse.proofs.Fronts.{take_front, lexeme_front, lexeme_fits}
@@ -140,17 +141,39 @@ record SaySame (one other : RawTokens) : Type 0 where
   words : said one ≡ said other
   bad : is_none one.bad ≡ is_none other.bad
 
+-- Raw tokens that say the same have the same tokens and names.
+same_tokens : (scale : ℕ) (known : Known) (one other : List RawTokenAt)
+    → map (λ raw. raw.word) one ≡ map (λ raw. raw.word) other
+    → tokens_from scale known one ≡ tokens_from scale known other
+same_tokens scale known [] [] e = refl
+same_tokens scale known [] (y ∷ ys) e = absurd (cc)
+same_tokens scale known (x ∷ xs) [] e = absurd (cc)
+same_tokens scale known (x ∷ xs) (y ∷ ys) e =
+    let same : x.word ≡ y.word = cc in
+    let more : map (λ raw. raw.word) xs ≡ map (λ raw. raw.word) ys = cc in
+    ap (λ w. next_token scale known w ∷ tokens_from scale (known_after known w) xs) same
+    ∙ ap (λ l. next_token scale known y.word ∷ l)
+    (same_tokens scale (known_after known y.word) xs ys more)
+
+same_names : (known : Known) (one other : List RawTokenAt)
+    → map (λ raw. raw.word) one ≡ map (λ raw. raw.word) other
+    → names_from known one ≡ names_from known other
+same_names known [] [] e = refl
+same_names known [] (y ∷ ys) e = absurd (cc)
+same_names known (x ∷ xs) [] e = absurd (cc)
+same_names known (x ∷ xs) (y ∷ ys) e =
+    let same : x.word ≡ y.word = cc in
+    let more : map (λ raw. raw.word) xs ≡ map (λ raw. raw.word) ys = cc in
+    ap (λ w. names_from (known_after known w) xs) same
+    ∙ same_names (known_after known y.word) xs ys more
+
 same_text : (text other : List ℕ) (words others : RawTokens) → raw_tokens_from 0 0 text ≡ words
     → raw_tokens_from 0 0 other ≡ others → SaySame words others → SaysAs text other
 same_text text other words others e f same =
-    let says : words_of text ≡ words_of other =
-    ap with_events (ap said e ∙ same.words ∙ sym (ap said f)) in
-    let names : names_of text ≡ names_of other = ap
-    (λ l. record { names = names_in Proposition l; events = names_in EventKind l }) says in
+    let says = ap said e ∙ same.words ∙ sym (ap said f) in
     record {
-      tokens = λ scale. ap (map (token_of scale (names_of text))) says
-          ∙ ap (λ known. map (token_of scale known) (words_of other)) names;
-      names = names;
+      tokens = λ scale. same_tokens scale nothing_known _ _ says;
+      names = same_names nothing_known _ _ says;
       bad = ap (λ (l : RawTokens). is_none l.bad) e ∙ same.bad
           ∙ ap (λ (l : RawTokens). is_none l.bad) (sym f);
     }
@@ -237,7 +260,7 @@ same_spelling : (scale : ℕ) (text other : List ℕ) (tree : PatternTree) (name
     → IsScannedSpelling scale other tree names
 same_spelling scale text other tree names same spelling = record {
   tokens_alone = none_same (bad_byte text) (bad_byte other) same.bad spelling.tokens_alone;
-  spells = subst (λ tokens. Spells expr tokens tree) (same.tokens scale) spelling.spells;
+  spells = subst (λ tokens. Spells expr (words_for tokens) tree) (same.tokens scale) spelling.spells;
   numbered = spelling.numbered ∙ same.names;
 }
 

@@ -12,8 +12,11 @@ use Rattle.tre_parse.specs.declared.fault.ParseFault.{ParseFault}
 use Rattle.tre_parse.specs.declared.fault.ParseFault.TheVariants.{Syntax, EmptyInterval}
 use Rattle.tre_parse.specs.Reader.{Reading, got, stop}
 use Rattle.tre_parse.specs.Outcome.{Outcome, spelt, refused, IsOutcome}
-use Rattle.tre_parse.specs.TokenOutcome.{TextTokens, offset_of, limit_fault, size_fault, HasEmptyAt, IsFirstEmpty, IsOutcomeOfTree, IsOutcomeOfTokens}
-use Rattle.tre_parse.specs.ScannedOutcome.{text_tokens_of, byte_fault, IsScannedOutcome}
+use Rattle.tre_parse.specs.Outcome.{HasEmptyAt}
+use Rattle.tre_parse.specs.Grammar.{Words}
+use Rattle.tre_parse.specs.TokenWords.{word_of, words_for}
+use Rattle.std.proofs.lemmas.List.{length-map}
+use Rattle.tre_parse.specs.ScannedOutcome.{TextTokens, offset_of, limit_fault, size_fault, IsFirstEmpty, IsOutcomeOfTree, IsOutcomeOfTokens, text_tokens_of, byte_fault, IsScannedOutcome}
 use Rattle.tre_parse.proofs.Agreement.{outcome_meant}
 use Rattle.tre_parse.specs.Unkept.{NoneEmptyBefore}
 use Rattle.tre_parse.proofs.Empties.{interval_from, stands, stands_empty, stands_read, read_stands, none_before_one, none_before_more, none_empty}
@@ -74,40 +77,40 @@ percent_or _ = inr (λ e. (cc))
 
 -- Whether an empty interval stands right after a place.
 here_or : (tokens : List Token) (place : ℕ) → place < length tokens
-    → Decided (HasEmptyAt tokens (place + 1))
+    → Decided (HasEmptyAt (words_for tokens) (place + 1))
 here_or tokens place lt = after (percent_or (get_or tokens place Percent))
   where
     judge : get_or tokens place Percent ≡ Percent → (ends : IntervalEnds)
         → interval_from (drop (place + 1) tokens) ≡ Some ends
-        → Decided (HasNoDuration ends) → Decided (HasEmptyAt tokens (place + 1))
-    judge e ends q (inl empty) = inl (stands_empty tokens (place + 1) ends
+        → Decided (HasNoDuration ends) → Decided (HasEmptyAt (words_for tokens) (place + 1))
+    judge e ends q (inl empty) = inl (stands_empty (words_for tokens) (place + 1) ends
         (read_stands tokens place ends Percent lt e q) empty)
     judge e ends q (inr lasts) =
         inr (λ k.
-        let s = (stands_read tokens place k.ends Percent lt (stands tokens (place + 1) k)).1 in
+        let s = (stands_read tokens place k.ends Percent lt (stands (words_for tokens) (place + 1) k)).1 in
         let same : k.ends ≡ ends = cc in
         let P = λ (i : IntervalEnds). HasNoDuration i in
         lasts (subst P same k.empty))
 
     read : get_or tokens place Percent ≡ Percent → (made : Option IntervalEnds)
         → interval_from (drop (place + 1) tokens) ≡ made
-        → Decided (HasEmptyAt tokens (place + 1))
+        → Decided (HasEmptyAt (words_for tokens) (place + 1))
     read e None q = inr (λ k.
-        let s = (stands_read tokens place k.ends Percent lt (stands tokens (place + 1) k)).1 in
+        let s = (stands_read tokens place k.ends Percent lt (stands (words_for tokens) (place + 1) k)).1 in
         (cc))
     read e (Some ends) q = judge e ends q (empty_or ends)
 
     after : Decided (get_or tokens place Percent ≡ Percent)
-        → Decided (HasEmptyAt tokens (place + 1))
+        → Decided (HasEmptyAt (words_for tokens) (place + 1))
     after (inl e) = read e (interval_from (drop (place + 1) tokens)) refl
     after (inr never) = inr (λ k. never
-        (stands_read tokens place k.ends Percent lt (stands tokens (place + 1) k)).0)
+        (stands_read tokens place k.ends Percent lt (stands (words_for tokens) (place + 1) k)).0)
 
 -- The first empty interval that stands no further than a place, or that there is none.
-abbrev FirstOr : List Token → ℕ → Type 0
+abbrev FirstOr : Words → ℕ → Type 0
 FirstOr tokens n = ((place : ℕ) × IsFirstEmpty tokens place) ⊎ NoneEmptyBefore tokens (n + 1)
 
-further : (tokens : List Token) (n : ℕ) → n < length tokens → FirstOr tokens n
+further : (tokens : Words) (n : ℕ) → n < length tokens → FirstOr tokens n
     → Decided (HasEmptyAt tokens (n + 1)) → FirstOr tokens (suc n)
 further tokens n lt (inl k) here = inl k
 further tokens n lt (inr none) (inl k) = inl (n + 1, (k, none))
@@ -116,25 +119,29 @@ further tokens n lt (inr none) (inr never) =
     let e : n + 1 + 1 ≡ suc n + 1 = omega arith in
     inr (subst P e (none_before_more tokens n none never))
 
-first_or : (tokens : List Token) (n : ℕ) → n ≤ length tokens → FirstOr tokens n
-first_or tokens zero le = inr (none_before_one tokens)
+first_or : (tokens : List Token) (n : ℕ) → n ≤ length tokens → FirstOr (words_for tokens) n
+first_or tokens zero le = inr (none_before_one (words_for tokens))
 first_or tokens (suc n) le =
     let lt : n < length tokens = omega arith in
-    further tokens n lt (first_or tokens n (omega arith)) (here_or tokens n lt)
+    further (words_for tokens) n (omega (arith, length-map tokens word_of)) (first_or tokens n (omega arith)) (here_or tokens n lt)
 
 fault_or : (made : Option ParseFault) (Rest : Outcome → Type 0) → (outcome : Outcome) × Rest outcome
     → (outcome : Outcome) × MatchOption made (Rest outcome) (λ fault. outcome ≡ refused fault)
 fault_or None Rest rest = rest
 fault_or (Some fault) Rest rest = (refused fault, refl)
 
-judged_as : (words : TextTokens) (tree : PatternTree) → FirstOr words.tokens (length words.tokens)
+judged_as : (words : TextTokens) (tree : PatternTree) → FirstOr (words_for words.tokens) (length words.tokens)
     → (outcome : Outcome) × IsOutcomeOfTree words tree outcome
-judged_as words tree (inl k) = (refused (EmptyInterval (offset_of words k.0)), inl (k.0, k.1, refl))
+judged_as words tree (inl k) = (refused (EmptyInterval (offset_of words k.0)), inl (k.0, k.1.0, k.1.1, refl))
 judged_as words tree (inr none) =
     let judged = fault_or (size_fault words tree) (λ outcome. outcome ≡ spelt tree words.names)
     (spelt tree words.names, refl) in (
       judged.0,
-      inr (none_empty words.tokens (length words.tokens) (omega arith) none, judged.1),
+      inr (
+        none_empty (words_for words.tokens) (length words.tokens)
+            (omega (arith, length-map words.tokens word_of)) none,
+        judged.1,
+      ),
     )
 
 cut_as : (words : TextTokens) → IsCut (read_whole words.tokens)

@@ -12,11 +12,11 @@ use Rattle.tre_parse.specs.declared.limits.TheConstants.{TEXT_MAX, COUNT_MAX}
 use Rattle.tre_syntax.specs.Pattern.{pattern_tree, names_of}
 use Rattle.tre_syntax.specs.PatternTree.{PatternTree, node_count, IsNumbered}
 use Rattle.tre_parse.specs.declared.fault.ParseFault.{ParseFault}
-use Rattle.tre_parse.specs.declared.fault.ParseFault.TheVariants.{TooLong, Number, EmptyInterval, TooManyNames, TooLarge, Syntax as Mistaken, Memory}
+use Rattle.tre_parse.specs.declared.fault.ParseFault.TheVariants.{TooLong, Number, TooDeep, EmptyInterval, TooManyNames, TooLarge, Syntax as Mistaken, Memory}
 use Rattle.tre_parse.specs.Operands.{Operand, Represents, HasFineIntervals}
 use Rattle.tre_parse.specs.declared.token.Token.{Token}
 use Rattle.tre_parse.specs.declared.scan.Scan.{Scan}
-use Rattle.tre_parse.specs.TokenGrammar.{expr, Spells}
+use Rattle.tre_parse.specs.Grammar.{expr, Spells}
 use Rattle.tre_parse.specs.Reader.{got}
 use Rattle.tre_parse.specs.Reading.{ReadingGoes, Stops}
 use Rattle.tre_parse.proofs.Fixpoint.{left}
@@ -33,11 +33,12 @@ use Rattle.tre_parse.specs.Scan.{placed_from, IsBadByte, IsScan}
 use Rattle.tre_parse.specs.Front.{tokens_in, offsets_in}
 use Rattle.tre_parse.specs.Numbering.{IsNumberedByUse}
 use Rattle.tre_parse.specs.Outcome.{Outcome, spelt, refused}
-use Rattle.tre_parse.specs.TokenOutcome.{TextTokens, offset_of, is_big, is_past, deep_place, limit_fault, size_fault, IsFirstEmpty, IsOutcomeOfTokens}
-use Rattle.tre_parse.specs.ScannedOutcome.{text_tokens_of, byte_fault, IsScannedOutcome}
+use Rattle.tre_parse.specs.Outcome.{is_big, is_past, deep_place}
+use Rattle.tre_parse.specs.TokenWords.{word_of, words_for}
+use Rattle.std.proofs.lemmas.List.{length-map}
+use Rattle.tre_parse.specs.ScannedOutcome.{TextTokens, offset_of, limit_fault, size_fault, IsFirstEmpty, IsOutcomeOfTokens, text_tokens_of, byte_fault, IsScannedOutcome}
 use Rattle.tre_parse.specs.Answers.{Answers, text_tokens_in, IsFaultOf, IsOutcomeWithin}
 use Rattle.tre_parse.proofs.Numbers.{counts_alike}
-use Rattle.tre_parse.proofs.Named.{names_run, tokens_run}
 use Rattle.tre_parse.proofs.NumberedWords.{text_numbered}
 use Rattle.tre_parse.proofs.Fine.{none_big, stand_fine, fine_intervals}
 use Rattle.tre_parse.specs.Unkept.{NoneEmpty, FindsUpTo}
@@ -47,7 +48,7 @@ use Rattle.tre_parse.proofs.Outcomes.{scanned_once}
 -- What was read stands for the expression that the tokens spell.
 pub record IsRepresented (words : TextTokens) (operand : Operand) : Type 0 where
   pub tree : PatternTree
-  pub spells : Spells expr words.tokens tree
+  pub spells : Spells expr (words_for words.tokens) tree
   pub represents : Represents operand tree
 
 along_none : (made : Option ParseFault) (P : Type 0) (Q : ParseFault → Type 0) → made ≡ None → P
@@ -94,42 +95,44 @@ first_none : (words : TextTokens) (place : Option ℕ) (later : Option ParseFaul
 first_none words None later e = refl
 first_none words (Some at) later e = absurd (cc)
 
-pub no_big : (words : TextTokens) → limit_fault words ≡ None → position is_big words.tokens ≡ None
-no_big words e = first_none words (position is_big words.tokens) _ e
+pub no_big : (words : TextTokens) → limit_fault words ≡ None → position is_big (words_for words.tokens) ≡ None
+no_big words e = first_none words (position is_big (words_for words.tokens)) _ e
 
 -- What was found while the tokens were read is their first empty interval.
 pub none_found : (words : TextTokens) (operand : Operand) → limit_fault words ≡ None
-    → FindsUpTo words.tokens [] operand.unkept → operand.unkept ≡ None → NoneEmpty words.tokens
-none_found words operand e k none = subst (IsFound words.tokens) none
+    → FindsUpTo words.tokens [] operand.unkept → operand.unkept ≡ None → NoneEmpty (words_for words.tokens)
+none_found words operand e k none = subst (IsFound (words_for words.tokens)) none
     (finds_first words.tokens operand.unkept (no_big words e) k)
 
 pub first_found : (words : TextTokens) (operand : Operand) (left : ℕ) → limit_fault words ≡ None
     → FindsUpTo words.tokens [] operand.unkept → operand.unkept ≡ Some left
-    → IsFirstEmpty words.tokens (length words.tokens - left)
-first_found words operand left e k some = subst (IsFound words.tokens) some
-    (finds_first words.tokens operand.unkept (no_big words e) k)
+    → IsFirstEmpty (words_for words.tokens) (length words.tokens - left)
+first_found words operand left e k some =
+    subst (λ n. IsFirstEmpty (words_for words.tokens) (n - left)) (length-map words.tokens word_of)
+    (subst (IsFound (words_for words.tokens)) some
+    (finds_first words.tokens operand.unkept (no_big words e) k))
 
 -- The limits of an expression that is spelt.
 
 judged : (words : TextTokens) (operand : Operand) (outcome : Outcome) → limit_fault words ≡ None
-    → (w : IsRepresented words operand) → NoneEmpty words.tokens →
+    → (w : IsRepresented words operand) → NoneEmpty (words_for words.tokens) →
     MatchOption (size_fault words w.tree) (outcome ≡ spelt w.tree words.names)
     (λ fault. outcome ≡ refused fault) → IsOutcomeWithin words outcome
 judged words operand outcome e w h q = search rules
 
 pub empty_outcome : (words : TextTokens) (operand : Operand) (place at : ℕ) → limit_fault words
-    ≡ None → IsRepresented words operand → IsFirstEmpty words.tokens place → at
+    ≡ None → IsRepresented words operand → IsFirstEmpty (words_for words.tokens) place → at
     ≡ offset_of words place → IsOutcomeWithin words (refused (EmptyInterval at))
 empty_outcome words operand place at e w h q = search rules
 
 -- A name too many, where one is.
 past_first : (words : TextTokens) (tree : PatternTree) (place : ℕ)
-    → position is_past words.tokens ≡ Some place
+    → position is_past (words_for words.tokens) ≡ Some place
     → size_fault words tree ≡ Some (TooManyNames (offset_of words place))
 past_first words tree place e = search rules
 
 -- Without one, the nodes.
-nodes_next : (words : TextTokens) (tree : PatternTree) → position is_past words.tokens ≡ None
+nodes_next : (words : TextTokens) (tree : PatternTree) → position is_past (words_for words.tokens) ≡ None
     → size_fault words tree ≡ (if nat_lt NODES_MAX (node_count tree) then Some (TooLarge (min
     (node_count tree) COUNT_MAX)) else None)
 nodes_next words tree e = search rules
@@ -139,10 +142,13 @@ along_some : (made : Option ParseFault) (P : Type 0) (Q : ParseFault → Type 0)
 along_some made P Q fault e h = search rules
 
 pub past_outcome : (words : TextTokens) (operand : Operand) (place at : ℕ) → limit_fault words
-    ≡ None → IsRepresented words operand → NoneEmpty words.tokens
-    → position is_past words.tokens ≡ Some place → at ≡ offset_of words place →
+    ≡ None → IsRepresented words operand → NoneEmpty (words_for words.tokens)
+    → position is_past (words_for words.tokens) ≡ Some place → at ≡ offset_of words place →
     IsOutcomeWithin words (refused (TooManyNames at))
-past_outcome words operand place at e w h q same = search rules
+past_outcome words operand place at e w h q same =
+    judged words operand (refused (TooManyNames at)) e w h
+    (along_some (size_fault words w.tree) _ _ (TooManyNames (offset_of words place))
+    (past_first words w.tree place q) (ap (λ n. refused (TooManyNames n)) same))
 
 size_large : (is : Bool) (n : ℕ) → nat_lt NODES_MAX n ≡ is → NODES_MAX < n
     → (if is then Some (TooLarge (min n COUNT_MAX)) else None)
@@ -156,7 +162,7 @@ size_small true n large t le = absurd (grind (arith, nat_tests))
 size_small false n large t le = refl
 
 pub large_outcome : (words : TextTokens) (operand : Operand) (nodes : ℕ) → limit_fault words ≡ None
-    → IsRepresented words operand → NoneEmpty words.tokens → position is_past words.tokens ≡ None
+    → IsRepresented words operand → NoneEmpty (words_for words.tokens) → position is_past (words_for words.tokens) ≡ None
     → nodes ≡ operand.nodes → NODES_MAX < nodes →
     IsOutcomeWithin words (refused (TooLarge nodes))
 large_outcome words operand nodes e w h q same lt =
@@ -174,19 +180,43 @@ pub record IsBuildable (names : Vocabulary) (operand : Operand) (tree : PatternT
   pub fine : HasFineIntervals tree
   pub numbered : (kind : NameKind) → IsNumbered kind tree (length (names_of_kind kind names))
 
+-- A number that is too big, or brackets that are too deep.
+pub big_outcome : (words : TextTokens) (place at : ℕ)
+    → position is_big (words_for words.tokens) ≡ Some place → at ≡ offset_of words place
+    → IsOutcomeWithin words (refused (Number at))
+big_outcome words place at q same =
+    let later = option_map (λ p. TooDeep (offset_of words p))
+    (deep_place 0 0 (words_for words.tokens)) in
+    along_some (limit_fault words) _ _ (Number (offset_of words place))
+    (ap (λ (o : Option ℕ). option_or (option_map (λ p. Number (offset_of words p)) o) later) q)
+    (ap (λ n. refused (Number n)) same)
+
+pub deep_outcome : (words : TextTokens) (place at : ℕ)
+    → position is_big (words_for words.tokens) ≡ None
+    → deep_place 0 0 (words_for words.tokens) ≡ Some place → at ≡ offset_of words place
+    → IsOutcomeWithin words (refused (TooDeep at))
+deep_outcome words place at p q same =
+    let made = λ (big deep : Option ℕ). option_or
+    (option_map (λ n. Number (offset_of words n)) big)
+    (option_map (λ n. TooDeep (offset_of words n)) deep) in
+    along_some (limit_fault words) _ _ (TooDeep (offset_of words place))
+    (ap (λ (o : Option ℕ). made o (deep_place 0 0 (words_for words.tokens))) p
+    ∙ ap (λ (o : Option ℕ). made None o) q)
+    (ap (λ n. refused (TooDeep n)) same)
+
 -- What is within all limits can be built, and is the pattern.
 pub is_buildable : (words : TextTokens) (operand : Operand) → limit_fault words ≡ None
-    → (w : IsRepresented words operand) → NoneEmpty words.tokens
-    → position is_past words.tokens ≡ None → operand.nodes ≤ NODES_MAX → IsNumberedByUse words →
+    → (w : IsRepresented words operand) → NoneEmpty (words_for words.tokens)
+    → position is_past (words_for words.tokens) ≡ None → operand.nodes ≤ NODES_MAX → IsNumberedByUse words →
     IsBuildable words.names operand w.tree
 is_buildable words operand e w h q le n =
     let count = w.represents.nodes in
     record {
       represents = w.represents;
       small = omega (arith, count);
-      fine = fine_intervals expr words.tokens w.tree w.spells
-          (stand_fine words.tokens (none_big words.tokens (no_big words e)) h);
-      numbered = λ kind. (counts_alike expr words.tokens w.tree w.spells).alike kind 0
+      fine = fine_intervals expr (words_for words.tokens) w.tree w.spells
+          (stand_fine (words_for words.tokens) (none_big (words_for words.tokens) (no_big words e)) h);
+      numbered = λ kind. (counts_alike expr (words_for words.tokens) w.tree w.spells).alike kind 0
           (length (names_of_kind kind words.names)) (n q kind);
     }
 
@@ -209,7 +239,7 @@ pattern_some names operand tree built b e = search rules
 
 pub spelt_outcome : (words : TextTokens) (operand : Operand) (tree : PatternTree)
     (names : Vocabulary) → limit_fault words ≡ None → (w : IsRepresented words operand)
-    → NoneEmpty words.tokens → position is_past words.tokens ≡ None → operand.nodes ≤ NODES_MAX →
+    → NoneEmpty (words_for words.tokens) → position is_past (words_for words.tokens) ≡ None → operand.nodes ≤ NODES_MAX →
     tree ≡ w.tree → names ≡ words.names → IsOutcomeWithin words (spelt tree names)
 spelt_outcome words operand tree names e w h q le same kept =
     let count = w.represents.nodes in
@@ -249,9 +279,8 @@ pub same_words : (scale : ℕ) (text : List ℕ) (scan : Scan) → IsScan scale 
 same_words scale text scan s =
     let raw_tokens = raw_tokens_of text in
     let z = s.size in
-    let c = s.names ∙ sym (names_run text) in
-    let a = ap tokens_in s.tokens ∙ placed_tokens scale nothing_known raw_tokens
-    ∙ sym (tokens_run scale text) in
+    let c = s.names in
+    let a = ap tokens_in s.tokens ∙ placed_tokens scale nothing_known raw_tokens in
     let b = ap offsets_in s.tokens ∙ placed_offsets scale nothing_known raw_tokens in
     (cc)
 
@@ -293,6 +322,6 @@ pub bad_outcome : (scale : ℕ) (text : List ℕ) (fault : ParseFault) → lengt
 bad_outcome scale text fault few (inl memory) = inl memory
 bad_outcome scale text fault few (inr bad) = search rules
 
-pub limits_met : (words : TextTokens) → position is_big words.tokens ≡ None
-    → deep_place 0 0 words.tokens ≡ None → limit_fault words ≡ None
+pub limits_met : (words : TextTokens) → position is_big (words_for words.tokens) ≡ None
+    → deep_place 0 0 (words_for words.tokens) ≡ None → limit_fault words ≡ None
 limits_met words p q = search rules

@@ -1,3 +1,4 @@
+pub mod TokenWords
 pub mod Fixpoint
 pub mod Equations
 pub mod Same
@@ -6,7 +7,6 @@ pub mod Says
 pub mod Rules
 pub mod Whole
 pub mod Words
-pub mod Written
 pub mod Scans
 pub mod Counts
 pub mod Empties
@@ -15,7 +15,7 @@ pub mod Outcomes
 pub mod Numbers
 pub mod Fine
 pub mod Plain
-pub mod Signs
+pub mod WordTables
 pub mod Meant
 pub mod Agreement
 pub mod Named
@@ -34,7 +34,3 @@ pub mod Table
 pub mod NameNumbers
 pub mod Ends
 pub mod Past
-pub mod WordTables
-pub mod WordTokens
-pub mod WordGrammar
-pub mod WordOutcomes

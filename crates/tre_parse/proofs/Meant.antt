@@ -1,6 +1,6 @@
--- The raw tokens as they are written are those that are scanned.
+-- The words of a text are those that are scanned.
 use Rattle.std.proofs.Common.{◌≡◌, ℕ, ◌+◌, ◌-◌, ◌<◌, ◌≤◌, zero, suc, Bool, true, false, cond, ◌⊎◌, inl, inr, ⊎_elim, ◌&&◌, Option, Some, None, List, [], ◌∷◌, ◌++◌, take, drop, length, refl, sym, ◌∙◌, ap, subst, arith, rules}
-use Rattle.std.specs.Prelude.{if◌then◌else◌, nat_eq, nat_lt, Contains}
+use Rattle.std.specs.Prelude.{if◌then◌else◌, nat_eq, nat_lt, Contains, map}
 use Rattle.std.specs.List.{prefix_len, take_while, AllPass, list_all, starts_with}
 use Rattle.std.specs.Char.{is_ascii_digit}
 use Rattle.std.proofs.lemmas.Bool.Decides.{nat_tests}
@@ -15,12 +15,15 @@ use Rattle.tre_parse.specs.declared.lexeme.Lexeme.{Lexeme}
 use Rattle.tre_parse.specs.declared.lexeme.Lexeme.TheVariants.{Blank, Wrong, Name, Number, Sign}
 use Rattle.tre_parse.specs.Ends.{bytes_in}
 use Rattle.tre_parse.specs.Lexeme.{lexeme_named, word_lexeme, decimals_len, number_len, number_lexeme, first_sign, sign_lexeme, lexeme_of, FitsIn}
-use Rattle.tre_parse.specs.Signs.{IsSign, TakesSign}
-use Rattle.tre_parse.specs.Written.{is_white_space, reserved, signs, HasDecimals, Writes, BeginsWith, AreTokens, at_end, blank, next, wrong}
+use Rattle.tre_parse.specs.Signs.{TakesSign}
+use Rattle.tre_parse.specs.Written.{is_white_space, reserved, HasDecimals}
+use Rattle.tre_parse.specs.Words.{Word, name, event_name, number, sign, signs, Writes, BeginsWith, AreWords, at_end, blank, next, wrong}
+use Rattle.tre_parse.specs.TokenWords.{text_of, WordAt, raw_word, word_at}
+use Rattle.tre_parse.proofs.WordTables.{sign_text, sign_token, some_none, some_one, kept_or, numeral_written, decimals_written, decimal_written, some_sign, sign_parts, kept_word}
+use Rattle.std.proofs.lemmas.Bool.{false≢true}
 use Rattle.tre_parse.specs.declared.lexeme.TheConstants.{SIGNS}
-use Rattle.tre_parse.specs.Tokens.{RawToken, name, event_name, number, sign, RawTokenAt}
+use Rattle.tre_parse.specs.Tokens.{RawToken, name as raw_name, number as raw_number, sign as raw_sign}
 use Rattle.tre_parse.specs.Scanned.{RawTokens, raw_tokens_from, scanned, with_raw_token, raw_tokens_of, bad_byte}
-use Rattle.tre_parse.proofs.Signs.{sign_known, sign_listed, sign_taken, sign_no_blank, sign_no_word}
 use Rattle.tre_parse.proofs.Table.{longest, only_signs}
 use Rattle.tre_parse.proofs.Fronts.{lexeme_fits}
 use Rattle.tre_parse.proofs.Scans.{raw_tokens_skip}
@@ -164,34 +167,40 @@ most_decimal bytes n fits has =
 
 -- ---- signs
 
-most_sign : (bytes : List ℕ) (n : ℕ) (token : Token) → n ≤ length bytes
-    → Contains signs (take n bytes, token) → n ≤ bytes_in (lexeme_of bytes)
-most_sign bytes n token fits has =
-    let known = sign_known (take n bytes) token has in
+most_sign : (bytes : List ℕ) (n : ℕ) → n ≤ length bytes
+    → Contains signs (take n bytes) → n ≤ bytes_in (lexeme_of bytes)
+most_sign bytes n fits has =
+    let known = sign_token (take n bytes) has in
     let takes = subst (λ (xs : List ℕ). TakesSign xs (length (take n bytes)))
-    (take-append-drop n bytes) (longest (take n bytes) (drop n bytes) token known) in
+    (take-append-drop n bytes) (longest (take n bytes) (drop n bytes) known.0 known.1) in
     let size = length-take-le n bytes fits in
     let long = takes.long in
     let taken = ap bytes_in takes.taken in
     omega (arith, size, long, taken)
 
-pub most : (bytes : List ℕ) (n : ℕ) (token : RawToken) → n ≤ length bytes
-    → Writes (take n bytes) token → n ≤ bytes_in (lexeme_of bytes)
-most bytes n (name text) fits h = most_word bytes n fits h.1
+-- A number by its digits.
+abbrev HasDigits : List ℕ → Type 0
+HasDigits bytes = (is_numeral bytes ≡ true) ⊎ HasDecimals bytes
+
+pub most : (bytes : List ℕ) (n : ℕ) (word : Word (List ℕ)) → n ≤ length bytes
+    → Writes (take n bytes) word → n ≤ bytes_in (lexeme_of bytes)
+most bytes n (name text) fits h = most_word bytes n fits h.1.0
 most bytes n (event_name text) fits h = absurd h
 most bytes n (number text) fits h =
-    ⊎_elim (λ whole. most_numeral bytes n fits whole) (λ has. most_decimal bytes n fits has) h.1
-most bytes n (sign token) fits (inl has) = most_sign bytes n token fits has
-most bytes n (sign token) fits (inr kept) = most_word bytes n fits kept.0
+    ⊎_elim (λ whole. most_numeral bytes n fits whole) (λ has. most_decimal bytes n fits has)
+    (decimal_written (take n bytes) h.1.0 h.1.1)
+most bytes n (sign text) fits h =
+    ⊎_elim (λ has. most_sign bytes n fits has)
+    (λ kept. most_word bytes n fits (kept_word (take n bytes) kept)) h.1
 
 -- ---- what is scanned is written
 
 -- what a lexeme takes, by its bytes
 abbrev pub raw_in : Lexeme → List ℕ → RawToken
-raw_in (Name len) bytes = name (take len bytes)
-raw_in (Number len) bytes = number (take len bytes)
-raw_in (Sign token len) bytes = sign token
-raw_in lexeme bytes = number []
+raw_in (Name len) bytes = raw_name (take len bytes)
+raw_in (Number len) bytes = raw_number (take len bytes)
+raw_in (Sign token len) bytes = raw_sign token
+raw_in lexeme bytes = raw_number []
 
 -- It is a token.
 abbrev pub IsTaken : Lexeme → Type 0
@@ -202,12 +211,33 @@ IsTaken lexeme = Unit {0}
 -- The bytes begin with the token that the lexeme takes there.
 pub record Stands (bytes : List ℕ) (lexeme : Lexeme) : Type 0 where
   pub taken : IsTaken lexeme
-  pub writes : Writes (take (bytes_in lexeme) bytes) (raw_in lexeme bytes)
+  pub writes : Writes (take (bytes_in lexeme) bytes) (raw_word (raw_in lexeme bytes))
 
 word_by : (len : ℕ) (bytes : List ℕ) (kept : Option Token) → IsWord (take len bytes)
     → reserved (take len bytes) ≡ kept → Stands bytes (lexeme_named len kept)
-word_by len bytes None is e = record { taken = tt; writes = (refl, is, e) }
-word_by len bytes (Some token) is e = record { taken = tt; writes = inr (is, e) }
+word_by len bytes None is e = record {
+  taken = tt;
+  writes = (
+    refl,
+    (
+      is,
+      λ kept. elim (kept_or (take len bytes)) [
+        | inl k ↦ some_none k.token (sym k.found ∙ e)
+        | inr free ↦ false≢true (sym free.is ∙ kept)
+      ],
+    ),
+  );
+}
+word_by len bytes (Some token) is e = elim (kept_or (take len bytes)) [
+  | inl k ↦ record {
+    taken = tt;
+    writes = (
+      sym (ap text_of (some_one k.token token (sym k.found ∙ e))) ∙ k.says.text,
+      inr k.is,
+    );
+  }
+  | inr free ↦ absurd (some_none token (sym e ∙ free.none))
+]
 
 word_stands : (b : ℕ) (bs : List ℕ) → starts_name b ≡ true → Stands (b ∷ bs) (lexeme_of (b ∷ bs))
 word_stands b bs h = search (rules, continues_name, lexeme_word, word_by, reserved, word_from)
@@ -276,8 +306,9 @@ number_stands b bs h =
       taken = tt;
       writes = (
         refl,
-        decimal_front bytes len (drop len bytes)
-            (run_numeral bytes (omega (arith, one))) refl fits,
+        ⊎_elim (numeral_written (take all bytes)) (decimals_written (take all bytes))
+            (decimal_front bytes len (drop len bytes)
+            (run_numeral bytes (omega (arith, one))) refl fits),
       );
     })
 
@@ -304,10 +335,8 @@ sign_or_wrong bytes = first_sign_or_wrong (λ sign. sign.0.now) (λ sign. sign.1
 sign_stands : (bytes : List ℕ) (lexeme : Lexeme) → sign_lexeme bytes ≡ lexeme
     → IsSignOrWrong lexeme → (lexeme ≡ Wrong) ⊎ Stands bytes lexeme
 sign_stands bytes (Sign token len) e is =
-    inr (record {
-      taken = tt;
-      writes = inl (sign_listed (take len bytes) token (only_signs bytes token len e));
-    })
+    let says = sign_text (take len bytes) token (only_signs bytes token len e) in
+    inr (record { taken = tt; writes = (says.0.text, inl says.1) })
 sign_stands bytes Wrong e is = inl refl
 sign_stands bytes Blank e is = absurd is
 sign_stands bytes (Name len) e is = absurd is
@@ -347,38 +376,42 @@ starts_digit bytes (inr has) b bs e = by has.whole has.before (sym e ∙ has.spl
         let same : b ≡ w = cc in
         ap is_ascii_digit same ∙ first_digit w ws is
 
-writes_some : (token : RawToken) → Writes [] token → ⊥
-writes_some (name text) h = h.1
-writes_some (event_name text) h = h
-writes_some (number text) h = by h.1
+no_digits : HasDigits [] → ⊥
+no_digits (inl is) = cc
+no_digits (inr has) = none has.whole has.split
   where
-    by : (is_numeral [] ≡ true) ⊎ HasDecimals [] → ⊥
-    by (inl is) = cc
-    by (inr has) = none has.whole has.split
-      where
-        none : (whole : List ℕ) → [] ≡ whole ++ 46 ∷ has.decimals → ⊥
-        none [] q = cc
-        none (w ∷ ws) q = cc
-writes_some (sign token) (inl has) = sign_no_blank [] token has
-writes_some (sign token) (inr kept) = kept.0
+    none : (whole : List ℕ) → [] ≡ whole ++ 46 ∷ has.decimals → ⊥
+    none [] q = cc
+    none (w ∷ ws) q = cc
+
+writes_some : (word : Word (List ℕ)) → Writes [] word → ⊥
+writes_some (name text) h = h.1.0
+writes_some (event_name text) h = h
+writes_some (number text) h = no_digits (decimal_written [] h.1.0 h.1.1)
+writes_some (sign text) h =
+    ⊎_elim (λ has. some_sign has) (λ kept. kept_word [] kept) h.1
 
 word_starts : (b : ℕ) (bs : List ℕ) → IsWord (b ∷ bs) → starts_name b ≡ true
 word_starts b bs is = is.0
 
-writes_no_blank : (b : ℕ) (bs : List ℕ) (token : RawToken) → Writes (b ∷ bs) token
+writes_no_blank : (b : ℕ) (bs : List ℕ) (word : Word (List ℕ)) → Writes (b ∷ bs) word
     → is_white_space b ≡ false
-writes_no_blank b bs (name text) h = starts_no_blank b (word_starts b bs h.1)
+writes_no_blank b bs (name text) h = starts_no_blank b (word_starts b bs h.1.0)
 writes_no_blank b bs (event_name text) h = absurd h
-writes_no_blank b bs (number text) h = digit_no_blank b (starts_digit (b ∷ bs) h.1 b bs refl)
-writes_no_blank b bs (sign token) (inl has) = sign_no_blank (b ∷ bs) token has
-writes_no_blank b bs (sign token) (inr kept) = starts_no_blank b (word_starts b bs kept.0)
+writes_no_blank b bs (number text) h =
+    digit_no_blank b (starts_digit (b ∷ bs) (decimal_written (b ∷ bs) h.1.0 h.1.1) b bs refl)
+writes_no_blank b bs (sign text) h =
+    ⊎_elim (λ has. (sign_parts b bs has).0)
+    (λ kept. starts_no_blank b (word_starts b bs (kept_word (b ∷ bs) kept))) h.1
 
 -- no word is a sign or a number
-not_sign : (bytes : List ℕ) (token : Token) → IsWord bytes → Contains signs (bytes, token) → ⊥
-not_sign [] token is has = is
-not_sign (b ∷ bs) token is has = search rules
+not_sign : (bytes : List ℕ) → IsWord bytes → Contains signs bytes → ⊥
+not_sign [] is has = is
+not_sign (b ∷ bs) is has =
+    let absent = (sign_parts b bs has).1 in
+    false≢true (sym absent ∙ word_starts b bs is)
 
-not_number : (bytes : List ℕ) → IsWord bytes → (is_numeral bytes ≡ true) ⊎ HasDecimals bytes → ⊥
+not_number : (bytes : List ℕ) → IsWord bytes → HasDigits bytes → ⊥
 not_number [] is digits = is
 not_number (b ∷ bs) is digits =
     let yes = word_starts b bs is in
@@ -386,45 +419,43 @@ not_number (b ∷ bs) is digits =
     cc
 
 -- no number is a sign
-sign_no_number : (bytes : List ℕ) (token : Token) → Contains signs (bytes, token)
-    → (is_numeral bytes ≡ true) ⊎ HasDecimals bytes → ⊥
-sign_no_number [] token has digits = sign_no_blank [] token has
-sign_no_number (b ∷ bs) token has digits =
-    let yes = starts_digit (b ∷ bs) digits b bs refl in
-    let absent : is_ascii_digit b ≡ false = (sign_no_word (b ∷ bs) token has).1 in
-    cc
+sign_no_number : (bytes : List ℕ) → Contains signs bytes → HasDigits bytes → ⊥
+sign_no_number [] has digits = some_sign has
+sign_no_number (b ∷ bs) has digits =
+    let absent = (sign_parts b bs has).2 in
+    false≢true (sym absent ∙ starts_digit (b ∷ bs) digits b bs refl)
 
--- bytes write one sign
-same_sign : (bytes : List ℕ) (one other : Token) → IsSign bytes one → IsSign bytes other
-    → one ≡ other
-same_sign bytes one other is is' =
-    let taken = sym (sign_taken bytes one is) ∙ sign_taken bytes other is' in
-    (cc)
+name_no_sign : (bytes : List ℕ) (one other : List ℕ) → Writes bytes (name one)
+    → Writes bytes (sign other) → ⊥
+name_no_sign bytes one other h k =
+    ⊎_elim (λ has. not_sign bytes h.1.0 has) (λ kept. h.1.1 kept) k.1
 
--- bytes write one token
-same_raw : (bytes : List ℕ) (one other : RawToken) → Writes bytes one → Writes bytes other
+number_no_sign : (bytes : List ℕ) (one other : List ℕ) → Writes bytes (number one)
+    → Writes bytes (sign other) → ⊥
+number_no_sign bytes one other h k =
+    let digits = decimal_written bytes h.1.0 h.1.1 in
+    ⊎_elim (λ has. sign_no_number bytes has digits)
+    (λ kept. not_number bytes (kept_word bytes kept) digits) k.1
+
+name_no_number : (bytes : List ℕ) (one other : List ℕ) → Writes bytes (name one)
+    → Writes bytes (number other) → ⊥
+name_no_number bytes one other h k =
+    not_number bytes h.1.0 (decimal_written bytes k.1.0 k.1.1)
+
+-- bytes write one word
+same_word : (bytes : List ℕ) (one other : Word (List ℕ)) → Writes bytes one → Writes bytes other
     → one ≡ other
-same_raw bytes (event_name text) other h h' = absurd h
-same_raw bytes one (event_name text) h h' = absurd h'
-same_raw bytes (name text) (name text') h h' = ap (λ (t : List ℕ). name t) (h.0 ∙ sym h'.0)
-same_raw bytes (number text) (number text') h h' = ap (λ (t : List ℕ). number t) (h.0 ∙ sym h'.0)
-same_raw bytes (name text) (number text') h h' = absurd (not_number bytes h.1 h'.1)
-same_raw bytes (number text) (name text') h h' = absurd (not_number bytes h'.1 h.1)
-same_raw bytes (sign token) (sign token') (inl has) (inl has') = ap (λ (t : Token). sign t)
-    (same_sign bytes token token' (sign_known bytes token has) (sign_known bytes token' has'))
-same_raw bytes (sign token) (sign token') (inr kept) (inr kept') = search rules
-same_raw bytes (sign token) (sign token') (inl has) (inr kept) =
-    absurd (not_sign bytes token kept.0 has)
-same_raw bytes (sign token) (sign token') (inr kept) (inl has) =
-    absurd (not_sign bytes token' kept.0 has)
-same_raw bytes (name text) (sign token) h (inl has) = absurd (not_sign bytes token h.1 has)
-same_raw bytes (name text) (sign token) h (inr kept) = search rules
-same_raw bytes (sign token) (name text) (inl has) h = absurd (not_sign bytes token h.1 has)
-same_raw bytes (sign token) (name text) (inr kept) h = search rules
-same_raw bytes (number text) (sign token) h (inl has) = absurd (sign_no_number bytes token has h.1)
-same_raw bytes (number text) (sign token) h (inr kept) = absurd (not_number bytes kept.0 h.1)
-same_raw bytes (sign token) (number text) (inl has) h = absurd (sign_no_number bytes token has h.1)
-same_raw bytes (sign token) (number text) (inr kept) h = absurd (not_number bytes kept.0 h.1)
+same_word bytes (event_name text) other h k = absurd h
+same_word bytes one (event_name text) h k = absurd k
+same_word bytes (name one) (name other) h k = ap (λ (t : List ℕ). name t) (h.0 ∙ sym k.0)
+same_word bytes (number one) (number other) h k = ap (λ (t : List ℕ). number t) (h.0 ∙ sym k.0)
+same_word bytes (sign one) (sign other) h k = ap (λ (t : List ℕ). sign t) (h.0 ∙ sym k.0)
+same_word bytes (name one) (number other) h k = absurd (name_no_number bytes one other h k)
+same_word bytes (number one) (name other) h k = absurd (name_no_number bytes other one k h)
+same_word bytes (name one) (sign other) h k = absurd (name_no_sign bytes one other h k)
+same_word bytes (sign one) (name other) h k = absurd (name_no_sign bytes other one k h)
+same_word bytes (number one) (sign other) h k = absurd (number_no_sign bytes one other h k)
+same_word bytes (sign one) (number other) h k = absurd (number_no_sign bytes other one k h)
 
 fits_len : (available : ℕ) (lexeme : Lexeme) → IsTaken lexeme → FitsIn available lexeme
     → (0 < bytes_in lexeme) × (bytes_in lexeme ≤ available)
@@ -448,7 +479,7 @@ scanned_taken Blank at bytes go is = absurd is
 scanned_taken Wrong at bytes go is = absurd is
 
 begun : (bytes : List ℕ) → 0 < length bytes → (st : Stands bytes (lexeme_of bytes))
-    → BeginsWith bytes (raw_in (lexeme_of bytes) bytes) (bytes_in (lexeme_of bytes))
+    → BeginsWith bytes (raw_word (raw_in (lexeme_of bytes) bytes)) (bytes_in (lexeme_of bytes))
 begun bytes some st = record {
   within = (len_of bytes some st).1;
   writes = st.writes;
@@ -460,71 +491,82 @@ after_token : (at len : ℕ) (b : ℕ) (bs : List ℕ) → 0 < len → len ≤ l
 after_token at zero b bs some fits = absurd (omega (arith, some))
 after_token at (suc m) b bs some fits = search (rules, raw_tokens_from, raw_tokens_skip)
 
-next_raw : (at len b : ℕ) (bs : List ℕ) (token : RawToken) → BeginsWith (b ∷ bs) token len
-    → raw_tokens_from 0 at (b ∷ bs)
-    ≡ with_raw_token at token (raw_tokens_from 0 (at + len) (drop len (b ∷ bs)))
-next_raw at zero b bs token is = absurd (writes_some token is.writes)
-next_raw at (suc m) b bs token is = by (stands b bs (writes_no_blank b (take m bs) token is.writes))
+-- What is scanned, in words.
+abbrev pub Worded : Type 0
+Worded = List WordAt × Option ℕ
+
+abbrev pub worded : RawTokens → Worded
+worded found = (map word_at found.raw_tokens, found.bad)
+
+abbrev with_word : ℕ → Word (List ℕ) → Worded → Worded
+with_word at word more = ((at, word) ∷ more.0, more.1)
+
+next_word : (at len b : ℕ) (bs : List ℕ) (word : Word (List ℕ)) → BeginsWith (b ∷ bs) word len
+    → worded (raw_tokens_from 0 at (b ∷ bs))
+    ≡ with_word at word (worded (raw_tokens_from 0 (at + len) (drop len (b ∷ bs))))
+next_word at zero b bs word is = absurd (writes_some word is.writes)
+next_word at (suc m) b bs word is = by (stands b bs (writes_no_blank b (take m bs) word is.writes))
   where
     by : (lexeme_of (b ∷ bs) ≡ Wrong) ⊎ Stands (b ∷ bs) (lexeme_of (b ∷ bs))
-        → raw_tokens_from 0 at (b ∷ bs)
-        ≡ with_raw_token at token (raw_tokens_from 0 (at + suc m) (drop (suc m) (b ∷ bs)))
+        → worded (raw_tokens_from 0 at (b ∷ bs))
+        ≡ with_word at word (worded (raw_tokens_from 0 (at + suc m) (drop (suc m) (b ∷ bs))))
     by (inl absent) =
-        let few = most (b ∷ bs) (suc m) token is.within is.writes in
+        let few = most (b ∷ bs) (suc m) word is.within is.writes in
         let none = ap bytes_in absent in
         absurd (omega (arith, few, none))
     by (inr st) =
         let k = bytes_in (lexeme_of (b ∷ bs)) in
         let long = len_of (b ∷ bs) (omega arith) st in
-        let low = most (b ∷ bs) (suc m) token is.within is.writes in
+        let low = most (b ∷ bs) (suc m) word is.within is.writes in
         let here = raw_in (lexeme_of (b ∷ bs)) (b ∷ bs) in
-        let high = is.longest here k long.1 st.writes in
+        let high = is.longest (raw_word here) k long.1 st.writes in
         let same : k ≡ suc m = omega (arith, low, high) in
-        let raw : here ≡ token = same_raw (take (suc m) (b ∷ bs)) here token
-        (subst (λ n. Writes (take n (b ∷ bs)) here) same st.writes) is.writes in
-        scanned_taken (lexeme_of (b ∷ bs)) at (b ∷ bs) (λ skip. raw_tokens_from skip (at + 1) bs)
-        st.taken
-        ∙ ap (λ n. with_raw_token at here (raw_tokens_from (n - 1) (at + 1) bs)) same
-        ∙ ap (λ r. with_raw_token at r (raw_tokens_from (suc m - 1) (at + 1) bs)) raw
-        ∙ ap (with_raw_token at token) (after_token at (suc m) b bs (omega arith) is.within)
+        let raw : raw_word here ≡ word = same_word (take (suc m) (b ∷ bs)) (raw_word here) word
+        (subst (λ n. Writes (take n (b ∷ bs)) (raw_word here)) same st.writes) is.writes in
+        ap worded (scanned_taken (lexeme_of (b ∷ bs)) at (b ∷ bs)
+        (λ skip. raw_tokens_from skip (at + 1) bs) st.taken)
+        ∙ ap (λ n. with_word at (raw_word here) (worded (raw_tokens_from (n - 1) (at + 1) bs))) same
+        ∙ ap (λ w. with_word at w (worded (raw_tokens_from (suc m - 1) (at + 1) bs))) raw
+        ∙ ap (λ r. with_word at word (worded r))
+        (after_token at (suc m) b bs (omega arith) is.within)
 
 blank_lexeme : (b : ℕ) (bs : List ℕ) → is_white_space b ≡ true → lexeme_of (b ∷ bs) ≡ Blank
 blank_lexeme b bs h = search rules
 
-pub one_list : (at : ℕ) (bytes : List ℕ) (tokens : List RawTokenAt) (bad : Option ℕ)
-    → AreTokens at bytes tokens bad
-    → raw_tokens_from 0 at bytes ≡ record { raw_tokens = tokens; bad = bad }
+pub one_list : (at : ℕ) (bytes : List ℕ) (words : List WordAt) (bad : Option ℕ)
+    → AreWords at bytes words bad → worded (raw_tokens_from 0 at bytes) ≡ (words, bad)
 one_list _ _ _ _ (at_end at) = refl
-one_list _ _ _ _ (blank at byte rest tokens bad is more) =
-    ap (λ (l : Lexeme). scanned l at (byte ∷ rest) (λ skip. raw_tokens_from skip (at + 1) rest))
-    (blank_lexeme byte rest is) ∙ one_list (at + 1) rest tokens bad more
-one_list _ _ _ _ (next at len [] token tokens bad is more) =
+one_list _ _ _ _ (blank at byte rest words bad is more) =
+    ap (λ (l : Lexeme). worded (scanned l at (byte ∷ rest)
+    (λ skip. raw_tokens_from skip (at + 1) rest)))
+    (blank_lexeme byte rest is) ∙ one_list (at + 1) rest words bad more
+one_list _ _ _ _ (next at len [] word words bad is more) =
     absurd (none len is.within is.writes)
   where
-    none : (n : ℕ) → n ≤ 0 → Writes (take n []) token → ⊥
-    none zero few h = writes_some token h
+    none : (n : ℕ) → n ≤ 0 → Writes (take n []) word → ⊥
+    none zero few h = writes_some word h
     none (suc n) few h = omega (arith, few)
-one_list _ _ _ _ (next at len (b ∷ bs) token tokens bad is more) =
-    next_raw at len b bs token is
-    ∙ ap (with_raw_token at token) (one_list (at + len) (drop len (b ∷ bs)) tokens bad more)
+one_list _ _ _ _ (next at len (b ∷ bs) word words bad is more) =
+    next_word at len b bs word is
+    ∙ ap (with_word at word) (one_list (at + len) (drop len (b ∷ bs)) words bad more)
 one_list _ _ _ _ (wrong at byte rest is none) = by (stands byte rest is)
   where
     by : (lexeme_of (byte ∷ rest) ≡ Wrong) ⊎ Stands (byte ∷ rest) (lexeme_of (byte ∷ rest))
-        → raw_tokens_from 0 at (byte ∷ rest) ≡ record { raw_tokens = []; bad = Some at }
+        → worded (raw_tokens_from 0 at (byte ∷ rest)) ≡ ([], Some at)
     by (inl absent) =
-        ap (λ (l : Lexeme). scanned l at (byte ∷ rest)
-        (λ skip. raw_tokens_from skip (at + 1) rest)) absent
-    by (inr st) = absurd (none (raw_in (lexeme_of (byte ∷ rest)) (byte ∷ rest))
+        ap (λ (l : Lexeme). worded (scanned l at (byte ∷ rest)
+        (λ skip. raw_tokens_from skip (at + 1) rest))) absent
+    by (inr st) = absurd (none (raw_word (raw_in (lexeme_of (byte ∷ rest)) (byte ∷ rest)))
         (bytes_in (lexeme_of (byte ∷ rest))) (begun (byte ∷ rest) (omega arith) st))
 
--- some tokens are those of the bytes
-pub record HasTokens (at : ℕ) (bytes : List ℕ) : Type 0 where
-  pub tokens : List RawTokenAt
-  pub bad : Option ℕ
-  pub are : AreTokens at bytes tokens bad
+-- some words are those of the bytes
+record HasWords (at : ℕ) (bytes : List ℕ) : Type 0 where
+  words : List WordAt
+  bad : Option ℕ
+  are : AreWords at bytes words bad
 
-some_list : (fuel at : ℕ) (bytes : List ℕ) → length bytes ≤ fuel → HasTokens at bytes
-some_list fuel at [] few = record { tokens = []; bad = None; are = at_end at }
+some_list : (fuel at : ℕ) (bytes : List ℕ) → length bytes ≤ fuel → HasWords at bytes
+some_list fuel at [] few = record { words = []; bad = None; are = at_end at }
 some_list zero at (b ∷ bs) few = absurd (omega (arith, few))
 some_list (suc fuel) at (b ∷ bs) few =
     by (some_list fuel (at + 1) bs (omega (arith, few)))
@@ -532,42 +574,44 @@ some_list (suc fuel) at (b ∷ bs) few =
     (omega (arith, few, some, length-drop len (b ∷ bs))))
     (is_white_space b) refl
   where
-    by_token : ((len : ℕ) → 0 < len → HasTokens (at + len) (drop len (b ∷ bs))) → is_white_space b ≡ false
+    by_word : ((len : ℕ) → 0 < len → HasWords (at + len) (drop len (b ∷ bs)))
+        → is_white_space b ≡ false
         → (lexeme_of (b ∷ bs) ≡ Wrong) ⊎ Stands (b ∷ bs) (lexeme_of (b ∷ bs))
-        → HasTokens at (b ∷ bs)
-    by_token go absent (inl is) = record {
-      tokens = [];
+        → HasWords at (b ∷ bs)
+    by_word go absent (inl is) = record {
+      words = [];
       bad = Some at;
-      are = wrong at b bs absent (λ token len begins.
-          none token len begins.writes
-          (omega (arith, most (b ∷ bs) len token begins.within begins.writes, ap bytes_in is)));
+      are = wrong at b bs absent (λ word len begins.
+          none word len begins.writes
+          (omega (arith, most (b ∷ bs) len word begins.within begins.writes, ap bytes_in is)));
     }
       where
-        none : (token : RawToken) (len : ℕ) → Writes (take len (b ∷ bs)) token → len ≤ 0 → ⊥
-        none token zero h few = writes_some token h
-        none token (suc len) h few = omega (arith, few)
-    by_token go absent (inr st) =
+        none : (word : Word (List ℕ)) (len : ℕ) → Writes (take len (b ∷ bs)) word → len ≤ 0 → ⊥
+        none word zero h few = writes_some word h
+        none word (suc len) h few = omega (arith, few)
+    by_word go absent (inr st) =
         let len = bytes_in (lexeme_of (b ∷ bs)) in
-        let token = raw_in (lexeme_of (b ∷ bs)) (b ∷ bs) in
+        let word = raw_word (raw_in (lexeme_of (b ∷ bs)) (b ∷ bs)) in
         let rest = go len (len_of (b ∷ bs) (omega arith) st).0 in
         record {
-          tokens = (record { at = at; word = token }) ∷ rest.tokens;
+          words = (at, word) ∷ rest.words;
           bad = rest.bad;
-          are = next at len (b ∷ bs) token rest.tokens rest.bad
+          are = next at len (b ∷ bs) word rest.words rest.bad
               (begun (b ∷ bs) (omega arith) st) rest.are;
         }
 
-    by : HasTokens (at + 1) bs → ((len : ℕ) → 0 < len → HasTokens (at + len) (drop len (b ∷ bs)))
-        → (is : Bool) → is_white_space b ≡ is → HasTokens at (b ∷ bs)
+    by : HasWords (at + 1) bs → ((len : ℕ) → 0 < len → HasWords (at + len) (drop len (b ∷ bs)))
+        → (is : Bool) → is_white_space b ≡ is → HasWords at (b ∷ bs)
     by rest go true is = record {
-      tokens = rest.tokens;
+      words = rest.words;
       bad = rest.bad;
-      are = blank at b bs rest.tokens rest.bad is rest.are;
+      are = blank at b bs rest.words rest.bad is rest.are;
     }
-    by rest go false is = by_token go is (stands b bs is)
+    by rest go false is = by_word go is (stands b bs is)
 
-pub some_tokens : (text : List ℕ) → AreTokens 0 text (raw_tokens_of text) (bad_byte text)
-some_tokens text =
+pub some_words : (text : List ℕ)
+    → AreWords 0 text (map word_at (raw_tokens_of text)) (bad_byte text)
+some_words text =
     let has = some_list (length text) 0 text (omega arith) in
-    let P = λ (r : RawTokens). AreTokens 0 text r.raw_tokens r.bad in
-    subst P (sym (one_list 0 text has.tokens has.bad has.are)) has.are
+    let P = λ (p : Worded). AreWords 0 text p.0 p.1 in
+    subst P (sym (one_list 0 text has.words has.bad has.are)) has.are

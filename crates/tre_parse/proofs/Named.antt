@@ -1,6 +1,6 @@
 -- The words, names and tokens of a text are those that are found while it is read from the left.
 use Rattle.std.proofs.Common.{◌≡◌, ℕ, ◌+◌, ◌-◌, ◌<◌, ◌≤◌, suc, Bool, true, false, cond, not, ◌&&◌, ◌||◌, Option, Some, None, List, [], ◌∷◌, ◌++◌, length, map, take, refl, sym, ◌∙◌, ap, subst, arith, append_assoc, length-append, rules}
-use Rattle.std.specs.Prelude.{nat_lt, if◌then◌else◌, is_none, unwrap_or, position, filter, filter_map, slice_index_or}
+use Rattle.std.specs.Prelude.{codes, nat_lt, if◌then◌else◌, is_none, unwrap_or, position, filter, filter_map, slice_index_or}
 use Rattle.std.specs.Option.{option_map}
 use Rattle.std.specs.List.{list_any, position_or_len}
 use Rattle.std.specs.Str.{bytes_eq}
@@ -15,13 +15,15 @@ use Rattle.tre_trace.specs.Reading.{Vocabulary}
 use Rattle.tre_syntax.specs.declared.name_kind.NameKind.{NameKind}
 use Rattle.tre_syntax.specs.declared.name_kind.NameKind.TheVariants.{Proposition, Event as EventKind}
 use Rattle.tre_parse.specs.declared.token.Token.{Token}
-use Rattle.tre_parse.specs.declared.token.Token.TheVariants.{Name as Numbered, EventName, LeftParen, Event}
+use Rattle.tre_parse.specs.declared.token.Token.TheVariants.{Name as Numbered, EventName, Number as Units, LeftParen, Event}
 use Rattle.tre_parse.specs.declared.before.Before.{Before}
 use Rattle.tre_parse.specs.declared.before.Before.TheVariants.{EventWord, EventParen, Other}
-use Rattle.tre_parse.specs.Tokens.{RawToken, name, event_name, number, sign, RawTokenAt, with_events, name_of, first_uses, names_in, token_of}
-use Rattle.tre_parse.specs.Scanned.{raw_tokens_of, words_of, names_of, tokens_of}
+use Rattle.tre_parse.specs.Tokens.{RawToken, name as raw_name, event_name as raw_event, number as raw_number, sign as raw_sign, RawTokenAt, first_uses, units_within}
+use Rattle.tre_parse.specs.Words.{Word, name, event_name, number, sign, is_sign, with_events, words_among, name_in, event_in, names_among, in_numbers, numbered_words}
+use Rattle.tre_parse.specs.Scanned.{raw_tokens_of, names_of, tokens_of}
 use Rattle.tre_parse.specs.Known.{before_next, kind_behind, names_of_kind, names_with, Known, nothing_known, numbered, next_token, vocabulary_after, known_after, tokens_from, names_from, word_is_past, past_from, offsets_of}
-use Rattle.tre_parse.specs.TokenOutcome.{is_past}
+use Rattle.tre_parse.specs.TokenWords.{text_of, word_of, words_for, raw_word, WordAt, word_at}
+use Rattle.tre_parse.specs.Outcome.{is_past}
 use Rattle.tre_parse.specs.ScannedOutcome.{text_tokens_of}
 use Rattle.tre_parse.specs.Past.{kind_after}
 use Rattle.tre_parse.specs.Numbering.{past_of, HasTokenAt}
@@ -30,35 +32,94 @@ use Rattle.tre_parse.proofs.NameNumbers.{HasPlace, kind_by, own_kind, for_good, 
 
 -- ---- the names of events are told apart by what stands before them
 
-abbrev pub apart : Before → RawToken → RawToken
-apart EventParen (name bytes) = event_name bytes
-apart _ word = word
+abbrev apart : Before → RawToken → Word (List ℕ)
+apart EventParen (raw_name bytes) = event_name bytes
+apart _ raw = raw_word raw
 
-abbrev pub apart_from : Before → List RawToken → List RawToken
+abbrev apart_from : Before → List RawToken → List (Word (List ℕ))
 apart_from before [] = []
-apart_from before (word ∷ rest) = apart before word ∷ apart_from (before_next before word) rest
-
--- By themselves, behind `event`, and behind `event (`.
-pub record Told (words : List RawToken) : Type 0 where
-  pub other : with_events words ≡ apart_from Other words
-  event : with_events (sign Event ∷ words) ≡ sign Event ∷ apart_from EventWord words
-  paren : with_events (sign Event ∷ sign LeftParen ∷ words)
-      ≡ sign Event ∷ sign LeftParen ∷ apart_from EventParen words
-
-told_word : (word : RawToken) (rest : List RawToken) → Told rest → Told (word ∷ rest)
-told_word (name bytes) rest h = search rules
-told_word (event_name bytes) rest h = search rules
-told_word (number bytes) rest h = search rules
-told_word (sign Event) rest h = search rules
-told_word (sign LeftParen) rest h = search rules
-told_word (sign token) rest h = search rules
-
-pub told : (words : List RawToken) → Told words
-told [] = record { other = refl; event = refl; paren = refl }
-told (word ∷ rest) = told_word word rest (told rest)
+apart_from before (raw ∷ rest) = apart before raw ∷ apart_from (before_next before raw) rest
 
 abbrev words_in : List RawTokenAt → List RawToken
-words_in raw_tokens = map (λ raw. raw.word) raw_tokens
+words_in raws = map (λ raw. raw.word) raws
+
+-- The words of a text, as the scanner has them.
+abbrev pub placed_of : List ℕ → List WordAt
+placed_of text = map word_at (raw_tokens_of text)
+
+abbrev after_event : Before → Bool
+after_event EventWord = true
+after_event _ = false
+
+abbrev after_paren : Before → Bool
+after_paren EventParen = true
+after_paren _ = false
+
+-- The two words are what stands before the next.
+record StandBefore (before : Before) (one two : Word (List ℕ)) : Type 0 where
+  event : is_sign (codes "event") two ≡ after_event before
+  paren : (is_sign (codes "event") one && is_sign (codes "(") two) ≡ after_paren before
+
+stand_next : (before : Before) (one two : Word (List ℕ)) (raw : RawToken)
+    → StandBefore before one two → StandBefore (before_next before raw) two (raw_word raw)
+stand_next before one two (raw_name text) h = search rules
+stand_next before one two (raw_event text) h = search rules
+stand_next before one two (raw_number text) h = search rules
+stand_next before one two (raw_sign LeftParen) h = search rules
+stand_next before one two (raw_sign Event) h = search rules
+stand_next before one two (raw_sign _) h = search rules
+
+-- the next word, behind these two
+abbrev behind : Word (List ℕ) → Word (List ℕ) → Word (List ℕ) → Word (List ℕ)
+behind one two (name text) =
+    if is_sign (codes "event") one && is_sign (codes "(") two then event_name text else name text
+behind one two word = word
+
+with_events_next : (one two word : Word (List ℕ)) (rest : List (Word (List ℕ)))
+    → with_events one two (word ∷ rest) ≡ behind one two word ∷ with_events two word rest
+with_events_next one two (name text) rest = refl
+with_events_next one two (event_name text) rest = refl
+with_events_next one two (number text) rest = refl
+with_events_next one two (sign text) rest = refl
+
+apart_word : (before : Before) (one two : Word (List ℕ)) (raw : RawToken)
+    → StandBefore before one two → apart before raw ≡ behind one two (raw_word raw)
+apart_word EventParen one two (raw_name text) h = search rules
+apart_word EventWord one two (raw_name text) h = search rules
+apart_word Other one two (raw_name text) h = search rules
+apart_word EventParen one two (raw_event text) h = refl
+apart_word EventWord one two (raw_event text) h = refl
+apart_word Other one two (raw_event text) h = refl
+apart_word EventParen one two (raw_number text) h = refl
+apart_word EventWord one two (raw_number text) h = refl
+apart_word Other one two (raw_number text) h = refl
+apart_word EventParen one two (raw_sign token) h = refl
+apart_word EventWord one two (raw_sign token) h = refl
+apart_word Other one two (raw_sign token) h = refl
+
+apart_words : (before : Before) (one two : Word (List ℕ)) (raws : List RawTokenAt)
+    → StandBefore before one two
+    → apart_from before (words_in raws)
+    ≡ with_events one two (map (λ (w : WordAt). w.1) (map word_at raws))
+apart_words before one two [] h = refl
+apart_words before one two (raw ∷ rest) h =
+    let more = apart_words (before_next before raw.word) two (raw_word raw.word) rest
+    (stand_next before one two raw.word h) in
+    ap (λ (w : Word (List ℕ)). w ∷ apart_from (before_next before raw.word)
+    (words_in rest)) (apart_word before one two raw.word h)
+    ∙ ap (λ (ws : List (Word (List ℕ))). behind one two (raw_word raw.word) ∷ ws) more
+    ∙ sym (with_events_next one two (raw_word raw.word) (map (λ (w : WordAt). w.1)
+    (map word_at rest)))
+
+words_same : (raws : List RawTokenAt)
+    → apart_from Other (words_in raws) ≡ words_among (map word_at raws)
+words_same raws =
+    apart_words Other (sign []) (sign []) raws (record { event = refl; paren = refl })
+
+-- The bytes of a name of the kind.
+abbrev of_kind : NameKind → Word (List ℕ) → Option (List ℕ)
+of_kind Proposition word = name_in word
+of_kind EventKind word = event_in word
 
 -- ---- names are put at the end, one after the other
 
@@ -66,20 +127,20 @@ abbrev extend : List (List ℕ) → List (List ℕ) → List (List ℕ)
 extend known [] = known
 extend known (bytes ∷ rest) = extend (names_with known bytes) rest
 
-word_extends : (kind : NameKind) (known : Known) (word : RawToken) (rest : List RawToken)
-    → IsPlain word →
-    extend (names_of_kind kind (vocabulary_after known word)) (filter_map (name_of kind) rest)
+word_extends : (kind : NameKind) (known : Known) (word : RawToken)
+    (rest : List (Word (List ℕ))) → IsPlain word →
+    extend (names_of_kind kind (vocabulary_after known word)) (filter_map (of_kind kind) rest)
     ≡ extend (names_of_kind kind known.vocabulary)
-    (filter_map (name_of kind) (apart known.before word ∷ rest))
-word_extends kind known (name bytes) rest h = search rules
-word_extends kind known (event_name bytes) rest h = absurd h
-word_extends kind known (number bytes) rest h = search rules
-word_extends kind known (sign token) rest h = search rules
+    (filter_map (of_kind kind) (apart known.before word ∷ rest))
+word_extends kind known (raw_name bytes) rest h = search rules
+word_extends kind known (raw_event bytes) rest h = absurd h
+word_extends kind known (raw_number bytes) rest h = search rules
+word_extends kind known (raw_sign token) rest h = search rules
 
 names_extend : (kind : NameKind) (raw_tokens : List RawTokenAt) (known : Known)
     → ArePlain raw_tokens → names_of_kind kind (names_from known raw_tokens)
     ≡ extend (names_of_kind kind known.vocabulary)
-    (filter_map (name_of kind) (apart_from known.before (words_in raw_tokens)))
+    (filter_map (of_kind kind) (apart_from known.before (words_in raw_tokens)))
 names_extend kind [] known h = refl
 names_extend kind (raw ∷ rest) known h =
     names_extend kind rest (known_after known raw.word) h.1
@@ -202,71 +263,101 @@ nothing_of : (kind : NameKind) → names_of_kind kind nothing_known.vocabulary �
 nothing_of Proposition = refl
 nothing_of EventKind = refl
 
-kind_run : (kind : NameKind) (text : List ℕ) → names_in kind (words_of text)
-    ≡ names_of_kind kind (names_from nothing_known (raw_tokens_of text))
+kind_run : (kind : NameKind) (text : List ℕ)
+    → take NAMES_MAX (first_uses (filter_map (of_kind kind) (words_among (placed_of text))))
+    ≡ names_of_kind kind (names_of text)
 kind_run kind text =
-    let raw_tokens = raw_tokens_of text in
-    let words = words_in raw_tokens in
-    let uses = filter_map (name_of kind) (apart_from Other words) in
-    ap (names_in kind) (told words).other
+    let raws = raw_tokens_of text in
+    let uses = filter_map (of_kind kind) (apart_from Other (words_in raws)) in
+    ap (λ ws. take NAMES_MAX (first_uses (filter_map (of_kind kind) ws))) (sym (words_same raws))
     ∙ ap (take NAMES_MAX) (sym (filter_all (first_uses uses)))
-    ∙ sym (names_extend kind raw_tokens nothing_known (raw_tokens_plain 0 0 text)
+    ∙ sym (names_extend kind raws nothing_known (raw_tokens_plain 0 0 text)
     ∙ ap (λ l. extend l uses) (nothing_of kind) ∙ extend_takes uses [] (omega arith))
 
-pub names_run : (text : List ℕ) → names_of text ≡ names_from nothing_known (raw_tokens_of text)
+pub names_run : (text : List ℕ) → names_among (placed_of text) ≡ names_of text
 names_run text =
-    search (rules, names_from, nothing_known, raw_tokens_of, names_in, words_of, kind_run)
+    ap (λ (l : List (List ℕ)). record {
+      names = l;
+      events = (names_among (placed_of text)).events;
+    })
+    (kind_run Proposition text)
+    ∙ ap (λ (l : List (List ℕ)). record { names = (names_of text).names; events = l })
+    (kind_run EventKind text)
 
 -- ---- the tokens of a text
 
-apart_token : (scale : ℕ) (before : Before) (names : Vocabulary) (bytes : List ℕ)
-    → token_of scale names (apart before (name bytes)) ≡ numbered (kind_behind before)
-    (unwrap_or (place_of (names_of_kind (kind_behind before) names) bytes) NAMES_MAX)
-apart_token scale EventWord names bytes = refl
-apart_token scale EventParen names bytes = refl
-apart_token scale Other names bytes = refl
+-- A sign is put neither for a name nor for a number.
+fixed_word : (token : Token) → IsNoName token → word_of token ≡ sign (text_of token)
+fixed_word (Numbered i) h = absurd h
+fixed_word (EventName i) h = absurd h
+fixed_word (Units n) h = absurd h
+fixed_word _ h = refl
 
-sign_token : (scale : ℕ) (before : Before) (names : Vocabulary) (token : Token)
-    → token ≡ token_of scale names (apart before (sign token))
-sign_token scale EventWord names token = refl
-sign_token scale EventParen names token = refl
-sign_token scale Other names token = refl
+apart_name : (scale : ℕ) (before : Before) (names : Vocabulary) (bytes : List ℕ)
+    → in_numbers scale names (apart before (raw_name bytes))
+    ≡ word_of (numbered (kind_behind before)
+    (unwrap_or (place_of (names_of_kind (kind_behind before) names) bytes) NAMES_MAX))
+apart_name scale EventWord names bytes = refl
+apart_name scale EventParen names bytes = refl
+apart_name scale Other names bytes = refl
 
-word_token : (scale : ℕ) (known : Known) (word : RawToken) (rest : List RawTokenAt) → IsPlain word
-    → next_token scale known word
-    ≡ token_of scale (names_from (known_after known word) rest) (apart known.before word)
-word_token scale known (name bytes) rest h =
+apart_number : (scale : ℕ) (before : Before) (names : Vocabulary) (bytes : List ℕ)
+    → in_numbers scale names (apart before (raw_number bytes)) ≡ number (units_within scale bytes)
+apart_number scale EventWord names bytes = refl
+apart_number scale EventParen names bytes = refl
+apart_number scale Other names bytes = refl
+
+apart_sign : (scale : ℕ) (before : Before) (names : Vocabulary) (token : Token)
+    → in_numbers scale names (apart before (raw_sign token)) ≡ sign (text_of token)
+apart_sign scale EventWord names token = refl
+apart_sign scale EventParen names token = refl
+apart_sign scale Other names token = refl
+
+word_number : (scale : ℕ) (known : Known) (word : RawToken) (rest : List RawTokenAt) → IsPlain word
+    → word_of (next_token scale known word)
+    ≡ in_numbers scale (names_from (known_after known word) rest) (apart known.before word)
+word_number scale known (raw_name bytes) rest h =
     let kind = kind_behind known.before in
     let names = names_of_kind kind known.vocabulary in
-    let next = known_after known (name bytes) in
+    let next = known_after known (raw_name bytes) in
     let own = own_kind kind known.vocabulary bytes in
     let has = subst (λ l. HasPlace l bytes) (sym own)
     (placed names bytes (place_of names bytes) (nat_lt (length names) NAMES_MAX) refl refl) in
-    ap (λ (o : Option ℕ). numbered kind (unwrap_or o NAMES_MAX))
+    ap (λ (o : Option ℕ). word_of (numbered kind (unwrap_or o NAMES_MAX)))
     (sym (for_good kind next rest bytes has ∙ ap (λ l. place_of l bytes) own))
-    ∙ sym (apart_token scale known.before (names_from next rest) bytes)
-word_token scale known (event_name bytes) rest h = absurd h
-word_token scale known (number bytes) rest h = search rules
-word_token scale known (sign token) rest h = search rules
+    ∙ sym (apart_name scale known.before (names_from next rest) bytes)
+word_number scale known (raw_event bytes) rest h = absurd h
+word_number scale known (raw_number bytes) rest h =
+    sym (apart_number scale known.before (names_from (known_after known (raw_number bytes)) rest)
+    bytes)
+word_number scale known (raw_sign token) rest h = fixed_word token h
+    ∙ sym (apart_sign scale known.before
+    (names_from (known_after known (raw_sign token)) rest) token)
 
-tokens_apart : (scale : ℕ) (raw_tokens : List RawTokenAt) (known : Known) → ArePlain raw_tokens
-    → tokens_from scale known raw_tokens ≡ map (token_of scale (names_from known raw_tokens))
-    (apart_from known.before (words_in raw_tokens))
+tokens_apart : (scale : ℕ) (raws : List RawTokenAt) (known : Known) → ArePlain raws
+    → words_for (tokens_from scale known raws)
+    ≡ map (in_numbers scale (names_from known raws)) (apart_from known.before (words_in raws))
 tokens_apart scale [] known h = refl
 tokens_apart scale (raw ∷ rest) known h =
     let next = known_after known raw.word in
-    ap (λ t. t ∷ tokens_from scale next rest) (word_token scale known raw.word rest h.0)
-    ∙ ap (λ l. token_of scale (names_from next rest) (apart known.before raw.word) ∷ l)
+    ap (λ (w : Word ℕ). w ∷ words_for (tokens_from scale next rest))
+    (word_number scale known raw.word rest h.0)
+    ∙ ap (λ l. in_numbers scale (names_from next rest) (apart known.before raw.word) ∷ l)
     (tokens_apart scale rest next h.1)
 
-pub tokens_run : (scale : ℕ) (text : List ℕ) → tokens_of scale text
-    ≡ tokens_from scale nothing_known (raw_tokens_of text)
+pub tokens_run : (scale : ℕ) (text : List ℕ)
+    → words_for (tokens_of scale text) ≡ numbered_words scale (placed_of text)
 tokens_run scale text =
-    let raw_tokens = raw_tokens_of text in
-    ap (map (token_of scale (names_of text))) (told (words_in raw_tokens)).other
-    ∙ ap (λ names. map (token_of scale names) (apart_from Other (words_in raw_tokens)))
-    (names_run text)
-    ∙ sym (tokens_apart scale raw_tokens nothing_known (raw_tokens_plain 0 0 text))
+    let raws = raw_tokens_of text in
+    tokens_apart scale raws nothing_known (raw_tokens_plain 0 0 text)
+    ∙ ap (map (in_numbers scale (names_of text))) (words_same raws)
+    ∙ ap (λ (known : Vocabulary). map (in_numbers scale known) (words_among (placed_of text)))
+    (sym (names_run text))
+
+pub offsets_run : (raws : List RawTokenAt)
+    → map (λ (raw : RawTokenAt). raw.at) raws ≡ map (λ (w : WordAt). w.0) (map word_at raws)
+offsets_run [] = refl
+offsets_run (raw ∷ rest) = ap (λ (l : List ℕ). raw.at ∷ l) (offsets_run rest)
 
 -- ---- the first name past the first NAMES_MAX
 
@@ -285,33 +376,34 @@ few_with known bytes le = by (is_none (place_of known bytes))
     by false room e = le
 
 few_after : (known : Known) (word : RawToken) → AreFew known → AreFew (known_after known word)
-few_after known (name bytes) h = λ kind.
+few_after known (raw_name bytes) h = λ kind.
     let names = names_of_kind kind known.vocabulary in
     kind_by (λ l. length l ≤ NAMES_MAX) kind (kind_behind known.before) known.vocabulary bytes
     (h kind) (few_with names bytes (h kind))
-few_after known (event_name bytes) h = h
-few_after known (number bytes) h = h
-few_after known (sign token) h = h
+few_after known (raw_event bytes) h = h
+few_after known (raw_number bytes) h = h
+few_after known (raw_sign token) h = h
 
 number_past : (kind : NameKind) (place : Option ℕ) → ((i : ℕ) → place ≡ Some i → i < NAMES_MAX)
-    → is_past (numbered kind (unwrap_or place NAMES_MAX)) ≡ is_none place
+    → is_past (word_of (numbered kind (unwrap_or place NAMES_MAX))) ≡ is_none place
 number_past Proposition None below = refl
 number_past EventKind None below = refl
 number_past Proposition (Some i) below = let less = below i refl in grind (arith, nat_tests)
 number_past EventKind (Some i) below = let less = below i refl in grind (arith, nat_tests)
 
-sign_past : (token : Token) → IsNoName token → is_past token ≡ false
+sign_past : (token : Token) → IsNoName token → is_past (word_of token) ≡ false
 sign_past (Numbered i) h = absurd h
 sign_past (EventName i) h = absurd h
+sign_past (Units n) h = absurd h
 sign_past _ h = refl
 
 word_past : (scale : ℕ) (known : Known) (word : RawToken) → AreFew known → IsPlain word
-    → is_past (next_token scale known word) ≡ word_is_past known word
-word_past scale known (name bytes) few h =
+    → is_past (word_of (next_token scale known word)) ≡ word_is_past known word
+word_past scale known (raw_name bytes) few h =
     search (rules, kind_behind, names_with, names_of_kind, few_with, number_past, position-Some)
-word_past scale known (event_name bytes) few h = absurd h
-word_past scale known (number bytes) few h = refl
-word_past scale known (sign token) few h = sign_past token h
+word_past scale known (raw_event bytes) few h = absurd h
+word_past scale known (raw_number bytes) few h = refl
+word_past scale known (raw_sign token) few h = sign_past token h
 
 -- The first place that passes, where the first element is looked at.
 position_first : {X : Type 0} (p : X → Bool) (x : X) (xs : List X) → position p (x ∷ xs)
@@ -343,7 +435,7 @@ past_word first size offsets false (Some place) = refl
 past_places : (scale size : ℕ) (raw_tokens : List RawTokenAt) (known : Known) → AreFew known
     → ArePlain raw_tokens → past_from known raw_tokens
     ≡ option_map (λ place. slice_index_or (offsets_of raw_tokens) place size)
-    (position is_past (tokens_from scale known raw_tokens))
+    (position is_past (words_for (tokens_from scale known raw_tokens)))
 past_places scale size [] known few h = refl
 past_places scale size (raw ∷ rest) known few h =
     let next = known_after known raw.word in
@@ -353,10 +445,10 @@ past_places scale size (raw ∷ rest) known few h =
     ap (λ later. if word_is_past known raw.word then Some raw.at else later)
     (past_places scale size rest next (few_after known raw.word few) h.1)
     ∙ past_word raw.at size (offsets_of rest) (word_is_past known raw.word)
-    (position is_past tokens)
-    ∙ ap (λ is. option_map offset (if is then Some 0 else option_map suc (position is_past tokens)))
+    (position is_past (words_for tokens))
+    ∙ ap (λ is. option_map offset (if is then Some 0 else option_map suc (position is_past (words_for tokens))))
     (sym (word_past scale known raw.word few h.0))
-    ∙ ap (option_map offset) (sym (position_first is_past token tokens))
+    ∙ ap (option_map offset) (sym (position_first is_past (word_of token) (words_for tokens)))
 
 nothing_few : AreFew nothing_known
 nothing_few Proposition = omega arith
@@ -364,26 +456,18 @@ nothing_few EventKind = omega arith
 
 pub past_run : (scale : ℕ) (text : List ℕ) → past_of (text_tokens_of scale text)
     ≡ past_from nothing_known (raw_tokens_of text)
-past_run scale text =
-    let raw_tokens = raw_tokens_of text in
-    let offset = λ (place : ℕ). slice_index_or (offsets_of raw_tokens) place (length text) in
-    ap (λ tokens. option_map offset (position is_past tokens)) (tokens_run scale text)
-    ∙ sym (past_places scale (length text) raw_tokens nothing_known nothing_few
-    (raw_tokens_plain 0 0 text))
+past_run scale text = sym (past_places scale (length text) (raw_tokens_of text) nothing_known
+    nothing_few (raw_tokens_plain 0 0 text))
 
 -- ---- the number of a name
 
 pub name_number : (scale : ℕ) (text bytes : List ℕ) (front back : List RawTokenAt) (at : ℕ)
-    → raw_tokens_of text ≡ front ++ (record { at = at; word = name bytes }) ∷ back →
+    → raw_tokens_of text ≡ front ++ (record { at = at; word = raw_name bytes }) ∷ back →
     HasTokenAt (tokens_of scale text) (length front) (numbered (kind_after front) (unwrap_or
     (place_of (names_of_kind (kind_after front) (names_of text)) bytes) NAMES_MAX))
 name_number scale text bytes front back at e =
     let kind = kind_after front in
-    let P = λ (tokens : List Token) (names : Vocabulary). HasTokenAt tokens (length front)
-    (numbered kind (unwrap_or (place_of (names_of_kind kind names) bytes) NAMES_MAX)) in
-    let Q = λ (raw_tokens : List RawTokenAt). P (tokens_from scale nothing_known raw_tokens)
-    (names_from nothing_known raw_tokens) in
-    subst (λ names. P (tokens_of scale text) names) (sym (names_run text))
-    (subst (λ tokens. P tokens (names_from nothing_known (raw_tokens_of text)))
-    (sym (tokens_run scale text))
-    (subst Q (sym e) (number_from scale front back at bytes nothing_known)))
+    let Q = λ (raws : List RawTokenAt). HasTokenAt (tokens_from scale nothing_known raws)
+    (length front) (numbered kind (unwrap_or
+    (place_of (names_of_kind kind (names_from nothing_known raws)) bytes) NAMES_MAX)) in
+    subst Q (sym e) (number_from scale front back at bytes nothing_known)

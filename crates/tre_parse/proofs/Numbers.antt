@@ -1,6 +1,6 @@
 -- The numbers of the names in an expression come as its tokens have them.
 use Rattle.std.proofs.Common.{◌≡◌, ℕ, ◌+◌, ◌<◌, ◌≤◌, Bool, true, false, Option, Some, None, List, [], ◌∷◌, ◌++◌, refl, sym, ◌∙◌, ap, arith, append_assoc, rules}
-use Rattle.std.specs.Prelude.{nat_lt, ◌==◌, if◌then◌else◌}
+use Rattle.std.specs.Prelude.{codes, nat_lt, ◌==◌, if◌then◌else◌}
 use Rattle.std.proofs.lemmas.Bool.Decides.{nat_tests}
 use Rattle.std.proofs.lemmas.List.{append-nil}
 use Rattle.tre_state.specs.StateTree.{StateTree, always, proposition, negation}
@@ -8,15 +8,15 @@ use Rattle.tre_syntax.specs.declared.name_kind.NameKind.{NameKind}
 use Rattle.tre_syntax.specs.declared.name_kind.NameKind.TheVariants.{Proposition, Event as EventKind}
 use Rattle.tre_syntax.specs.PatternTree.{PatternTree, numbers_of_state, numbers_of, seen_after}
 use Rattle.tre_zone.specs.Interval.{IntervalEnds}
-use Rattle.tre_parse.specs.declared.token.Token.{Token}
-use Rattle.tre_parse.specs.declared.token.Token.TheVariants.{Name, RightParen, RightBrace, Semicolon, Bar, Ampersand, Star, Plus, Question, Percent, Ends}
-use Rattle.tre_parse.specs.TokenGrammar.{StateRule, lit, state, conj, neg, SpellsState, lit_name, lit_true, lit_braces, lit_bang, state_conj, state_bars, conj_neg, conj_ampersands, neg_name, neg_true, neg_parens, neg_bang, SpellsInterval, with_high, without_high, Rule, expr, meet, seq, post, primary, Spells, expr_meet, expr_bar, meet_seq, meet_ampersand, seq_post, seq_semicolon, post_primary, post_star, post_plus, post_question, post_percent, primary_eps, primary_parens, primary_rise, primary_fall, primary_event, primary_lit, primary_begins, primary_ends, primary_begins_ends}
+use Rattle.tre_parse.specs.Words.{Word, name, sign}
+use Rattle.tre_parse.specs.TokenWords.{word_of}
+use Rattle.tre_parse.specs.Grammar.{Words, StateRule, state, conj, unary, SpellsState, unary_name, unary_true, unary_bang, braces, parens, state_conj, state_bars, conj_unary, conj_ampersands, SpellsInterval, with_high, without_high, Rule, expr, meet, seq, post, primary, Spells, expr_meet, expr_bar, meet_seq, meet_ampersand, seq_post, seq_semicolon, post_primary, post_star, post_plus, post_question, post_percent, primary_eps, primary_parens, primary_rise, primary_fall, primary_event, primary_lit, primary_begins, primary_ends, primary_begins_ends}
 use Rattle.tre_parse.specs.declared.connective.Connective.{Connective}
 use Rattle.tre_parse.specs.declared.connective.Connective.TheVariants.{And, Or}
 use Rattle.tre_parse.specs.Joins.{connected, connective_sign}
 use Rattle.tre_parse.specs.Numbering.{numbers_at, numbers_in}
 
-pub numbers_join : (kind : NameKind) (xs ys : List Token) → numbers_in kind (xs ++ ys)
+pub numbers_join : (kind : NameKind) (xs ys : Words) → numbers_in kind (xs ++ ys)
     ≡ numbers_in kind xs ++ numbers_in kind ys
 numbers_join kind [] ys = refl
 numbers_join kind (token ∷ xs) ys =
@@ -24,13 +24,13 @@ numbers_join kind (token ∷ xs) ys =
     ∙ sym (append_assoc (numbers_at token kind) (numbers_in kind xs) (numbers_in kind ys))
 
 -- Brackets around tokens have no numbers.
-numbers_closed : (kind : NameKind) (xs : List Token) (mark : Token)
+numbers_closed : (kind : NameKind) (xs : Words) (mark : Word ℕ)
     → numbers_in kind (mark ∷ []) ≡ [] → numbers_in kind (xs ++ mark ∷ []) ≡ numbers_in kind xs
 numbers_closed kind xs mark e = numbers_join kind xs (mark ∷ [])
     ∙ ap (λ l. numbers_in kind xs ++ l) e ∙ append-nil (numbers_in kind xs)
 
 name_numbers : (kind : NameKind) (i : ℕ) → numbers_of_state kind (proposition i)
-    ≡ numbers_in kind (Name i ∷ [])
+    ≡ numbers_in kind (name i ∷ [])
 name_numbers Proposition i = refl
 name_numbers EventKind i = refl
 
@@ -52,33 +52,29 @@ both_numbers Proposition And s t = refl
 both_numbers Proposition Or s t = refl
 both_numbers EventKind how s t = refl
 
-joined_numbers : (kind : NameKind) (how : Connective) (xs ys : List Token) (s t : StateTree)
+joined_numbers : (kind : NameKind) (how : Connective) (xs ys : Words) (s t : StateTree)
     → numbers_of_state kind s ≡ numbers_in kind xs → numbers_of_state kind t ≡ numbers_in kind ys
-    → numbers_in kind (connective_sign how ∷ ys) ≡ numbers_in kind ys →
-    numbers_of_state kind (connected how s t) ≡ numbers_in kind (xs ++ connective_sign how ∷ ys)
+    → numbers_in kind (word_of (connective_sign how) ∷ ys) ≡ numbers_in kind ys →
+    numbers_of_state kind (connected how s t) ≡ numbers_in kind (xs ++ word_of (connective_sign how) ∷ ys)
 joined_numbers kind how xs ys s t h k e =
     search (rules, both_numbers, numbers_of_state, numbers_in, numbers_join, connective_sign)
 
-state_numbers : (kind : NameKind) (r : StateRule) (xs : List Token) (s : StateTree)
+state_numbers : (kind : NameKind) (r : StateRule) (xs : Words) (s : StateTree)
     → SpellsState r xs s → numbers_of_state kind s ≡ numbers_in kind xs
-state_numbers kind _ _ _ (lit_name i) = name_numbers kind i
-state_numbers kind _ _ _ lit_true = always_numbers kind
-state_numbers kind _ _ _ (lit_braces xs s h) = state_numbers kind state xs s h
-    ∙ sym (numbers_closed kind xs RightBrace refl)
-state_numbers kind _ _ _ (lit_bang xs s h) = negation_numbers kind s
-    ∙ state_numbers kind lit xs s h
+state_numbers kind _ _ _ (unary_name inside i) = name_numbers kind i
+state_numbers kind _ _ _ (unary_true inside) = always_numbers kind
+state_numbers kind _ _ _ (unary_bang inside xs s h) = negation_numbers kind s
+    ∙ state_numbers kind (unary inside) xs s h
+state_numbers kind _ _ _ (braces xs s h) = state_numbers kind state xs s h
+    ∙ sym (numbers_closed kind xs (sign (codes "}")) refl)
+state_numbers kind _ _ _ (parens xs s h) = state_numbers kind state xs s h
+    ∙ sym (numbers_closed kind xs (sign (codes ")")) refl)
 state_numbers kind _ _ _ (state_conj xs s h) = state_numbers kind conj xs s h
 state_numbers kind _ _ _ (state_bars xs ys s t h k) = joined_numbers kind Or xs ys s t
     (state_numbers kind state xs s h) (state_numbers kind conj ys t k) refl
-state_numbers kind _ _ _ (conj_neg xs s h) = state_numbers kind neg xs s h
+state_numbers kind _ _ _ (conj_unary xs s h) = state_numbers kind (unary true) xs s h
 state_numbers kind _ _ _ (conj_ampersands xs ys s t h k) = joined_numbers kind And xs ys s t
-    (state_numbers kind conj xs s h) (state_numbers kind neg ys t k) refl
-state_numbers kind _ _ _ (neg_name i) = name_numbers kind i
-state_numbers kind _ _ _ neg_true = always_numbers kind
-state_numbers kind _ _ _ (neg_parens xs s h) = state_numbers kind state xs s h
-    ∙ sym (numbers_closed kind xs RightParen refl)
-state_numbers kind _ _ _ (neg_bang xs s h) = negation_numbers kind s
-    ∙ state_numbers kind neg xs s h
+    (state_numbers kind conj xs s h) (state_numbers kind (unary true) ys t k) refl
 
 -- Numbers read in two parts.
 record SeenBetween (xs ys : List ℕ) (n m : ℕ) : Type 0 where
@@ -146,12 +142,12 @@ seen_again : (xs : List ℕ) (n m : ℕ) → seen_after n xs ≡ Some m → seen
 seen_again xs n m e = seen_join xs xs n m m e (seen_more xs n m m e (omega arith)).1
 
 -- Whatever is known before, the tokens and the expression come to as many names.
-pub record CountsAlike (xs : List Token) (e : PatternTree) : Type 0 where
+pub record CountsAlike (xs : Words) (e : PatternTree) : Type 0 where
   pub alike : (kind : NameKind) (n m : ℕ) → seen_after n (numbers_in kind xs) ≡ Some m
       → seen_after n (numbers_of kind e) ≡ Some m
 
 -- Two parts side by side, with a token between them.
-alike_join : (xs ys : List Token) (mark : Token) (e f : PatternTree) →
+alike_join : (xs ys : Words) (mark : Word ℕ) (e f : PatternTree) →
     ((kind : NameKind) → numbers_in kind (mark ∷ ys) ≡ numbers_in kind ys) →
     CountsAlike xs e → CountsAlike ys f →
     (kind : NameKind) (n m : ℕ) → seen_after n (numbers_in kind (xs ++ mark ∷ ys)) ≡ Some m
@@ -163,66 +159,66 @@ alike_join xs ys mark e f s a b kind n m h =
     seen_join (numbers_of kind e) (numbers_of kind f) n r.between m
     (a.alike kind n r.between r.first) (b.alike kind r.between m r.second)
 
-alike_closed : (xs : List Token) (mark : Token) (e : PatternTree) →
+alike_closed : (xs : Words) (mark : Word ℕ) (e : PatternTree) →
     ((kind : NameKind) → numbers_in kind (mark ∷ []) ≡ []) → CountsAlike xs e →
     (kind : NameKind) (n m : ℕ) → seen_after n (numbers_in kind (xs ++ mark ∷ [])) ≡ Some m
     → seen_after n (numbers_of kind e) ≡ Some m
 alike_closed xs mark e s a kind n m h = a.alike kind n m
     (ap (seen_after n) (sym (numbers_closed kind xs mark (s kind))) ∙ h)
 
-state_seen : (r : StateRule) (xs : List Token) (s : StateTree) → SpellsState r xs s
+state_seen : (r : StateRule) (xs : Words) (s : StateTree) → SpellsState r xs s
     → (kind : NameKind) (n m : ℕ) → seen_after n (numbers_in kind xs) ≡ Some m
     → seen_after n (numbers_of_state kind s) ≡ Some m
 state_seen r xs s h kind n m e = ap (seen_after n) (state_numbers kind r xs s h) ∙ e
 
 -- A state in brackets, or before a `:>`.
-closed_seen : (r : StateRule) (xs : List Token) (s : StateTree) (mark : Token) →
+closed_seen : (r : StateRule) (xs : Words) (s : StateTree) (mark : Word ℕ) →
     ((kind : NameKind) → numbers_in kind (mark ∷ []) ≡ []) → SpellsState r xs s →
     (kind : NameKind) (n m : ℕ) → seen_after n (numbers_in kind (xs ++ mark ∷ [])) ≡ Some m
     → seen_after n (numbers_of_state kind s) ≡ Some m
 closed_seen r xs s mark e h kind n m q = state_seen r xs s h kind n m
     (ap (seen_after n) (sym (numbers_closed kind xs mark (e kind))) ∙ q)
 
-pub counts_alike : (r : Rule) (xs : List Token) (e : PatternTree) → Spells r xs e → CountsAlike xs e
+pub counts_alike : (r : Rule) (xs : Words) (e : PatternTree) → Spells r xs e → CountsAlike xs e
 counts_alike _ _ _ (expr_meet xs e h) = counts_alike meet xs e h
 counts_alike _ _ _ (expr_bar xs ys e f h k) = record
-    { alike = alike_join xs ys Bar e f (λ kind. refl) (counts_alike expr xs e h) (counts_alike meet ys f k) }
+    { alike = alike_join xs ys (sign (codes "|")) e f (λ kind. refl) (counts_alike expr xs e h) (counts_alike meet ys f k) }
 counts_alike _ _ _ (meet_seq xs e h) = counts_alike seq xs e h
 counts_alike _ _ _ (meet_ampersand xs ys e f h k) =
     record {
-      alike = alike_join xs ys Ampersand e f (λ kind. refl) (counts_alike meet xs e h)
+      alike = alike_join xs ys (sign (codes "&")) e f (λ kind. refl) (counts_alike meet xs e h)
           (counts_alike seq ys f k);
     }
 counts_alike _ _ _ (seq_post xs e h) = counts_alike post xs e h
 counts_alike _ _ _ (seq_semicolon xs ys e f h k) =
     record {
-      alike = alike_join xs ys Semicolon e f (λ kind. refl) (counts_alike seq xs e h)
+      alike = alike_join xs ys (sign (codes ";")) e f (λ kind. refl) (counts_alike seq xs e h)
           (counts_alike post ys f k);
     }
 counts_alike _ _ _ (post_primary xs e h) = counts_alike primary xs e h
 counts_alike _ _ _ (post_star xs e h) = record {
   alike =
-      alike_closed xs Star e (λ kind. refl) (counts_alike post xs e h);
+      alike_closed xs (sign (codes "*")) e (λ kind. refl) (counts_alike post xs e h);
 }
 counts_alike _ _ _ (post_plus xs e h) =
     record {
       alike = λ kind n m q. seen_again (numbers_of kind e) n m
-          (alike_closed xs Plus e (λ kind. refl) (counts_alike post xs e h) kind n m q);
+          (alike_closed xs (sign (codes "+")) e (λ kind. refl) (counts_alike post xs e h) kind n m q);
     }
 counts_alike _ _ _ (post_question xs e h) =
     record {
       alike = λ kind n m q. ap (seen_after n) (append-nil (numbers_of kind e))
-          ∙ alike_closed xs Question e (λ kind. refl) (counts_alike post xs e h) kind n m q;
+          ∙ alike_closed xs (sign (codes "?")) e (λ kind. refl) (counts_alike post xs e h) kind n m q;
     }
 counts_alike _ _ _ (post_percent xs ys e i h k) =
     record {
       alike = λ kind n m q. (counts_alike post xs e h).alike kind n m
-          (ap (seen_after n) (sym (numbers_join kind xs (Percent ∷ ys)
+          (ap (seen_after n) (sym (numbers_join kind xs (sign (codes "%") ∷ ys)
           ∙ ap (λ l. numbers_in kind xs ++ l) (interval_numbers kind ys i k)
           ∙ append-nil (numbers_in kind xs))) ∙ q);
     }
   where
-    interval_numbers : (kind : NameKind) (ys : List Token) (i : IntervalEnds)
+    interval_numbers : (kind : NameKind) (ys : Words) (i : IntervalEnds)
         → SpellsInterval ys i → numbers_in kind ys ≡ []
     interval_numbers kind _ _ (with_high low high true true) = refl
     interval_numbers kind _ _ (with_high low high true false) = refl
@@ -232,26 +228,26 @@ counts_alike _ _ _ (post_percent xs ys e i h k) =
     interval_numbers kind _ _ (without_high low false) = refl
 counts_alike _ _ _ primary_eps = record { alike = λ kind n m q. q }
 counts_alike _ _ _ (primary_parens xs e h) = record
-    { alike = alike_closed xs RightParen e (λ kind. refl) (counts_alike expr xs e h) }
+    { alike = alike_closed xs (sign (codes ")")) e (λ kind. refl) (counts_alike expr xs e h) }
 counts_alike _ _ _ (primary_rise xs s h) = record
-    { alike = closed_seen state xs s RightParen (λ kind. refl) h }
+    { alike = closed_seen state xs s (sign (codes ")")) (λ kind. refl) h }
 counts_alike _ _ _ (primary_fall xs s h) = record
-    { alike = closed_seen state xs s RightParen (λ kind. refl) h }
+    { alike = closed_seen state xs s (sign (codes ")")) (λ kind. refl) h }
 counts_alike _ _ _ (primary_event i) = search rules
-counts_alike _ _ _ (primary_lit xs s h) = record { alike = state_seen lit xs s h }
+counts_alike _ _ _ (primary_lit xs s h) = record { alike = state_seen (unary false) xs s h }
 counts_alike _ _ _ (primary_begins xs s h) = record {
-  alike = λ kind n m q. seen_again (numbers_of_state kind s) n m (state_seen lit xs s h kind n m q);
+  alike = λ kind n m q. seen_again (numbers_of_state kind s) n m (state_seen (unary false) xs s h kind n m q);
 }
 counts_alike _ _ _ (primary_ends xs s h) =
     record {
       alike = λ kind n m q. seen_again (numbers_of_state kind s) n m
-          (closed_seen lit xs s Ends (λ kind. refl) h kind n m q);
+          (closed_seen (unary false) xs s (sign (codes ":>")) (λ kind. refl) h kind n m q);
     }
 counts_alike _ _ _ (primary_begins_ends xs s h) =
     record {
       alike = λ kind n m q.
           let names = numbers_of_state kind s in
-          let once = closed_seen lit xs s Ends (λ kind. refl) h kind n m q in
+          let once = closed_seen (unary false) xs s (sign (codes ":>")) (λ kind. refl) h kind n m q in
           let more = (seen_more names n m m once (omega arith)).1 in
           seen_join (names ++ names) names n m m (seen_again names n m once) more;
     }

@@ -3,7 +3,7 @@ use Rattle.std.proofs.Common.{ℕ, ◌+◌, ◌-◌, zero, suc, Bool, true, fals
 use Rattle.std.specs.Prelude.{nat_eq}
 use Rattle.std.specs.List.{starts_with}
 use Rattle.tre_parse.specs.declared.token.Token.{Token}
-use Rattle.tre_parse.specs.declared.token.Token.TheVariants.{Name as Numbered, EventName}
+use Rattle.tre_parse.specs.declared.token.Token.TheVariants.{Name as Numbered, EventName, Number as Units}
 use Rattle.tre_parse.specs.declared.lexeme.Lexeme.{Lexeme}
 use Rattle.tre_parse.specs.declared.lexeme.Lexeme.TheVariants.{Blank, Wrong, Name, Number, Sign}
 use Rattle.tre_parse.specs.Lexeme.{first_sign, sign_lexeme, lexeme_of}
@@ -11,10 +11,11 @@ use Rattle.tre_parse.proofs.Table.{Each}
 use Rattle.tre_parse.specs.Tokens.{RawToken, name, event_name, number, sign, RawTokenAt}
 use Rattle.tre_parse.specs.Scanned.{RawTokens, raw_tokens_from, scanned}
 
--- A token that is no name.
+-- A token that is neither a name nor a number.
 abbrev pub IsNoName : Token → Type 0
 IsNoName (Numbered i) = ⊥
 IsNoName (EventName i) = ⊥
+IsNoName (Units n) = ⊥
 IsNoName _ = Unit {0}
 
 abbrev SaysNoName : Lexeme → Type 0

@@ -4,11 +4,12 @@ use Rattle.std.proofs.lemmas.List.{append-nil}
 use Rattle.tre_state.specs.StateTree.{StateTree, always, disjunction, conjunction, negation}
 use Rattle.tre_syntax.specs.PatternTree.{PatternTree, atom, literal, rise, fall, event, alternation, intersection, sequence, restriction}
 use Rattle.tre_parse.specs.declared.token.Token.{Token}
-use Rattle.tre_parse.specs.declared.token.Token.TheVariants.{LeftParen, RightParen, LeftBrace, RightBrace, Semicolon, Bar, DoubleBar, Ampersand, DoubleAmpersand, Percent, Rise, Fall, True, EventName}
 use Rattle.tre_parse.specs.declared.connective.Connective.TheVariants.{And, Or}
 use Rattle.tre_parse.specs.declared.connective.Join.TheVariants.{Sequence, Intersection, Alternation}
-use Rattle.tre_parse.specs.TokenGrammar as grammar
-use Rattle.tre_parse.specs.TokenGrammar.{StateRule, lit, state, conj, neg, SpellsState, Rule, expr, meet, seq, post, primary, Spells}
+use Rattle.tre_parse.specs.Words.{Word, event_name, sign}
+use Rattle.tre_parse.specs.TokenWords.{words_for}
+use Rattle.tre_parse.specs.Grammar as grammar
+use Rattle.tre_parse.specs.Grammar.{Words, StateRule, state, conj, unary, SpellsState, Rule, expr, meet, seq, post, primary, Spells}
 use Rattle.tre_parse.specs.Begins as begin
 use Rattle.tre_parse.specs.Begins.{BeginsState, Begins, IsCompletable}
 use Rattle.tre_parse.specs.Front.{front}
@@ -17,12 +18,13 @@ use Rattle.tre_parse.proofs.Fixpoint.{left}
 use Rattle.tre_parse.proofs.Spelt.{state_is_read, whole_state, is_read, whole_expression, whole_operand}
 use Rattle.tre_parse.proofs.Says.{Spelt, Begun, before, Says, TaskSays}
 use Rattle.tre_parse.proofs.Rules.{task_says, begun_state, begun}
+use Rattle.tre_parse.proofs.TokenWords.{tokens_as, together}
+use Rattle.std.specs.Prelude.{ℕ, codes, not}
 
 -- ---- what is spelt is read to its end
 
 abbrev pub state_task : StateRule → StateTask
-state_task lit = state_operand true
-state_task neg = state_operand false
+state_task (unary inside) = state_operand (not inside)
 state_task conj = state_by And
 state_task state = state_by Or
 
@@ -33,17 +35,16 @@ pattern_task seq = expression_by Sequence
 pattern_task post = operand
 pattern_task primary = unsigned
 
-state_end : (r : StateRule) (xs : List Token) (s : StateTree) → SpellsState r xs s
-    → read_state (state_task r) (xs ++ []) ≡ got s []
-state_end lit xs s h = state_is_read lit xs s h []
-state_end neg xs s h = state_is_read neg xs s h []
+state_end : (r : StateRule) (xs : Words) (s : StateTree) → SpellsState r xs s
+    → read_state (state_task r) (tokens_as xs ++ []) ≡ got s []
+state_end (unary inside) xs s h = state_is_read (unary inside) xs s h []
 state_end conj xs s h = state_is_read conj xs s h [] (omega arith)
     ∙ whole_state And s [] (omega arith)
 state_end state xs s h = state_is_read state xs s h [] (omega arith)
     ∙ whole_state Or s [] (omega arith)
 
-pattern_end : (r : Rule) (xs : List Token) (e : PatternTree) → Spells r xs e
-    → read_pattern (pattern_task r) (xs ++ []) ≡ got e []
+pattern_end : (r : Rule) (xs : Words) (e : PatternTree) → Spells r xs e
+    → read_pattern (pattern_task r) (tokens_as xs ++ []) ≡ got e []
 pattern_end expr xs e h = is_read expr xs e h [] (omega arith)
     ∙ whole_expression Alternation e [] (omega arith)
 pattern_end meet xs e h = is_read meet xs e h [] (omega arith)
@@ -54,9 +55,10 @@ pattern_end post xs e h = is_read post xs e h [] (omega arith) ∙ whole_operand
 pattern_end primary xs e h = is_read primary xs e h [] (omega arith)
 
 -- The same of the tokens alone.
-pub pattern_whole : (r : Rule) (xs : List Token) (e : PatternTree) → Spells r xs e
-    → read_pattern (pattern_task r) xs ≡ got e []
-pattern_whole r xs e h = ap (λ ts. read_pattern (pattern_task r) ts) (sym (append-nil xs))
+pub pattern_whole : (r : Rule) (xs : Words) (e : PatternTree) → Spells r xs e
+    → read_pattern (pattern_task r) (tokens_as xs) ≡ got e []
+pattern_whole r xs e h =
+    ap (λ ts. read_pattern (pattern_task r) ts) (sym (append-nil (tokens_as xs)))
     ∙ pattern_end r xs e h
 
 -- ---- each front of what is spelt begins the rule
@@ -77,37 +79,40 @@ none_left task xs ys taken (t ∷ rest) o e q alike =
     never (stop us) k = absurd (cc)
 
 front_says : (task : Task) (xs ys : List Token) → left (read task (xs ++ ys)) ≡ []
-    → ((x : Made task) × Spelt task xs x) ⊎ Begun task xs
+    → ((x : Made task) × Spelt task (words_for xs) x) ⊎ Begun task (words_for xs)
 front_says task xs ys q = let s = task_says task xs in
-    by s (read task xs) s.says (sym (s.split ∙ ap (λ ts. s.taken ++ ts)
+    by s (read task xs) s.says (ap (λ ts. words_for ts) (sym (s.split
+    ∙ ap (λ ts. s.taken ++ ts)
     (none_left task xs ys s.taken (left (read task xs)) (read task xs) s.split q s.alike)
-    ∙ append-nil s.taken))
+    ∙ append-nil s.taken)))
   where
     by : (s : TaskSays task xs) (o : Reading (Made task))
-        → Says (Spelt task) (Begun task) s.taken o → s.taken ≡ xs →
-        ((x : Made task) × Spelt task xs x) ⊎ Begun task xs
-    by s (got x rest) h e = inl (x, subst (λ ts. Spelt task ts x) e h)
-    by s (stop rest) h e = inr (subst (λ ts. Begun task ts) e h)
+        → Says (Spelt task) (Begun task) (words_for s.taken) o → words_for s.taken ≡ words_for xs →
+        ((x : Made task) × Spelt task (words_for xs) x) ⊎ Begun task (words_for xs)
+    by s (got x rest) h e = inl (x, subst (λ (ws : Words). Spelt task ws x) e h)
+    by s (stop rest) h e = inr (subst (λ (ws : Words). Begun task ws) e h)
 
 -- What a rule's task spells and begins the rule does.
-state_begun : (r : StateRule) (xs : List Token) → ((s : StateTree)
+state_begun : (r : StateRule) (xs : Words) → ((s : StateTree)
     × Spelt (of_state (state_task r)) xs s) ⊎ Begun (of_state (state_task r)) xs → BeginsState r xs
-state_begun lit xs (inl k) = begun_state lit xs k.0 k.1
-state_begun lit xs (inr k) = k
-state_begun neg xs (inl k) = begun_state neg xs k.0 k.1
-state_begun neg xs (inr k) = k
+state_begun (unary true) xs (inl k) = begun_state (unary true) xs k.0 k.1
+state_begun (unary true) xs (inr k) = k
+state_begun (unary false) xs (inl k) = begun_state (unary false) xs k.0 k.1
+state_begun (unary false) xs (inr k) = k
 state_begun conj xs (inl k) = begun_state conj xs k.0 k.1
 state_begun conj xs (inr k) = k
 state_begun state xs (inl k) = begun_state state xs k.0 k.1
 state_begun state xs (inr k) = k
 
-pub state_front : (r : StateRule) (ts : List Token) (s : StateTree) → SpellsState r ts s
-    → (xs ys : List Token) → ts ≡ xs ++ ys → BeginsState r xs
-state_front r ts s h xs ys q = state_begun r xs (front_says (of_state (state_task r)) xs ys
-    (ap (λ us. left (read_state (state_task r) us)) (sym q ∙ sym (append-nil ts))
-    ∙ ap left (state_end r ts s h)))
+pub state_front : (r : StateRule) (xs : List Token) (ys : Words) (s : StateTree)
+    → SpellsState r (words_for xs ++ ys) s → BeginsState r (words_for xs)
+state_front r xs ys s h =
+    state_begun r (words_for xs) (front_says (of_state (state_task r)) xs (tokens_as ys)
+    (ap (λ us. left (read_state (state_task r) us)) (together xs ys
+    ∙ sym (append-nil (tokens_as (words_for xs ++ ys))))
+    ∙ ap left (state_end r (words_for xs ++ ys) s h)))
 
-pattern_begun : (r : Rule) (xs : List Token) → ((e : PatternTree)
+pattern_begun : (r : Rule) (xs : Words) → ((e : PatternTree)
     × Spelt (of_pattern (pattern_task r)) xs e) ⊎ Begun (of_pattern (pattern_task r)) xs
     → Begins r xs
 pattern_begun expr xs (inl k) = begun expr xs k.0 k.1
@@ -121,56 +126,65 @@ pattern_begun post xs (inr k) = k
 pattern_begun primary xs (inl k) = begun primary xs k.0 k.1
 pattern_begun primary xs (inr k) = k
 
-pub front_begins : (r : Rule) (ts : List Token) (e : PatternTree) → Spells r ts e
-    → (xs ys : List Token) → ts ≡ xs ++ ys → Begins r xs
-front_begins r ts e h xs ys q = pattern_begun r xs (front_says (of_pattern (pattern_task r)) xs ys
-    (ap (λ us. left (read_pattern (pattern_task r) us)) (sym q)
-    ∙ ap left (pattern_whole r ts e h)))
+pub front_begins : (r : Rule) (xs : List Token) (ys : Words) (e : PatternTree)
+    → Spells r (words_for xs ++ ys) e → Begins r (words_for xs)
+front_begins r xs ys e h =
+    pattern_begun r (words_for xs) (front_says (of_pattern (pattern_task r)) xs (tokens_as ys)
+    (ap (λ us. left (read_pattern (pattern_task r) us)) (together xs ys)
+    ∙ ap left (pattern_whole r (words_for xs ++ ys) e h)))
 
 -- Each front that begins a rule is completed by some tokens.
-abbrev pub CompletedState : StateRule → List Token → Type 0
+abbrev pub CompletedState : StateRule → Words → Type 0
 CompletedState r xs = IsCompletable (SpellsState r) xs
 
-abbrev pub Completed : Rule → List Token → Type 0
+abbrev pub Completed : Rule → Words → Type 0
 Completed r xs = IsCompletable (Spells r) xs
 
-true_state : (r : StateRule) → SpellsState r (True ∷ []) always
-true_state lit = grammar.lit_true
-true_state neg = grammar.neg_true
-true_state conj = grammar.conj_neg _ _ grammar.neg_true
-true_state state = grammar.state_conj _ _ (grammar.conj_neg _ _ grammar.neg_true)
+true_state : (r : StateRule) → SpellsState r (sign (codes "true") ∷ []) always
+true_state (unary inside) = grammar.unary_true inside
+true_state conj = grammar.conj_unary _ _ (grammar.unary_true true)
+true_state state = grammar.state_conj _ _ (grammar.conj_unary _ _ (grammar.unary_true true))
 
-alone_state : (r : StateRule) (xs : List Token) (s : StateTree) → SpellsState r xs s
+alone_state : (r : StateRule) (xs : Words) (s : StateTree) → SpellsState r xs s
     → CompletedState r xs
-alone_state r xs s h = let P = λ (ts : List Token). SpellsState r ts s in
+alone_state r xs s h = let P = λ (ts : Words). SpellsState r ts s in
     record { rest = []; tree = s; spells = subst P (sym (append-nil xs)) h }
 
-regroup : (xs ys zs : List Token) (sign : Token) → xs ++ sign ∷ (ys ++ zs) ≡ (xs ++ sign ∷ ys) ++ zs
-regroup xs ys zs sign = sym (append_assoc xs (sign ∷ ys) zs)
+regroup : (xs ys zs : Words) (mark : Word ℕ) → xs ++ mark ∷ (ys ++ zs) ≡ (xs ++ mark ∷ ys) ++ zs
+regroup xs ys zs mark = sym (append_assoc xs (mark ∷ ys) zs)
 
-pub state_completes : (r : StateRule) (xs : List Token) → BeginsState r xs → CompletedState r xs
+pub state_completes : (r : StateRule) (xs : Words) → BeginsState r xs → CompletedState r xs
 state_completes r _ (begin.none _) = record {
-  rest = True ∷ [];
+  rest = sign (codes "true") ∷ [];
   tree = always;
   spells =
       true_state r;
 }
-state_completes _ _ (begin.lit_whole xs s h) = alone_state lit xs s h
-state_completes _ _ (begin.lit_bang xs h) =
-    let c = state_completes lit xs h in record {
+state_completes _ _ (begin.unary_whole inside xs s h) = alone_state (unary inside) xs s h
+state_completes _ _ (begin.unary_bang inside xs h) =
+    let c = state_completes (unary inside) xs h in record {
       rest = c.rest;
       tree = negation c.tree;
       spells =
-          grammar.lit_bang _ _ c.spells;
+          grammar.unary_bang inside _ _ c.spells;
     }
-state_completes _ _ (begin.lit_braces xs h) =
+state_completes _ _ (begin.braces xs h) =
     let c = state_completes state xs h in
-    let P = λ (ts : List Token). SpellsState lit (LeftBrace ∷ ts) c.tree in
+    let P = λ (ts : Words). SpellsState (unary false) (sign (codes "{") ∷ ts) c.tree in
     record {
-      rest = c.rest ++ RightBrace ∷ [];
+      rest = c.rest ++ sign (codes "}") ∷ [];
       tree = c.tree;
       spells =
-          subst P (append_assoc xs c.rest (RightBrace ∷ [])) (grammar.lit_braces _ _ c.spells);
+          subst P (append_assoc xs c.rest (sign (codes "}") ∷ [])) (grammar.braces _ _ c.spells);
+    }
+state_completes _ _ (begin.parens xs h) =
+    let c = state_completes state xs h in
+    let P = λ (ts : Words). SpellsState (unary true) (sign (codes "(") ∷ ts) c.tree in
+    record {
+      rest = c.rest ++ sign (codes ")") ∷ [];
+      tree = c.tree;
+      spells =
+          subst P (append_assoc xs c.rest (sign (codes ")") ∷ [])) (grammar.parens _ _ c.spells);
     }
 state_completes _ _ (begin.state_conj xs h) =
     let c = state_completes conj xs h in record {
@@ -181,65 +195,48 @@ state_completes _ _ (begin.state_conj xs h) =
     }
 state_completes _ _ (begin.state_bars xs ys s h k) =
     let c = state_completes conj ys k in
-    let P = λ (ts : List Token). SpellsState state ts (disjunction s c.tree) in
+    let P = λ (ts : Words). SpellsState state ts (disjunction s c.tree) in
     record {
       rest = c.rest;
       tree = disjunction s c.tree;
       spells =
-          subst P (regroup xs ys c.rest DoubleBar) (grammar.state_bars _ _ _ _ h c.spells);
+          subst P (regroup xs ys c.rest (sign (codes "||"))) (grammar.state_bars _ _ _ _ h c.spells);
     }
-state_completes _ _ (begin.conj_neg xs h) =
-    let c = state_completes neg xs h in record {
+state_completes _ _ (begin.conj_unary xs h) =
+    let c = state_completes (unary true) xs h in record {
       rest = c.rest;
       tree = c.tree;
       spells =
-          grammar.conj_neg _ _ c.spells;
+          grammar.conj_unary _ _ c.spells;
     }
 state_completes _ _ (begin.conj_ampersands xs ys s h k) =
-    let c = state_completes neg ys k in
-    let P = λ (ts : List Token). SpellsState conj ts (conjunction s c.tree) in
+    let c = state_completes (unary true) ys k in
+    let P = λ (ts : Words). SpellsState conj ts (conjunction s c.tree) in
     record {
       rest = c.rest;
       tree = conjunction s c.tree;
       spells =
-          subst P (regroup xs ys c.rest DoubleAmpersand)
+          subst P (regroup xs ys c.rest (sign (codes "&&")))
           (grammar.conj_ampersands _ _ _ _ h c.spells);
     }
-state_completes _ _ (begin.neg_whole xs s h) = alone_state neg xs s h
-state_completes _ _ (begin.neg_bang xs h) =
-    let c = state_completes neg xs h in record {
-      rest = c.rest;
-      tree = negation c.tree;
-      spells =
-          grammar.neg_bang _ _ c.spells;
-    }
-state_completes _ _ (begin.neg_parens xs h) =
-    let c = state_completes state xs h in
-    let P = λ (ts : List Token). SpellsState neg (LeftParen ∷ ts) c.tree in
-    record {
-      rest = c.rest ++ RightParen ∷ [];
-      tree = c.tree;
-      spells =
-          subst P (append_assoc xs c.rest (RightParen ∷ [])) (grammar.neg_parens _ _ c.spells);
-    }
 
-true_expression : (r : Rule) → Spells r (True ∷ []) (atom (literal always))
-true_expression primary = grammar.primary_lit _ _ grammar.lit_true
-true_expression post = grammar.post_primary _ _ (grammar.primary_lit _ _ grammar.lit_true)
+true_expression : (r : Rule) → Spells r (sign (codes "true") ∷ []) (atom (literal always))
+true_expression primary = grammar.primary_lit _ _ (grammar.unary_true false)
+true_expression post = grammar.post_primary _ _ (grammar.primary_lit _ _ (grammar.unary_true false))
 true_expression seq = grammar.seq_post _ _ (grammar.post_primary _ _
-    (grammar.primary_lit _ _ grammar.lit_true))
+    (grammar.primary_lit _ _ (grammar.unary_true false)))
 true_expression meet = grammar.meet_seq _ _ (grammar.seq_post _ _
-    (grammar.post_primary _ _ (grammar.primary_lit _ _ grammar.lit_true)))
+    (grammar.post_primary _ _ (grammar.primary_lit _ _ (grammar.unary_true false))))
 true_expression expr = grammar.expr_meet _ _ (grammar.meet_seq _ _
-    (grammar.seq_post _ _ (grammar.post_primary _ _ (grammar.primary_lit _ _ grammar.lit_true))))
+    (grammar.seq_post _ _ (grammar.post_primary _ _ (grammar.primary_lit _ _ (grammar.unary_true false)))))
 
-alone_expression : (r : Rule) (xs : List Token) (e : PatternTree) → Spells r xs e → Completed r xs
-alone_expression r xs e h = let P = λ (ts : List Token). Spells r ts e in
+alone_expression : (r : Rule) (xs : Words) (e : PatternTree) → Spells r xs e → Completed r xs
+alone_expression r xs e h = let P = λ (ts : Words). Spells r ts e in
     record { rest = []; tree = e; spells = subst P (sym (append-nil xs)) h }
 
-pub completes : (r : Rule) (xs : List Token) → Begins r xs → Completed r xs
+pub completes : (r : Rule) (xs : Words) → Begins r xs → Completed r xs
 completes r _ (begin.none _) = record {
-  rest = True ∷ [];
+  rest = sign (codes "true") ∷ [];
   tree = atom (literal always);
   spells =
       true_expression r;
@@ -255,103 +252,103 @@ completes _ _ (begin.post_primary xs h) = let c = completes primary xs h in
 completes _ _ (begin.post_whole xs e h) = alone_expression post xs e h
 completes _ _ (begin.expr_bar xs ys e h k) =
     let c = completes meet ys k in
-    let P = λ (ts : List Token). Spells expr ts (alternation e c.tree) in
+    let P = λ (ts : Words). Spells expr ts (alternation e c.tree) in
     record {
       rest = c.rest;
       tree = alternation e c.tree;
       spells =
-          subst P (regroup xs ys c.rest Bar) (grammar.expr_bar _ _ _ _ h c.spells);
+          subst P (regroup xs ys c.rest (sign (codes "|"))) (grammar.expr_bar _ _ _ _ h c.spells);
     }
 completes _ _ (begin.meet_ampersand xs ys e h k) =
     let c = completes seq ys k in
-    let P = λ (ts : List Token). Spells meet ts (intersection e c.tree) in
+    let P = λ (ts : Words). Spells meet ts (intersection e c.tree) in
     record {
       rest = c.rest;
       tree = intersection e c.tree;
       spells =
-          subst P (regroup xs ys c.rest Ampersand) (grammar.meet_ampersand _ _ _ _ h c.spells);
+          subst P (regroup xs ys c.rest (sign (codes "&"))) (grammar.meet_ampersand _ _ _ _ h c.spells);
     }
 completes _ _ (begin.seq_semicolon xs ys e h k) =
     let c = completes post ys k in
-    let P = λ (ts : List Token). Spells seq ts (sequence e c.tree) in
+    let P = λ (ts : Words). Spells seq ts (sequence e c.tree) in
     record {
       rest = c.rest;
       tree = sequence e c.tree;
       spells =
-          subst P (regroup xs ys c.rest Semicolon) (grammar.seq_semicolon _ _ _ _ h c.spells);
+          subst P (regroup xs ys c.rest (sign (codes ";"))) (grammar.seq_semicolon _ _ _ _ h c.spells);
     }
 completes _ _ (begin.post_percent xs ys e h k) =
-    let P = λ (ts : List Token). Spells post ts (restriction e k.ends) in
+    let P = λ (ts : Words). Spells post ts (restriction e k.ends) in
     record {
       rest = k.more;
       tree = restriction e k.ends;
       spells =
-          subst P (regroup xs ys k.more Percent) (grammar.post_percent _ _ _ _ h k.spells);
+          subst P (regroup xs ys k.more (sign (codes "%"))) (grammar.post_percent _ _ _ _ h k.spells);
     }
 completes _ _ (begin.primary_whole xs e h) = alone_expression primary xs e h
 completes _ _ (begin.primary_parens xs h) =
     let c = completes expr xs h in
-    let P = λ (ts : List Token). Spells primary (LeftParen ∷ ts) c.tree in
+    let P = λ (ts : Words). Spells primary (sign (codes "(") ∷ ts) c.tree in
     record {
-      rest = c.rest ++ RightParen ∷ [];
+      rest = c.rest ++ sign (codes ")") ∷ [];
       tree = c.tree;
       spells =
-          subst P (append_assoc xs c.rest (RightParen ∷ [])) (grammar.primary_parens _ _ c.spells);
+          subst P (append_assoc xs c.rest (sign (codes ")") ∷ [])) (grammar.primary_parens _ _ c.spells);
     }
 completes _ _ begin.primary_rise = record {
-  rest = LeftParen ∷ True ∷ RightParen ∷ [];
+  rest = sign (codes "(") ∷ sign (codes "true") ∷ sign (codes ")") ∷ [];
   tree =
       atom (rise always);
-  spells = grammar.primary_rise (True ∷ []) always (true_state state);
+  spells = grammar.primary_rise (sign (codes "true") ∷ []) always (true_state state);
 }
 completes _ _ begin.primary_fall = record {
-  rest = LeftParen ∷ True ∷ RightParen ∷ [];
+  rest = sign (codes "(") ∷ sign (codes "true") ∷ sign (codes ")") ∷ [];
   tree =
       atom (fall always);
-  spells = grammar.primary_fall (True ∷ []) always (true_state state);
+  spells = grammar.primary_fall (sign (codes "true") ∷ []) always (true_state state);
 }
 completes _ _ (begin.primary_rise_parens xs h) =
     let c = state_completes state xs h in
-    let P = λ (ts : List Token). Spells primary (Rise ∷ LeftParen ∷ ts) (atom (rise c.tree)) in
+    let P = λ (ts : Words). Spells primary (sign (codes "rise") ∷ sign (codes "(") ∷ ts) (atom (rise c.tree)) in
     record {
-      rest = c.rest ++ RightParen ∷ [];
+      rest = c.rest ++ sign (codes ")") ∷ [];
       tree = atom (rise c.tree);
       spells =
-          subst P (append_assoc xs c.rest (RightParen ∷ [])) (grammar.primary_rise _ _ c.spells);
+          subst P (append_assoc xs c.rest (sign (codes ")") ∷ [])) (grammar.primary_rise _ _ c.spells);
     }
 completes _ _ (begin.primary_fall_parens xs h) =
     let c = state_completes state xs h in
-    let P = λ (ts : List Token). Spells primary (Fall ∷ LeftParen ∷ ts) (atom (fall c.tree)) in
+    let P = λ (ts : Words). Spells primary (sign (codes "fall") ∷ sign (codes "(") ∷ ts) (atom (fall c.tree)) in
     record {
-      rest = c.rest ++ RightParen ∷ [];
+      rest = c.rest ++ sign (codes ")") ∷ [];
       tree = atom (fall c.tree);
       spells =
-          subst P (append_assoc xs c.rest (RightParen ∷ [])) (grammar.primary_fall _ _ c.spells);
+          subst P (append_assoc xs c.rest (sign (codes ")") ∷ [])) (grammar.primary_fall _ _ c.spells);
     }
 completes _ _ begin.primary_event = record {
-  rest = LeftParen ∷ EventName 0 ∷ RightParen ∷ [];
+  rest = sign (codes "(") ∷ event_name 0 ∷ sign (codes ")") ∷ [];
   tree = atom (event 0);
   spells = grammar.primary_event 0;
 }
 completes _ _ begin.primary_event_paren = record {
-  rest = EventName 0 ∷ RightParen ∷ [];
+  rest = event_name 0 ∷ sign (codes ")") ∷ [];
   tree = atom (event 0);
   spells = grammar.primary_event 0;
 }
 completes _ _ (begin.primary_event_name i) = record {
-  rest = RightParen ∷ [];
+  rest = sign (codes ")") ∷ [];
   tree = atom (event i);
   spells = grammar.primary_event i;
 }
 completes _ _ (begin.primary_lit xs h) =
-    let c = state_completes lit xs h in record {
+    let c = state_completes (unary false) xs h in record {
       rest = c.rest;
       tree =
           atom (literal c.tree);
       spells = grammar.primary_lit _ _ c.spells;
     }
 completes _ _ (begin.primary_begins xs h) =
-    let c = state_completes lit xs h in record {
+    let c = state_completes (unary false) xs h in record {
       rest = c.rest;
       tree =
           sequence (atom (rise c.tree)) (atom (literal c.tree));

@@ -1,6 +1,6 @@
 -- What each program takes is spelt by its rule, and where it halts the tokens begin the rule.
 use Rattle.std.proofs.Common.{ℕ, Bool, true, false, Option, Some, None, List, [], ◌∷◌, ◌++◌, sym, subst, append_assoc, rules}
-use Rattle.std.specs.Prelude.{if◌then◌else◌, is_some}
+use Rattle.std.specs.Prelude.{if◌then◌else◌, is_some, codes}
 use Rattle.std.proofs.lemmas.List.{append-nil}
 use Rattle.tre_state.specs.StateTree.{StateTree, negation}
 use Rattle.tre_zone.specs.Interval.{ends_of, kept_weak}
@@ -11,8 +11,10 @@ use Rattle.tre_parse.specs.declared.connective.Connective.{Connective}
 use Rattle.tre_parse.specs.declared.connective.Connective.TheVariants.{And, Or}
 use Rattle.tre_parse.specs.declared.connective.Join.{Join}
 use Rattle.tre_parse.specs.declared.connective.Join.TheVariants.{Sequence, Intersection, Alternation}
-use Rattle.tre_parse.specs.TokenGrammar as grammar
-use Rattle.tre_parse.specs.TokenGrammar.{StateRule, state, conj, neg, SpellsState, opening, SpellsInterval, with_high, without_high, Rule, expr, meet, seq, post, primary, Spells}
+use Rattle.tre_parse.specs.Words.{Word, event_name, number, sign}
+use Rattle.tre_parse.specs.TokenWords.{word_of}
+use Rattle.tre_parse.specs.Grammar as grammar
+use Rattle.tre_parse.specs.Grammar.{Words, StateRule, state, conj, unary, SpellsState, SpellsInterval, with_high, without_high, Rule, expr, meet, seq, post, primary, Spells}
 use Rattle.tre_parse.specs.Begins as begin
 use Rattle.tre_parse.specs.Begins.{BeginsState, BeginsInterval, Begins}
 use Rattle.tre_parse.specs.Joins.{connected, connective_sign, connected_rule, joined_by, join_sign, joined_rule, brackets_of, operand_in, edge_sign}
@@ -21,24 +23,24 @@ use Rattle.tre_parse.proofs.Says.{StateSpelt, PatternSpelt, StateBegun, PatternB
 
 -- ---- what is whole is begun
 
-pub begun_state : (r : StateRule) (xs : List Token) (s : StateTree) → SpellsState r xs s
+pub begun_state : (r : StateRule) (xs : Words) (s : StateTree) → SpellsState r xs s
     → BeginsState r xs
 begun_state _ _ _ (grammar.state_conj xs s h) = begin.state_conj xs (begun_state conj xs s h)
 begun_state _ _ _ (grammar.state_bars xs ys s t h k) = begin.state_bars xs ys s h
     (begun_state conj ys t k)
-begun_state _ _ _ (grammar.conj_neg xs s h) = begin.conj_neg xs (begun_state neg xs s h)
+begun_state _ _ _ (grammar.conj_unary xs s h) = begin.conj_unary xs (begun_state (unary true) xs s h)
 begun_state _ _ _ (grammar.conj_ampersands xs ys s t h k) = begin.conj_ampersands xs ys s h
-    (begun_state neg ys t k)
-begun_state _ _ _ (grammar.neg_name i) = begin.neg_whole _ _ (grammar.neg_name i)
-begun_state _ _ _ grammar.neg_true = begin.neg_whole _ _ grammar.neg_true
-begun_state _ _ _ (grammar.neg_parens xs s h) = begin.neg_whole _ _ (grammar.neg_parens xs s h)
-begun_state _ _ _ (grammar.neg_bang xs s h) = begin.neg_whole _ _ (grammar.neg_bang xs s h)
-begun_state _ _ _ (grammar.lit_name i) = begin.lit_whole _ _ (grammar.lit_name i)
-begun_state _ _ _ grammar.lit_true = begin.lit_whole _ _ grammar.lit_true
-begun_state _ _ _ (grammar.lit_braces xs s h) = begin.lit_whole _ _ (grammar.lit_braces xs s h)
-begun_state _ _ _ (grammar.lit_bang xs s h) = begin.lit_whole _ _ (grammar.lit_bang xs s h)
+    (begun_state (unary true) ys t k)
+begun_state _ _ _ (grammar.unary_name inside i) = begin.unary_whole inside _ _
+    (grammar.unary_name inside i)
+begun_state _ _ _ (grammar.unary_true inside) = begin.unary_whole inside _ _
+    (grammar.unary_true inside)
+begun_state _ _ _ (grammar.unary_bang inside xs s h) = begin.unary_whole inside _ _
+    (grammar.unary_bang inside xs s h)
+begun_state _ _ _ (grammar.braces xs s h) = begin.unary_whole false _ _ (grammar.braces xs s h)
+begun_state _ _ _ (grammar.parens xs s h) = begin.unary_whole true _ _ (grammar.parens xs s h)
 
-pub begun : (r : Rule) (xs : List Token) (e : PatternTree) → Spells r xs e → Begins r xs
+pub begun : (r : Rule) (xs : Words) (e : PatternTree) → Spells r xs e → Begins r xs
 begun _ _ _ (grammar.expr_meet xs e h) = begin.expr_meet xs (begun meet xs e h)
 begun _ _ _ (grammar.expr_bar xs ys e f h k) = begin.expr_bar xs ys e h (begun meet ys f k)
 begun _ _ _ (grammar.meet_seq xs e h) = begin.meet_seq xs (begun seq xs e h)
@@ -66,33 +68,33 @@ begun _ _ _ (grammar.primary_begins_ends xs s h) = begin.primary_whole _ _
 
 -- ---- a sign that is asked for
 
-accepts : {A : Type 0} (Gives : List Token → A → Type 0) (Halts : List Token → Type 0)
-    (sign : Token) (there other : Program A) (xs : List Token) →
-    Holds Gives Halts there (xs ++ sign ∷ []) → Holds Gives Halts other xs →
-    Holds Gives Halts (accept sign there other) xs
-accepts Gives Halts sign there other xs h k token = search rules
+accepts : {A : Type 0} (Gives : Words → A → Type 0) (Halts : Words → Type 0)
+    (token : Token) (there other : Program A) (xs : Words) →
+    Holds Gives Halts there (xs ++ word_of token ∷ []) → Holds Gives Halts other xs →
+    Holds Gives Halts (accept token there other) xs
+accepts Gives Halts token there other xs h k next = search rules
 
 -- ---- states
 
-first_state : (how : Connective) (xs : List Token) (s : StateTree)
+first_state : (how : Connective) (xs : Words) (s : StateTree)
     → StateSpelt (state_part how) xs s → SpellsState (connected_rule how) xs s
-first_state And xs s h = grammar.conj_neg xs s h
+first_state And xs s h = grammar.conj_unary xs s h
 first_state Or xs s h = grammar.state_conj xs s h
 
-first_state_begun : (how : Connective) (xs : List Token) → StateBegun (state_part how) xs
+first_state_begun : (how : Connective) (xs : Words) → StateBegun (state_part how) xs
     → BeginsState (connected_rule how) xs
-first_state_begun And xs h = begin.conj_neg xs h
+first_state_begun And xs h = begin.conj_unary xs h
 first_state_begun Or xs h = begin.state_conj xs h
 
-more_state : (how : Connective) (xs ys : List Token) (s t : StateTree)
+more_state : (how : Connective) (xs ys : Words) (s t : StateTree)
     → SpellsState (connected_rule how) xs s → StateSpelt (state_part how) ys t
-    → SpellsState (connected_rule how) (xs ++ connective_sign how ∷ ys) (connected how s t)
+    → SpellsState (connected_rule how) (xs ++ word_of (connective_sign how) ∷ ys) (connected how s t)
 more_state And xs ys s t h k = grammar.conj_ampersands xs ys s t h k
 more_state Or xs ys s t h k = grammar.state_bars xs ys s t h k
 
-more_state_begun : (how : Connective) (xs ys : List Token) (s : StateTree)
+more_state_begun : (how : Connective) (xs ys : Words) (s : StateTree)
     → SpellsState (connected_rule how) xs s → StateBegun (state_part how) ys
-    → BeginsState (connected_rule how) (xs ++ connective_sign how ∷ ys)
+    → BeginsState (connected_rule how) (xs ++ word_of (connective_sign how) ∷ ys)
 more_state_begun And xs ys s h k = begin.conj_ampersands xs ys s h k
 more_state_begun Or xs ys s h k = begin.state_bars xs ys s h k
 
@@ -107,50 +109,50 @@ state_after_holds how s =
     (λ t. call (of_state (state_after how (connected how s t))) (λ u. give u))) (give s) [] (
       (λ ys t k. (
         (λ zs u l xs h.
-            let P = λ (ts : List Token). SpellsState (connected_rule how) ts u in
-            subst P (append_assoc xs (connective_sign how ∷ ys) zs)
-            (l (xs ++ connective_sign how ∷ ys) (more_state how xs ys s t h k))),
+            let P = λ (ts : Words). SpellsState (connected_rule how) ts u in
+            subst P (append_assoc xs (word_of (connective_sign how) ∷ ys) zs)
+            (l (xs ++ word_of (connective_sign how) ∷ ys) (more_state how xs ys s t h k))),
         (λ zs l xs h.
-            let P = λ (ts : List Token). BeginsState (connected_rule how) ts in
-            subst P (append_assoc xs (connective_sign how ∷ ys) zs)
-            (l (xs ++ connective_sign how ∷ ys) (more_state how xs ys s t h k))),
+            let P = λ (ts : Words). BeginsState (connected_rule how) ts in
+            subst P (append_assoc xs (word_of (connective_sign how) ∷ ys) zs)
+            (l (xs ++ word_of (connective_sign how) ∷ ys) (more_state how xs ys s t h k))),
       )),
       (λ ys k xs h. more_state_begun how xs ys s h k),
     )
     (λ xs h.
-    let P = λ (ts : List Token). SpellsState (connected_rule how) ts s in
+    let P = λ (ts : Words). SpellsState (connected_rule how) ts s in
     subst P (sym (append-nil xs)) h)
 
 leaf_holds : (braces : Bool) (token : Token)
     → Holds (SpellsState (operand_in braces)) (BeginsState (operand_in braces))
-    (said (leaf_of token) (λ s. give s)) (if is_some (leaf_of token) then token ∷ [] else [])
-leaf_holds true (Name i) = grammar.lit_name i
-leaf_holds false (Name i) = grammar.neg_name i
-leaf_holds true True = grammar.lit_true
-leaf_holds false True = grammar.neg_true
+    (said (leaf_of token) (λ s. give s)) (if is_some (leaf_of token) then word_of token ∷ [] else [])
+leaf_holds true (Name i) = grammar.unary_name false i
+leaf_holds false (Name i) = grammar.unary_name true i
+leaf_holds true True = grammar.unary_true false
+leaf_holds false True = grammar.unary_true true
 leaf_holds braces _ = begin.none (operand_in braces)
 
-bang_state : (braces : Bool) (xs : List Token) (s : StateTree)
+bang_state : (braces : Bool) (xs : Words) (s : StateTree)
     → SpellsState (operand_in braces) xs s
-    → SpellsState (operand_in braces) (Bang ∷ xs) (negation s)
-bang_state true xs s h = grammar.lit_bang xs s h
-bang_state false xs s h = grammar.neg_bang xs s h
+    → SpellsState (operand_in braces) (sign (codes "!") ∷ xs) (negation s)
+bang_state true xs s h = grammar.unary_bang false xs s h
+bang_state false xs s h = grammar.unary_bang true xs s h
 
-bang_begun : (braces : Bool) (xs : List Token) → BeginsState (operand_in braces) xs
-    → BeginsState (operand_in braces) (Bang ∷ xs)
-bang_begun true xs h = begin.lit_bang xs h
-bang_begun false xs h = begin.neg_bang xs h
+bang_begun : (braces : Bool) (xs : Words) → BeginsState (operand_in braces) xs
+    → BeginsState (operand_in braces) (sign (codes "!") ∷ xs)
+bang_begun true xs h = begin.unary_bang false xs h
+bang_begun false xs h = begin.unary_bang true xs h
 
-bracket_state : (braces : Bool) (xs : List Token) (s : StateTree) → SpellsState state xs s
+bracket_state : (braces : Bool) (xs : Words) (s : StateTree) → SpellsState state xs s
     → SpellsState (operand_in braces)
-    ((brackets_of braces).0 ∷ xs ++ (brackets_of braces).1 ∷ []) s
-bracket_state true xs s h = grammar.lit_braces xs s h
-bracket_state false xs s h = grammar.neg_parens xs s h
+    (word_of (brackets_of braces).0 ∷ xs ++ word_of (brackets_of braces).1 ∷ []) s
+bracket_state true xs s h = grammar.braces xs s h
+bracket_state false xs s h = grammar.parens xs s h
 
-bracket_begun : (braces : Bool) (xs : List Token) → BeginsState state xs
-    → BeginsState (operand_in braces) ((brackets_of braces).0 ∷ xs)
-bracket_begun true xs h = begin.lit_braces xs h
-bracket_begun false xs h = begin.neg_parens xs h
+bracket_begun : (braces : Bool) (xs : Words) → BeginsState state xs
+    → BeginsState (operand_in braces) (word_of (brackets_of braces).0 ∷ xs)
+bracket_begun true xs h = begin.braces xs h
+bracket_begun false xs h = begin.parens xs h
 
 state_operand_holds : (braces : Bool) → ProgramHolds (of_state (state_operand braces))
 state_operand_holds braces =
@@ -164,35 +166,35 @@ state_operand_holds braces =
     (accept first bracket (part leaf_of (λ s. give s))) []
     ((λ xs s h. bang_state braces xs s h), (λ xs h. bang_begun braces xs h))
     (accepts Gives Halts first bracket (part leaf_of (λ s. give s)) [] (
-      (λ xs s h. accepts Gives Halts last (give s) halt (first ∷ xs) (bracket_state braces xs s h)
+      (λ xs s h. accepts Gives Halts last (give s) halt (word_of first ∷ xs) (bracket_state braces xs s h)
           (bracket_begun braces xs (begun_state state xs s h))),
       (λ xs h. bracket_begun braces xs h),
     ) (leaf_holds braces))
 
 -- ---- expressions
 
-first_part : (how : Join) (xs : List Token) (e : PatternTree)
+first_part : (how : Join) (xs : Words) (e : PatternTree)
     → PatternSpelt (expression_part how) xs e → Spells (joined_rule how) xs e
 first_part Sequence xs e h = grammar.seq_post xs e h
 first_part Intersection xs e h = grammar.meet_seq xs e h
 first_part Alternation xs e h = grammar.expr_meet xs e h
 
-first_part_begun : (how : Join) (xs : List Token) → PatternBegun (expression_part how) xs
+first_part_begun : (how : Join) (xs : Words) → PatternBegun (expression_part how) xs
     → Begins (joined_rule how) xs
 first_part_begun Sequence xs h = begin.seq_post xs h
 first_part_begun Intersection xs h = begin.meet_seq xs h
 first_part_begun Alternation xs h = begin.expr_meet xs h
 
-more_parts : (how : Join) (xs ys : List Token) (e f : PatternTree)
+more_parts : (how : Join) (xs ys : Words) (e f : PatternTree)
     → Spells (joined_rule how) xs e → PatternSpelt (expression_part how) ys f
-    → Spells (joined_rule how) (xs ++ join_sign how ∷ ys) (joined_by how e f)
+    → Spells (joined_rule how) (xs ++ word_of (join_sign how) ∷ ys) (joined_by how e f)
 more_parts Sequence xs ys e f h k = grammar.seq_semicolon xs ys e f h k
 more_parts Intersection xs ys e f h k = grammar.meet_ampersand xs ys e f h k
 more_parts Alternation xs ys e f h k = grammar.expr_bar xs ys e f h k
 
-more_parts_begun : (how : Join) (xs ys : List Token) (e : PatternTree)
+more_parts_begun : (how : Join) (xs ys : Words) (e : PatternTree)
     → Spells (joined_rule how) xs e → PatternBegun (expression_part how) ys
-    → Begins (joined_rule how) (xs ++ join_sign how ∷ ys)
+    → Begins (joined_rule how) (xs ++ word_of (join_sign how) ∷ ys)
 more_parts_begun Sequence xs ys e h k = begin.seq_semicolon xs ys e h k
 more_parts_begun Intersection xs ys e h k = begin.meet_ampersand xs ys e h k
 more_parts_begun Alternation xs ys e h k = begin.expr_bar xs ys e h k
@@ -208,46 +210,46 @@ expression_after_holds how e =
     (λ f. call (of_pattern (expression_after how (joined_by how e f))) (λ g. give g))) (give e) [] (
       (λ ys f k. (
         (λ zs g l xs h.
-            let P = λ (ts : List Token). Spells (joined_rule how) ts g in
-            subst P (append_assoc xs (join_sign how ∷ ys) zs)
-            (l (xs ++ join_sign how ∷ ys) (more_parts how xs ys e f h k))),
+            let P = λ (ts : Words). Spells (joined_rule how) ts g in
+            subst P (append_assoc xs (word_of (join_sign how) ∷ ys) zs)
+            (l (xs ++ word_of (join_sign how) ∷ ys) (more_parts how xs ys e f h k))),
         (λ zs l xs h.
-            let P = λ (ts : List Token). Begins (joined_rule how) ts in
-            subst P (append_assoc xs (join_sign how ∷ ys) zs)
-            (l (xs ++ join_sign how ∷ ys) (more_parts how xs ys e f h k))),
+            let P = λ (ts : Words). Begins (joined_rule how) ts in
+            subst P (append_assoc xs (word_of (join_sign how) ∷ ys) zs)
+            (l (xs ++ word_of (join_sign how) ∷ ys) (more_parts how xs ys e f h k))),
       )),
       (λ ys k xs h. more_parts_begun how xs ys e h k),
     )
     (λ xs h.
-    let P = λ (ts : List Token). Spells (joined_rule how) ts e in
+    let P = λ (ts : Words). Spells (joined_rule how) ts e in
     subst P (sym (append-nil xs)) h)
 
 -- An operand, its signs, and what goes on behind them.
-signed : (e f : PatternTree) (ys : List Token) → ((xs : List Token) → Spells post xs e
+signed : (e f : PatternTree) (ys : Words) → ((xs : Words) → Spells post xs e
     → Spells post (xs ++ ys) f) →
     Holds (PatternSpelt (operand_after e)) (PatternBegun (operand_after e)) (go_on f) ys
 signed e f ys make = (
   (λ zs g k xs h.
-      let P = λ (ts : List Token). Spells post ts g in
+      let P = λ (ts : Words). Spells post ts g in
       subst P (append_assoc xs ys zs) (k (xs ++ ys) (make xs h))),
   (λ zs k xs h.
-      let P = λ (ts : List Token). Begins post ts in
+      let P = λ (ts : Words). Begins post ts in
       subst P (append_assoc xs ys zs) (k (xs ++ ys) (make xs h))),
 )
 
-nothing_behind : (e : PatternTree) (xs : List Token) → Spells post xs e → Spells post (xs ++ []) e
+nothing_behind : (e : PatternTree) (xs : Words) → Spells post xs e → Spells post (xs ++ []) e
 nothing_behind e xs h = search rules
 
 sign_holds : (e : PatternTree) (token : Token)
     → Holds (PatternSpelt (operand_after e)) (PatternBegun (operand_after e))
-    (sign_program e token) (if is_behind token then token ∷ [] else [])
-sign_holds e Star = signed e (repetition e) (Star ∷ []) (λ xs h. grammar.post_star xs e h)
-sign_holds e Plus = signed e (sequence e (repetition e)) (Plus ∷ [])
+    (sign_program e token) (if is_behind token then word_of token ∷ [] else [])
+sign_holds e Star = signed e (repetition e) (sign (codes "*") ∷ []) (λ xs h. grammar.post_star xs e h)
+sign_holds e Plus = signed e (sequence e (repetition e)) (sign (codes "+") ∷ [])
     (λ xs h. grammar.post_plus xs e h)
-sign_holds e Question = signed e (alternation e (atom empty)) (Question ∷ [])
+sign_holds e Question = signed e (alternation e (atom empty)) (sign (codes "?") ∷ [])
     (λ xs h. grammar.post_question xs e h)
 sign_holds e Percent = (
-  (λ ys ends k. signed e (restriction e ends) (Percent ∷ ys)
+  (λ ys ends k. signed e (restriction e ends) (sign (codes "%") ∷ ys)
       (λ xs h. grammar.post_percent xs ys e ends h k)),
   (λ ys k xs h. begin.post_percent xs ys e h k),
 )
@@ -255,37 +257,37 @@ sign_holds e Ends = λ xs h. begin.post_whole (xs ++ []) e (nothing_behind e xs 
 sign_holds e _ = nothing_behind e
 
 edge_holds : (rises : Bool) → Holds (Spells primary) (Begins primary) (edge_program rises)
-    (edge_sign rises ∷ [])
+    (word_of (edge_sign rises) ∷ [])
 edge_holds true =
     accepts (Spells primary) (Begins primary) LeftParen
     (call (of_state (state_by Or)) (λ s. expect RightParen (give (atom (rise s))))) halt
-    (Rise ∷ []) (
+    (sign (codes "rise") ∷ []) (
       (λ xs s h. accepts (Spells primary) (Begins primary) RightParen (give (atom (rise s))) halt
-          (Rise ∷ LeftParen ∷ xs) (grammar.primary_rise xs s h)
+          (sign (codes "rise") ∷ sign (codes "(") ∷ xs) (grammar.primary_rise xs s h)
           (begin.primary_rise_parens xs (begun_state state xs s h))),
       (λ xs h. begin.primary_rise_parens xs h),
     ) begin.primary_rise
 edge_holds false =
     accepts (Spells primary) (Begins primary) LeftParen
     (call (of_state (state_by Or)) (λ s. expect RightParen (give (atom (fall s))))) halt
-    (Fall ∷ []) (
+    (sign (codes "fall") ∷ []) (
       (λ xs s h. accepts (Spells primary) (Begins primary) RightParen (give (atom (fall s))) halt
-          (Fall ∷ LeftParen ∷ xs) (grammar.primary_fall xs s h)
+          (sign (codes "fall") ∷ sign (codes "(") ∷ xs) (grammar.primary_fall xs s h)
           (begin.primary_fall_parens xs (begun_state state xs s h))),
       (λ xs h. begin.primary_fall_parens xs h),
     ) begin.primary_fall
 
 named_holds : (token : Token) → Holds (Spells primary) (Begins primary)
     (said (event_number_of token) behind_event)
-    (if is_some (event_number_of token) then Event ∷ LeftParen ∷ token ∷ [] else Event ∷ LeftParen ∷ [])
+    (if is_some (event_number_of token) then sign (codes "event") ∷ sign (codes "(") ∷ word_of token ∷ [] else sign (codes "event") ∷ sign (codes "(") ∷ [])
 named_holds (EventName i) =
     accepts (Spells primary) (Begins primary) RightParen (give (atom (event i))) halt
-    (Event ∷ LeftParen ∷ EventName i ∷ []) (grammar.primary_event i) (begin.primary_event_name i)
+    (sign (codes "event") ∷ sign (codes "(") ∷ event_name i ∷ []) (grammar.primary_event i) (begin.primary_event_name i)
 named_holds _ = begin.primary_event_paren
 
-event_holds : Holds (Spells primary) (Begins primary) event_program (Event ∷ [])
+event_holds : Holds (Spells primary) (Begins primary) event_program (sign (codes "event") ∷ [])
 event_holds = accepts (Spells primary) (Begins primary) LeftParen
-    (part event_number_of behind_event) halt (Event ∷ []) named_holds
+    (part event_number_of behind_event) halt (sign (codes "event") ∷ []) named_holds
     begin.primary_event
 
 literal_holds : Holds (Spells primary) (Begins primary) (literal_program false) []
@@ -296,10 +298,10 @@ literal_holds = (
 )
 
 unsigned_holds : (token : Token) → Holds (Spells primary) (Begins primary) (unsigned_program token)
-    (if is_before token then token ∷ [] else [])
+    (if is_before token then word_of token ∷ [] else [])
 unsigned_holds Eps = grammar.primary_eps
 unsigned_holds LeftParen = (
-  (λ xs e h. accepts (Spells primary) (Begins primary) RightParen (give e) halt (LeftParen ∷ xs)
+  (λ xs e h. accepts (Spells primary) (Begins primary) RightParen (give e) halt (sign (codes "(") ∷ xs)
       (grammar.primary_parens xs e h) (begin.primary_parens xs (begun expr xs e h))),
   (λ xs h. begin.primary_parens xs h),
 )
@@ -307,7 +309,7 @@ unsigned_holds Rise = edge_holds true
 unsigned_holds Fall = edge_holds false
 unsigned_holds Event = event_holds
 unsigned_holds BeginsSign = (
-  (λ xs s h. accepts (Spells primary) (Begins primary) Ends _ _ (BeginsSign ∷ xs)
+  (λ xs s h. accepts (Spells primary) (Begins primary) Ends _ _ (sign (codes "<:") ∷ xs)
       (grammar.primary_begins_ends xs s h) (grammar.primary_begins xs s h)),
   (λ xs h. begin.primary_begins xs h),
 )
@@ -315,66 +317,70 @@ unsigned_holds _ = literal_holds
 
 -- ---- intervals
 
-abbrev high_token : Option ℕ → Token
-high_token (Some high) = Number high
-high_token None = Inf
+-- the bracket that opens an interval
+abbrev opening : Bool → Word ℕ
+opening weak = sign (if weak then codes "[" else codes "(")
+
+abbrev high_word : Option ℕ → Word ℕ
+high_word (Some high) = number high
+high_word None = sign (codes "inf")
 
 closed : (low : ℕ) (weak : Bool) (high : Option ℕ) (token : Token)
     → Holds SpellsInterval BeginsInterval
     (said (closed_by high token)
     (λ high_weak. give (ends_of low weak high (kept_weak high high_weak))))
     (if is_some (closed_by high token)
-    then opening weak ∷ Number low ∷ Comma ∷ high_token high ∷ token ∷ []
-    else opening weak ∷ Number low ∷ Comma ∷ high_token high ∷ [])
+    then opening weak ∷ number low ∷ sign (codes ",") ∷ high_word high ∷ word_of token ∷ []
+    else opening weak ∷ number low ∷ sign (codes ",") ∷ high_word high ∷ [])
 closed low weak (Some high) RightBracket = with_high low high weak true
 closed low weak (Some high) RightParen = with_high low high weak false
 closed low weak None RightParen = without_high low weak
 closed low weak (Some high) _ = record {
-  more = RightParen ∷ [];
+  more = sign (codes ")") ∷ [];
   ends = ends_of low weak (Some high) false;
   spells = with_high low high weak false;
 }
 closed low weak None _ = record {
-  more = RightParen ∷ [];
+  more = sign (codes ")") ∷ [];
   ends = ends_of low weak None false;
   spells = without_high low weak;
 }
 
 high_end : (low : ℕ) (weak : Bool) (token : Token) → Holds SpellsInterval BeginsInterval
     (said (high_end_of token) (λ high. behind_high weak low high))
-    (if is_some (high_end_of token) then opening weak ∷ Number low ∷ Comma ∷ token ∷ []
-    else opening weak ∷ Number low ∷ Comma ∷ [])
+    (if is_some (high_end_of token) then opening weak ∷ number low ∷ sign (codes ",") ∷ word_of token ∷ []
+    else opening weak ∷ number low ∷ sign (codes ",") ∷ [])
 high_end low weak (Number high) = closed low weak (Some high)
 high_end low weak Inf = closed low weak None
 high_end low weak _ = record {
-  more = Inf ∷ RightParen ∷ [];
+  more = sign (codes "inf") ∷ sign (codes ")") ∷ [];
   ends = ends_of low weak None false;
   spells = without_high low weak;
 }
 
 low_end : (weak : Bool) (token : Token) → Holds SpellsInterval BeginsInterval
     (said (number_of token) (λ low. behind_low weak low))
-    (if is_some (number_of token) then opening weak ∷ token ∷ [] else opening weak ∷ [])
+    (if is_some (number_of token) then opening weak ∷ word_of token ∷ [] else opening weak ∷ [])
 low_end weak (Number low) =
     accepts SpellsInterval BeginsInterval Comma (behind_comma weak low) halt
-    (opening weak ∷ Number low ∷ []) (high_end low weak) (record {
-      more = Comma ∷ Inf ∷ RightParen ∷ [];
+    (opening weak ∷ number low ∷ []) (high_end low weak) (record {
+      more = sign (codes ",") ∷ sign (codes "inf") ∷ sign (codes ")") ∷ [];
       ends = ends_of low weak None false;
       spells = without_high low weak;
     })
 low_end weak _ = record {
-  more = Number 0 ∷ Comma ∷ Inf ∷ RightParen ∷ [];
+  more = number 0 ∷ sign (codes ",") ∷ sign (codes "inf") ∷ sign (codes ")") ∷ [];
   ends = ends_of 0 weak None false;
   spells = without_high 0 weak;
 }
 
 interval_holds : (token : Token) → Holds SpellsInterval BeginsInterval
     (said (opened_by token) (λ weak. behind_opening weak))
-    (if is_some (opened_by token) then token ∷ [] else [])
+    (if is_some (opened_by token) then word_of token ∷ [] else [])
 interval_holds LeftBracket = low_end true
 interval_holds LeftParen = low_end false
 interval_holds _ = record {
-  more = LeftBracket ∷ Number 0 ∷ Comma ∷ Inf ∷ RightParen ∷ [];
+  more = sign (codes "[") ∷ number 0 ∷ sign (codes ",") ∷ sign (codes "inf") ∷ sign (codes ")") ∷ [];
   ends = ends_of 0 true None false;
   spells = without_high 0 true;
 }

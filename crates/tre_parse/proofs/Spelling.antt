@@ -10,8 +10,7 @@ use Rattle.tre_parse.specs.declared.fault.ParseFault.{ParseFault}
 use Rattle.tre_parse.specs.declared.fault.ParseFault.TheVariants.{TooLong, BadByte}
 use Rattle.tre_parse.specs.Scanned.{bad_byte}
 use Rattle.tre_parse.specs.Outcome.{IsSpelling, spelt, refused}
-use Rattle.tre_parse.specs.TokenOutcome.{limit_fault, IsOutcomeOfTokens}
-use Rattle.tre_parse.specs.ScannedOutcome.{IsScannedSpelling, text_tokens_of, byte_fault, IsScannedOutcome}
+use Rattle.tre_parse.specs.ScannedOutcome.{limit_fault, IsOutcomeOfTokens, IsScannedSpelling, text_tokens_of, byte_fault, IsScannedOutcome}
 use Rattle.tre_parse.specs.Answers.{Answers}
 use Rattle.tre_parse.proofs.Agreement.{spelling_meant}
 

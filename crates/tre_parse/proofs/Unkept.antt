@@ -1,19 +1,22 @@
 -- The first interval that can't be kept, from the tokens that one function reads to those of
 -- another; and that where no number is too big it is the first empty one.
 use Rattle.std.proofs.Common.{◌≡◌, ◌≢◌, ℕ, ◌+◌, ◌-◌, Bool, true, false, Option, Some, None, List, [], ◌∷◌, ◌++◌, length, inl, inr, refl, sym, ◌∙◌, ap, subst, arith, append_assoc, length-append, rules}
-use Rattle.std.specs.Prelude.{MatchOption, position}
+use Rattle.std.specs.Prelude.{MatchOption, position, codes}
 use Rattle.std.specs.Option.{option_or}
-use Rattle.std.proofs.lemmas.List.{append-nil}
+use Rattle.std.proofs.lemmas.List.{append-nil, map-append, length-map}
 use Rattle.tre_state.specs.StateTree.{StateTree}
 use Rattle.tre_zone.specs.Interval.{IntervalEnds}
 use Rattle.tre_parse.specs.declared.token.Token.{Token}
 use Rattle.tre_parse.specs.declared.token.Token.TheVariants.{RightParen, RightBrace, DoubleBar, DoubleAmpersand, Percent}
 use Rattle.tre_parse.specs.Joins.{edge_sign}
-use Rattle.tre_parse.specs.TokenGrammar.{StateRule, lit, state, conj, neg, SpellsState, lit_name, lit_true, lit_braces, lit_bang, state_conj, state_bars, conj_neg, conj_ampersands, neg_name, neg_true, neg_parens, neg_bang, SpellsInterval, with_high, without_high}
+use Rattle.tre_parse.specs.Grammar.{Words, StateRule, state, conj, unary, SpellsState, unary_name, unary_true, unary_bang, braces, parens, state_conj, state_bars, conj_unary, conj_ampersands, SpellsInterval, with_high, without_high}
 use Rattle.tre_parse.specs.Begins.{BeginsInterval}
 use Rattle.tre_parse.specs.Parts.{IsFineInterval, IsMadeOf}
 use Rattle.tre_parse.specs.Operands.{Formula, RepresentsState}
-use Rattle.tre_parse.specs.TokenOutcome.{is_big, HasEmptyAt, IsFirstEmpty}
+use Rattle.tre_parse.specs.Outcome.{is_big, HasEmptyAt}
+use Rattle.tre_parse.specs.ScannedOutcome.{IsFirstEmpty}
+use Rattle.tre_parse.specs.Words.{Word, sign}
+use Rattle.tre_parse.specs.TokenWords.{word_of, words_for}
 use Rattle.tre_parse.specs.Reader.{Reading, got, StateTask, of_state, of_interval, read, read_state}
 use Rattle.tre_parse.specs.Reading.{ReadingGoes, Accepts}
 use Rattle.tre_parse.specs.Unkept.{NoneEmptyBefore, NoneEmpty, BeginsUnkept, Finds, FindsUpTo, unkept_at}
@@ -22,6 +25,7 @@ use Rattle.tre_parse.proofs.Fine.{none_big, ends_within}
 use Rattle.tre_parse.proofs.Fixpoint.{left}
 use Rattle.tre_parse.proofs.Says.{StateSpelt, StateBegun, Says}
 use Rattle.tre_parse.proofs.Rules.{task_says}
+use Rattle.tre_parse.proofs.TokenWords.{token_as, tokens_as, there_and_back, all_back, spread}
 
 pub or_none : (a : Option ℕ) → option_or a None ≡ a
 or_none None = refl
@@ -58,42 +62,43 @@ up_to_accepted t false old ts new found now k a n same = search rules
 
 -- ---- states and intervals
 
-skips_state : (r : StateRule) (xs : List Token) (s : StateTree) → SpellsState r xs s
-    → (ys : List Token) (found : Option ℕ) → Finds ys found → Finds (xs ++ ys) found
-skips_state _ _ _ (lit_name i) ys found h = h
-skips_state _ _ _ lit_true ys found h = h
-skips_state _ _ _ (lit_bang xs s k) ys found h = skips_state lit xs s k ys found h
-skips_state _ _ _ (lit_braces xs s k) ys found h =
-    subst (λ l. Finds l found) (sym (append_assoc xs (RightBrace ∷ []) ys))
+skips_state : (r : StateRule) (xs : Words) (s : StateTree) → SpellsState r xs s
+    → (ys : List Token) (found : Option ℕ) → Finds ys found → Finds (tokens_as xs ++ ys) found
+skips_state _ _ _ (unary_name inside i) ys found h = h
+skips_state _ _ _ (unary_true inside) ys found h = h
+skips_state _ _ _ (unary_bang inside xs s k) ys found h =
+    skips_state (unary inside) xs s k ys found h
+skips_state _ _ _ (braces xs s k) ys found h =
+    subst (λ l. Finds l found) (sym (spread xs (sign (codes "}") ∷ []) ys))
     (skips_state state xs s k (RightBrace ∷ ys) found h)
+skips_state _ _ _ (parens xs s k) ys found h =
+    subst (λ l. Finds l found) (sym (spread xs (sign (codes ")") ∷ []) ys))
+    (skips_state state xs s k (RightParen ∷ ys) found h)
 skips_state _ _ _ (state_conj xs s k) ys found h = skips_state conj xs s k ys found h
 skips_state _ _ _ (state_bars xs zs s t k m) ys found h =
-    subst (λ l. Finds l found) (sym (append_assoc xs (DoubleBar ∷ zs) ys))
-    (skips_state state xs s k (DoubleBar ∷ (zs ++ ys)) found (skips_state conj zs t m ys found h))
-skips_state _ _ _ (conj_neg xs s k) ys found h = skips_state neg xs s k ys found h
+    subst (λ l. Finds l found) (sym (spread xs (sign (codes "||") ∷ zs) ys))
+    (skips_state state xs s k (DoubleBar ∷ (tokens_as zs ++ ys)) found
+    (skips_state conj zs t m ys found h))
+skips_state _ _ _ (conj_unary xs s k) ys found h = skips_state (unary true) xs s k ys found h
 skips_state _ _ _ (conj_ampersands xs zs s t k m) ys found h =
-    subst (λ l. Finds l found) (sym (append_assoc xs (DoubleAmpersand ∷ zs) ys))
-    (skips_state conj xs s k (DoubleAmpersand ∷ (zs ++ ys)) found
-    (skips_state neg zs t m ys found h))
-skips_state _ _ _ (neg_name i) ys found h = h
-skips_state _ _ _ neg_true ys found h = h
-skips_state _ _ _ (neg_bang xs s k) ys found h = skips_state neg xs s k ys found h
-skips_state _ _ _ (neg_parens xs s k) ys found h =
-    subst (λ l. Finds l found) (sym (append_assoc xs (RightParen ∷ []) ys))
-    (skips_state state xs s k (RightParen ∷ ys) found h)
+    subst (λ l. Finds l found) (sym (spread xs (sign (codes "&&") ∷ zs) ys))
+    (skips_state conj xs s k (DoubleAmpersand ∷ (tokens_as zs ++ ys)) found
+    (skips_state (unary true) zs t m ys found h))
 
 pub up_to_state : (r : StateRule) (task : StateTask) (x : Formula) (old new : List Token)
-    → ((xs : List Token) (s : StateTree) → StateSpelt task xs s → SpellsState r xs s) →
+    → ((xs : Words) (s : StateTree) → StateSpelt task xs s → SpellsState r xs s) →
     ReadingGoes RepresentsState x (read_state task old) (λ s. got s new) → FindsUpTo old new None
 up_to_state r task x old new spelt k = λ later h.
     let s = task_says (of_state task) old in
-    let P = λ (o : Reading StateTree). Says (StateSpelt task) (StateBegun task) s.taken o in
-    let split = s.split ∙ ap (λ o. s.taken ++ left o) k.goes in
+    let words = words_for s.taken in
+    let P = λ (o : Reading StateTree). Says (StateSpelt task) (StateBegun task) words o in
+    let split = s.split ∙ ap (λ o. s.taken ++ left o) k.goes
+    ∙ ap (λ ts. ts ++ new) (sym (all_back s.taken)) in
     subst (λ l. Finds l later) (sym split)
-    (skips_state r s.taken k.tree (spelt s.taken k.tree (subst P k.goes s.says)) new later h)
+    (skips_state r words k.tree (spelt words k.tree (subst P k.goes s.says)) new later h)
 
-skips_interval : (xs : List Token) (ends : IntervalEnds) → SpellsInterval xs ends
-    → (ys : List Token) (found : Option ℕ) → Finds ys found → Finds (xs ++ ys) found
+skips_interval : (xs : Words) (ends : IntervalEnds) → SpellsInterval xs ends
+    → (ys : List Token) (found : Option ℕ) → Finds ys found → Finds (tokens_as xs ++ ys) found
 skips_interval _ _ (with_high low high true true) ys found h = h
 skips_interval _ _ (with_high low high true false) ys found h = h
 skips_interval _ _ (with_high low high false true) ys found h = h
@@ -106,12 +111,12 @@ pub up_to_interval : (within : Option IntervalEnds) (us new : List Token)
     FindsUpTo (Percent ∷ us) new (unkept_at within (length us))
 up_to_interval within us new k =
     let s = task_says of_interval us in
-    let P = λ (o : Reading IntervalEnds). Says SpellsInterval BeginsInterval s.taken o in
+    let P = λ (o : Reading IntervalEnds). Says SpellsInterval BeginsInterval (words_for s.taken) o in
     by within k.tree s.taken (s.split ∙ ap (λ o. s.taken ++ left o) k.goes) (subst P k.goes s.says)
     k.stands
   where
     by : (within : Option IntervalEnds) (ends : IntervalEnds) (taken : List Token)
-        → us ≡ taken ++ new → SpellsInterval taken ends → IsMadeOf within ends
+        → us ≡ taken ++ new → SpellsInterval (words_for taken) ends → IsMadeOf within ends
         → FindsUpTo (Percent ∷ us) new (unkept_at within (length us))
     by None ends taken split spells made = λ later h. inl (
       record {
@@ -125,14 +130,17 @@ up_to_interval within us new k =
       refl,
     )
     by (Some kept) ends taken split spells made = λ later h. inr (
-      (λ u. u.unkept (subst IsFineInterval (same_ends us taken u.body new u.rest ends u.ends split
-          u.split spells u.spells) (made.fine refl))),
-      subst (λ l. Finds l later) (sym split) (skips_interval taken ends spells new later h),
+      (λ u. u.unkept (subst IsFineInterval (same_ends (words_for taken) (words_for u.body)
+          (words_for new) (words_for u.rest) ends u.ends (sym (map-append word_of taken new)
+          ∙ ap (λ ts. words_for ts) (sym split ∙ u.split) ∙ map-append word_of u.body u.rest)
+          spells u.spells) (made.fine refl))),
+      subst (λ l. Finds l later) (sym (split ∙ ap (λ ts. ts ++ new) (sym (all_back taken))))
+          (skips_interval (words_for taken) ends spells new later h),
     )
 
 -- ---- all the tokens
 
-same_place : (front other xs ys : List Token) → front ++ xs ≡ other ++ ys → length front
+same_place : (front other xs ys : Words) → front ++ xs ≡ other ++ ys → length front
     ≡ length other → xs ≡ ys
 same_place [] [] xs ys e n = e
 same_place [] (o ∷ other) xs ys e n = absurd (omega (arith, n))
@@ -140,47 +148,76 @@ same_place (f ∷ front) [] xs ys e n = absurd (omega (arith, n))
 same_place (f ∷ front) (o ∷ other) xs ys e n = same_place front other xs ys (tail f o _ _ e)
     (omega (arith, n))
   where
-    tail : (a b : Token) (us vs : List Token) → a ∷ us ≡ b ∷ vs → us ≡ vs
+    tail : (a b : Word ℕ) (us vs : Words) → a ∷ us ≡ b ∷ vs → us ≡ vs
     tail a b us vs q = cc
 
 -- What is found in the rest, where no interval before it is empty.
-abbrev pub IsFound : List Token → Option ℕ → Type 0
-IsFound tokens found = MatchOption found (NoneEmpty tokens)
-    (λ left. IsFirstEmpty tokens (length tokens - left))
+abbrev pub IsFound : Words → Option ℕ → Type 0
+IsFound words found = MatchOption found (NoneEmpty words)
+    (λ left. IsFirstEmpty words (length words - left))
 
-no_empty_at : (front rest : List Token) (t : Token) → (t ≡ Percent → BeginsUnkept rest → ⊥)
-    → HasEmptyAt (front ++ t ∷ rest) (length front + 1) → ⊥
-no_empty_at front rest t never k = search (rules, same_place, k.front)
+-- The words of an interval are those of tokens.
+interval_back : (body : Words) (ends : IntervalEnds) → SpellsInterval body ends
+    → words_for (tokens_as body) ≡ body
+interval_back _ _ (with_high low high true true) = refl
+interval_back _ _ (with_high low high true false) = refl
+interval_back _ _ (with_high low high false true) = refl
+interval_back _ _ (with_high low high false false) = refl
+interval_back _ _ (without_high low true) = refl
+interval_back _ _ (without_high low false) = refl
 
-empty_at : (front rest : List Token) → position is_big (front ++ Percent ∷ rest) ≡ None
-    → NoneEmptyBefore (front ++ Percent ∷ rest) (length front + 1) → BeginsUnkept rest →
-    IsFirstEmpty (front ++ Percent ∷ rest) (length (front ++ Percent ∷ rest) - length rest)
+no_empty_at : (front : Words) (rest : List Token) (t : Token)
+    → (t ≡ Percent → BeginsUnkept rest → ⊥)
+    → HasEmptyAt (front ++ word_of t ∷ words_for rest) (length front + 1) → ⊥
+no_empty_at front rest t never k =
+    let e = same_place front k.front _ _ k.split (omega (arith, k.here)) in
+    let first : word_of t ≡ sign (codes "%") = cc in
+    let more : words_for rest ≡ k.body ++ k.rest = cc in
+    never (sym (there_and_back t) ∙ ap token_as first) (record {
+      ends = k.ends;
+      body = tokens_as k.body;
+      rest = tokens_as k.rest;
+      split = sym (all_back rest) ∙ ap (λ ws. tokens_as ws) more
+          ∙ map-append token_as k.body k.rest;
+      spells = subst (λ (ws : Words). SpellsInterval ws k.ends)
+          (sym (interval_back k.body k.ends k.spelt)) k.spelt;
+      unkept = λ fine. fine.lasts k.empty;
+    })
+
+empty_at : (front : Words) (rest : List Token)
+    → position is_big (front ++ sign (codes "%") ∷ words_for rest) ≡ None
+    → NoneEmptyBefore (front ++ sign (codes "%") ∷ words_for rest) (length front + 1)
+    → BeginsUnkept rest → IsFirstEmpty (front ++ sign (codes "%") ∷ words_for rest)
+    (length (front ++ sign (codes "%") ∷ words_for rest) - length rest)
 empty_at front rest big none u =
-    let tokens = front ++ Percent ∷ rest in
-    let split = ap (λ l. front ++ Percent ∷ l) u.split in
-    let count = length-append front (Percent ∷ rest) in
-    let here : length front + 1 ≡ length tokens - length rest = omega (arith, count) in
-    let P = λ (n : ℕ). IsFirstEmpty tokens n in
+    let words = front ++ sign (codes "%") ∷ words_for rest in
+    let split = ap (λ l. front ++ sign (codes "%") ∷ l) (ap (λ ts. words_for ts) u.split
+    ∙ map-append word_of u.body u.rest) in
+    let count = length-append front (sign (codes "%") ∷ words_for rest) in
+    let same = length-map rest word_of in
+    let here : length front + 1 ≡ length words - length rest = omega (arith, count, same) in
+    let P = λ (n : ℕ). IsFirstEmpty words n in
     subst P here (
       record {
         front = front;
-        body = u.body;
-        rest = u.rest;
+        body = words_for u.body;
+        rest = words_for u.rest;
         ends = u.ends;
         split = split;
         here = refl;
         spelt = u.spells;
         empty = unkept_empty u.ends
-            (ends_within tokens front u.body u.rest u.ends (none_big tokens big) split u.spells)
+            (ends_within words front (words_for u.body) (words_for u.rest) u.ends
+            (none_big words big) split u.spells)
             u.unkept;
       },
       none,
     )
 
--- One token further.
-finds_more : (front rest : List Token) (t : Token) (found : Option ℕ)
+-- One word further.
+finds_more : (front rest : Words) (t : Word ℕ) (found : Option ℕ)
     → NoneEmptyBefore (front ++ t ∷ rest) (length front + 1)
-    → (t ≡ Percent → BeginsUnkept rest → ⊥) →
+    → (HasEmptyAt (front ++ t ∷ rest) (length front + 1) → ⊥) →
     (NoneEmptyBefore ((front ++ t ∷ []) ++ rest) (length (front ++ t ∷ []) + 1)
     → IsFound ((front ++ t ∷ []) ++ rest) found) → IsFound (front ++ t ∷ rest) found
 finds_more front rest t found none never go =
@@ -188,31 +225,36 @@ finds_more front rest t found none never go =
     let n = length-append front (t ∷ []) in
     let more : length front + 1 + 1 ≡ length (front ++ t ∷ []) + 1 = omega (arith, n) in
     let P = λ (k : ℕ). NoneEmptyBefore (front ++ t ∷ rest) k in
-    let Q = λ (l : List Token). NoneEmptyBefore l (length (front ++ t ∷ []) + 1) in
+    let Q = λ (l : Words). NoneEmptyBefore l (length (front ++ t ∷ []) + 1) in
     subst (λ l. IsFound l found) same (go (subst Q (sym same) (subst P more
-    (none_before_more (front ++ t ∷ rest) (length front) none
-    (no_empty_at front rest t never)))))
+    (none_before_more (front ++ t ∷ rest) (length front) none never))))
 
-finds_on : (front rest : List Token) (found : Option ℕ)
-    → position is_big (front ++ rest) ≡ None → NoneEmptyBefore (front ++ rest) (length front + 1)
-    → Finds rest found → IsFound (front ++ rest) found
+finds_on : (front : Words) (rest : List Token) (found : Option ℕ)
+    → position is_big (front ++ words_for rest) ≡ None
+    → NoneEmptyBefore (front ++ words_for rest) (length front + 1)
+    → Finds rest found → IsFound (front ++ words_for rest) found
 finds_on front [] found big none e =
     let n = ap length (append-nil front) in
     subst (IsFound (front ++ [])) (sym e)
     (none_empty (front ++ []) (length front) (omega (arith, n)) none)
 finds_on front (Percent ∷ rest) found big none (inl h) =
-    subst (IsFound (front ++ Percent ∷ rest)) (sym h.1) (empty_at front rest big none h.0)
+    subst (IsFound (front ++ sign (codes "%") ∷ words_for rest)) (sym h.1)
+    (empty_at front rest big none h.0)
 finds_on front (Percent ∷ rest) found big none (inr h) =
-    finds_more front rest Percent found none (λ q. h.0)
-    (λ k. finds_on (front ++ Percent ∷ []) rest found
-    (ap (position is_big) (append_assoc front (Percent ∷ []) rest) ∙ big) k h.1)
+    finds_more front (words_for rest) (sign (codes "%")) found none
+    (no_empty_at front rest Percent (λ q. h.0))
+    (λ k. finds_on (front ++ sign (codes "%") ∷ []) rest found
+    (ap (position is_big) (append_assoc front (sign (codes "%") ∷ []) (words_for rest)) ∙ big) k
+    h.1)
 finds_on front (t ∷ rest) found big none h =
-    finds_more front rest t found none (λ q. absurd (cc))
-    (λ k. finds_on (front ++ t ∷ []) rest found
-    (ap (position is_big) (append_assoc front (t ∷ []) rest) ∙ big) k h)
+    finds_more front (words_for rest) (word_of t) found none
+    (no_empty_at front rest t (λ q. absurd (cc)))
+    (λ k. finds_on (front ++ word_of t ∷ []) rest found
+    (ap (position is_big) (append_assoc front (word_of t ∷ []) (words_for rest)) ∙ big) k h)
 
-pub finds_first : (tokens : List Token) (found : Option ℕ) → position is_big tokens ≡ None
-    → FindsUpTo tokens [] found → IsFound tokens found
+pub finds_first : (tokens : List Token) (found : Option ℕ)
+    → position is_big (words_for tokens) ≡ None
+    → FindsUpTo tokens [] found → IsFound (words_for tokens) found
 finds_first tokens found big k =
-    finds_on [] tokens found big (none_before_one tokens)
+    finds_on [] tokens found big (none_before_one (words_for tokens))
     (subst (Finds tokens) (or_none found) (k None refl))

@@ -11,8 +11,9 @@ use Rattle.tre_parse.specs.declared.scan.Scan.{Scan}
 use Rattle.tre_parse.specs.Front.{tokens_in, offsets_in}
 use Rattle.tre_parse.specs.Operands.{Operand}
 use Rattle.tre_parse.specs.Scan.{vocabulary_in}
-use Rattle.tre_parse.specs.Outcome.{Outcome, spelt, refused}
-use Rattle.tre_parse.specs.TokenOutcome.{TextTokens, offset_of, is_past, limit_fault, IsOutcomeOfTokens}
+use Rattle.tre_parse.specs.Outcome.{Outcome, spelt, refused, is_past}
+use Rattle.tre_parse.specs.TokenWords.{words_for}
+use Rattle.tre_parse.specs.ScannedOutcome.{TextTokens, offset_of, limit_fault, IsOutcomeOfTokens}
 
 -- The answer is an outcome of which this is so, or want of memory.
 abbrev pub Answers : (Outcome → Type 0) → Result Pattern ParseFault → Type 0
@@ -44,5 +45,5 @@ IsFaultOf words (Stuck left) fault = fault ≡ Syntax (offset_of words (length w
 -- the first ones, and no more nodes than a pattern may have.
 pub record IsWithinLimits (scan : Scan) (whole : Operand) : Type 0 where
   pub kept : whole.unkept ≡ None
-  pub named : position is_past (tokens_in scan.tokens.items) ≡ None
+  pub named : position is_past (words_for (tokens_in scan.tokens.items)) ≡ None
   pub small : whole.nodes ≤ NODES_MAX

@@ -5,7 +5,7 @@ use Rattle.tre_syntax.specs.PatternTree.{PatternTree, literal, rise, fall, atom,
 use Rattle.tre_syntax.specs.declared.pattern.TheConstants.{NODES_MAX}
 use Rattle.tre_parse.specs.declared.token.Token.{Token}
 use Rattle.tre_parse.specs.declared.token.Token.TheVariants.{LeftParen, RightParen, LeftBrace, RightBrace, Semicolon, Bar, DoubleBar, Ampersand, DoubleAmpersand, Rise, Fall}
-use Rattle.tre_parse.specs.TokenGrammar.{StateRule, lit, state, conj, neg, Rule, expr, meet, seq}
+use Rattle.tre_parse.specs.Grammar.{StateRule, state, conj, unary, Rule, expr, meet, seq}
 use Rattle.tre_parse.specs.declared.connective.Connective.{Connective}
 use Rattle.tre_parse.specs.declared.connective.Connective.TheVariants.{And, Or}
 use Rattle.tre_parse.specs.declared.connective.Join.{Join}
@@ -26,8 +26,8 @@ connected_rule Or = state
 
 -- An operand of a state: in braces a literal.
 abbrev pub operand_in : Bool → StateRule
-operand_in true = lit
-operand_in false = neg
+operand_in true = unary false
+operand_in false = unary true
 
 abbrev pub joined_by : Join → PatternTree → PatternTree → PatternTree
 joined_by Sequence e f = sequence e f

@@ -1,16 +1,13 @@
--- What a reader must believe: the words of a text, the grammar, and what becomes of it.
+-- What a reader must believe: the tokens of a text, the grammar, and what becomes of it.
+pub mod Tokens
 pub mod Words
+pub mod Written
 pub mod Grammar
 pub mod Outcome
--- The same by tokens, one for each sign, and by what the scanner finds.
-pub mod TokenGrammar
-pub mod Tokens
-pub mod Written
-pub mod TokenOutcome
+-- The same by what the scanner finds.
 pub mod Lexeme
 pub mod Scanned
 pub mod ScannedOutcome
-pub mod TokenWords
 -- What the laws say in other words.
 pub mod Begins
 pub mod Signs
@@ -24,6 +21,7 @@ pub mod Past
 pub mod Front
 pub mod Known
 pub mod Scan
+pub mod TokenWords
 pub mod Joins
 pub mod Parts
 pub mod Operands

@@ -5,7 +5,8 @@ use Rattle.tre_parse.specs.declared.token.Token.{Token}
 use Rattle.tre_parse.specs.declared.lexeme.Lexeme.{Lexeme}
 use Rattle.tre_parse.specs.declared.lexeme.Lexeme.TheVariants.{Blank, Wrong, Name, Number, Sign}
 use Rattle.tre_parse.specs.Lexeme.{lexeme_of}
-use Rattle.tre_parse.specs.Tokens.{RawToken, name, number, sign, RawTokenAt, words_among, names_among, tokens_among}
+use Rattle.tre_parse.specs.Tokens.{RawToken, name, number, sign, RawTokenAt}
+use Rattle.tre_parse.specs.Known.{nothing_known, tokens_from, names_from}
 
 -- The raw tokens up to the first byte at which no token begins, and its offset, if there is one.
 pub record RawTokens : Type 0 where
@@ -37,11 +38,8 @@ raw_tokens_of text = (raw_tokens_from 0 0 text).raw_tokens
 abbrev pub bad_byte : List ℕ → Option ℕ
 bad_byte text = (raw_tokens_from 0 0 text).bad
 
-abbrev pub words_of : List ℕ → List RawToken
-words_of text = words_among (raw_tokens_of text)
-
 abbrev pub names_of : List ℕ → Vocabulary
-names_of text = names_among (raw_tokens_of text)
+names_of text = names_from nothing_known (raw_tokens_of text)
 
 abbrev pub tokens_of : ℕ → List ℕ → List Token
-tokens_of scale text = tokens_among scale (raw_tokens_of text)
+tokens_of scale text = tokens_from scale nothing_known (raw_tokens_of text)

@@ -1,12 +1,9 @@
--- The words of tokens, as the parser has them: one token for each sign and each reserved word.
-use Rattle.std.specs.Prelude.{ℕ, true, false, List, [], codes, map}
+-- The words that the parser's tokens stand for: one token for each sign and each reserved word.
+use Rattle.std.specs.Prelude.{ℕ, List, [], codes, map}
 use Rattle.tre_parse.specs.declared.token.Token.{Token}
 use Rattle.tre_parse.specs.declared.token.Token.TheVariants.{Name, EventName, Number, LeftParen, RightParen, LeftBracket, RightBracket, LeftBrace, RightBrace, Comma, Semicolon, Bar, DoubleBar, Ampersand, DoubleAmpersand, Bang, Star, Plus, Question, Percent, Begins, Ends, Eps, Rise, Fall, Inf, True, Event}
 use Rattle.tre_parse.specs.Words.{Word, name, event_name, number, sign}
-use Rattle.tre_parse.specs.Grammar.{StateRule, state, conj, unary, Rule, expr, meet, seq, post, primary}
-use Rattle.tre_parse.specs.TokenGrammar.{StateRule as TokenStateRule, lit as token_lit, state as token_state, conj as token_conj, neg as token_neg, Rule as TokenRule, expr as token_expr, meet as token_meet, seq as token_seq, post as token_post, primary as token_primary}
 use Rattle.tre_parse.specs.Tokens.{RawToken, RawTokenAt, name as raw_name, event_name as raw_event, number as raw_number, sign as raw_sign}
-use Rattle.tre_parse.specs.Scanned.{raw_tokens_of}
 
 -- the bytes of a token that is neither a name nor a number
 abbrev pub text_of : Token → List ℕ
@@ -43,6 +40,9 @@ word_of (EventName i) = event_name i
 word_of (Number n) = number n
 word_of token = sign (text_of token)
 
+abbrev pub words_for : List Token → List (Word ℕ)
+words_for tokens = map word_of tokens
+
 abbrev pub raw_word : RawToken → Word (List ℕ)
 raw_word (raw_name text) = name text
 raw_word (raw_event text) = event_name text
@@ -54,20 +54,3 @@ WordAt = ℕ × Word (List ℕ)
 
 abbrev pub word_at : RawTokenAt → WordAt
 word_at raw = (raw.at, raw_word raw.word)
-
--- the words of the tokens that the scanner has of a text
-abbrev pub words_of : List ℕ → List WordAt
-words_of text = map word_at (raw_tokens_of text)
-
-abbrev pub state_rule_word : TokenStateRule → StateRule
-state_rule_word token_lit = unary false
-state_rule_word token_state = state
-state_rule_word token_conj = conj
-state_rule_word token_neg = unary true
-
-abbrev pub rule_word : TokenRule → Rule
-rule_word token_expr = expr
-rule_word token_meet = meet
-rule_word token_seq = seq
-rule_word token_post = post
-rule_word token_primary = primary

@@ -1,28 +1,30 @@
 -- The first interval that can't be kept, as it is found while tokens are read.
-use Rattle.std.specs.Prelude.{◌≡◌, ℕ, ◌+◌, ◌<◌, ◌⊎◌, Option, Some, None, List, [], ◌∷◌, ◌++◌, length}
+use Rattle.std.specs.Prelude.{◌≡◌, ℕ, ◌+◌, ◌<◌, ◌⊎◌, Option, Some, None, List, [], ◌∷◌, ◌++◌, length, codes}
 use Rattle.std.specs.Option.{option_or}
 use Rattle.tre_zone.specs.Interval.{IntervalEnds}
 use Rattle.tre_parse.specs.declared.token.Token.{Token}
 use Rattle.tre_parse.specs.declared.token.Token.TheVariants.{Percent}
-use Rattle.tre_parse.specs.TokenGrammar.{SpellsInterval}
+use Rattle.tre_parse.specs.Words.{sign}
+use Rattle.tre_parse.specs.TokenWords.{words_for}
+use Rattle.tre_parse.specs.Grammar.{Words, SpellsInterval}
 use Rattle.tre_parse.specs.Parts.{IsFineInterval}
-use Rattle.tre_parse.specs.TokenOutcome.{HasEmptyAt}
+use Rattle.tre_parse.specs.Outcome.{HasEmptyAt}
 
--- An interval with these ends stands at a place of the tokens, right after a `%`.
-pub record IsIntervalAt (tokens : List Token) (place : ℕ) (ends : IntervalEnds) : Type 0 where
-  pub front : List Token
-  pub body : List Token
-  pub rest : List Token
-  pub split : tokens ≡ front ++ Percent ∷ (body ++ rest)
+-- An interval with these ends stands at a place of the words, right after a `%`.
+pub record IsIntervalAt (words : Words) (place : ℕ) (ends : IntervalEnds) : Type 0 where
+  pub front : Words
+  pub body : Words
+  pub rest : Words
+  pub split : words ≡ front ++ sign (codes "%") ∷ (body ++ rest)
   pub spelt : SpellsInterval body ends
   pub here : place ≡ length front + 1
 
 -- No interval that stands before the place is empty.
-abbrev pub NoneEmptyBefore : List Token → ℕ → Type 0
-NoneEmptyBefore tokens place = (n : ℕ) → n < place → HasEmptyAt tokens n → ⊥
+abbrev pub NoneEmptyBefore : Words → ℕ → Type 0
+NoneEmptyBefore words place = (n : ℕ) → n < place → HasEmptyAt words n → ⊥
 
-abbrev pub NoneEmpty : List Token → Type 0
-NoneEmpty tokens = (place : ℕ) → HasEmptyAt tokens place → ⊥
+abbrev pub NoneEmpty : Words → Type 0
+NoneEmpty words = (place : ℕ) → HasEmptyAt words place → ⊥
 
 -- The tokens begin with an interval that can't be kept.
 pub record BeginsUnkept (tokens : List Token) : Type 0 where
@@ -30,7 +32,7 @@ pub record BeginsUnkept (tokens : List Token) : Type 0 where
   pub body : List Token
   pub rest : List Token
   pub split : tokens ≡ body ++ rest
-  pub spells : SpellsInterval body ends
+  pub spells : SpellsInterval (words_for body) ends
   pub unkept : IsFineInterval ends → ⊥
 
 -- So many tokens are left at the first of them behind a `%`, None where there is none.

@@ -1,13 +1,14 @@
 //! Laws of the grammar, each as a function whose contract it is.
-ghost use Rattle.std.specs.Prelude.{◌≡◌, ℕ, ◌+◌, ◌≤◌, Option, MatchOption, take, unwrap_or, true, Some, None, List, [], ◌∷◌, ◌++◌, length, map, ◌↔◌};
+ghost use Rattle.std.specs.Prelude.{◌≡◌, ℕ, ◌+◌, ◌≤◌, Option, MatchOption, take, map, unwrap_or, true, Some, None, List, [], ◌∷◌, ◌++◌, length, codes, ◌↔◌};
 ghost use Rattle.std.specs.Option.{option_map};
 ghost use Rattle.tre_state.specs.declared.names.TheConstants.{NAMES_MAX};
 ghost use Rattle.tre_parse.specs.declared.limits.TheConstants.{DEPTH_MAX};
 ghost use Rattle.tre_state.specs.StateTree.{StateTree, conjunction, disjunction};
 ghost use Rattle.tre_trace.specs.Reading.{Vocabulary};
 ghost use Rattle.tre_syntax.specs.PatternTree.{PatternTree, sequence, alternation, intersection};
-ghost use Rattle.tre_parse.specs.declared.token.Token.TheVariants.{Semicolon, Bar, DoubleBar, Ampersand, DoubleAmpersand};
-ghost use Rattle.tre_parse.specs.TokenGrammar.{StateRule, SpellsState, Rule, Spells};
+ghost use Rattle.tre_parse.specs.Words.{Word, sign, AreWords};
+ghost use Rattle.tre_parse.specs.TokenWords.{words_for, WordAt, word_at};
+ghost use Rattle.tre_parse.specs.Grammar.{Words, StateRule, SpellsState, Rule, Spells};
 ghost use Rattle.tre_parse.specs.Begins.{BeginsState, Begins, IsCompletable};
 ghost use Rattle.tre_parse.specs.Depth.{open_from, IsDeepAt};
 ghost use Rattle.tre_parse.specs.Strength.{Groups, StateGroups};
@@ -17,9 +18,6 @@ ghost use Rattle.tre_parse.specs.Ends.{bytes_in, EndsRun, EndsNumber};
 ghost use Rattle.tre_parse.specs.Past.{kind_after, UsesFew, IsOneTooMany};
 ghost use Rattle.tre_parse.specs.Lexeme.{sign_lexeme, lexeme_of};
 ghost use Rattle.tre_parse.specs.Written.{is_white_space};
-ghost use Rattle.tre_parse.specs.Words.{AreWords, numbered_words, names_among};
-ghost use Rattle.tre_parse.specs.Grammar.{SpellsState as WordsSpellState, Spells as WordsSpell};
-ghost use Rattle.tre_parse.specs.TokenWords.{WordAt, word_of, words_of, rule_word, state_rule_word};
 ghost use Rattle.tre_parse.specs.Signs.{IsSign, TakesSign};
 ghost use Rattle.tre_parse.specs.declared.lexeme.Lexeme.TheVariants.{Sign};
 ghost use Rattle.tre_state.specs.Names.{place_of};
@@ -29,8 +27,7 @@ ghost use Rattle.tre_parse.specs.Scanned.{raw_tokens_of, bad_byte, tokens_of, na
 ghost use Rattle.tre_parse.specs.Known.{names_of_kind, numbered};
 ghost use Rattle.tre_parse.specs.Blanks.{counted_on, SaysAs};
 ghost use Rattle.tre_parse.specs.declared.token.Token.{Token};
-ghost use Rattle.tre_parse.specs.Outcome.{IsSpelling, Outcome, spelt, IsOutcome};
-ghost use Rattle.tre_parse.specs.TokenOutcome.{deep_place};
+ghost use Rattle.tre_parse.specs.Outcome.{IsSpelling, Outcome, spelt, IsOutcome, deep_place};
 ghost use Rattle.tre_parse.specs.ScannedOutcome.{text_tokens_of};
 
 /// A text spells at most one pattern at a scale.
@@ -52,25 +49,14 @@ pub fn longest_sign()
         sign_lexeme bytes ≡ Sign token len → IsSign (take len bytes) token }
 {}
 
-/// The words of a text are those of the tokens that are scanned, each the longest that is written
-/// at its place, and no others.
+/// The tokens of a text are those that are scanned, each the longest that is written at its place,
+/// and no others.
 pub fn longest_token()
     ensures one { (text : List ℕ) (words : List WordAt) (bad : Option ℕ) →
-        AreWords 0 text words bad → (words ≡ words_of text) × (bad ≡ bad_byte text) }
-    ensures some { (text : List ℕ) → AreWords 0 text (words_of text) (bad_byte text) }
-{}
-
-/// What the other laws say of the tokens of a text is so of its words: they have the same numbers
-/// and the same names, and tokens spell what their words do.
-pub fn tokens_and_words()
-    ensures numbers { (scale : ℕ) (text : List ℕ) →
-        numbered_words scale (words_of text) ≡ map word_of (tokens_of scale text) }
-    ensures names { (text : List ℕ) → names_among (words_of text) ≡ names_of text }
-    ensures pattern { (rule : Rule) (tokens : List Token) (tree : PatternTree) →
-        Spells rule tokens tree ↔ WordsSpell (rule_word rule) (map word_of tokens) tree }
-    ensures state { (rule : StateRule) (tokens : List Token) (tree : StateTree) →
-        SpellsState rule tokens tree
-        ↔ WordsSpellState (state_rule_word rule) (map word_of tokens) tree }
+        AreWords 0 text words bad → (words ≡ map word_at (raw_tokens_of text))
+        × (bad ≡ bad_byte text) }
+    ensures some { (text : List ℕ) →
+        AreWords 0 text (map word_at (raw_tokens_of text)) (bad_byte text) }
 {}
 
 /// A word has as many bytes as can stand in a name, and a number as many digits as there are, and
@@ -84,10 +70,10 @@ pub fn longest_word()
 
 /// Tokens begin a rule exactly where some further tokens complete them to what it spells.
 pub fn beginnings()
-    ensures expression { (rule : Rule) (tokens : List Token) → Begins rule tokens ↔
-        IsCompletable (Spells rule) tokens }
-    ensures state { (rule : StateRule) (tokens : List Token) → BeginsState rule tokens ↔
-        IsCompletable (SpellsState rule) tokens }
+    ensures expression { (rule : Rule) (tokens : List Token) → Begins rule (words_for tokens) ↔
+        IsCompletable (Spells rule) (words_for tokens) }
+    ensures state { (rule : StateRule) (tokens : List Token) → BeginsState rule (words_for tokens) ↔
+        IsCompletable (SpellsState rule) (words_for tokens) }
 {}
 
 /// Every text has an outcome at each scale.
@@ -109,27 +95,27 @@ pub fn outcome_is_spelt()
 
 /// `;` binds more than `&`, and `&` more than `|`. Each of them groups to the left.
 pub fn strength()
-    ensures bars { Groups Bar Bar (λ e f g. alternation (alternation e f) g) }
-    ensures ampersands { Groups Ampersand Ampersand (λ e f g. intersection (intersection e f) g) }
-    ensures semicolons { Groups Semicolon Semicolon (λ e f g. sequence (sequence e f) g) }
-    ensures bar_ampersand { Groups Bar Ampersand (λ e f g. alternation e (intersection f g)) }
-    ensures ampersand_bar { Groups Ampersand Bar (λ e f g. alternation (intersection e f) g) }
-    ensures bar_semicolon { Groups Bar Semicolon (λ e f g. alternation e (sequence f g)) }
-    ensures semicolon_bar { Groups Semicolon Bar (λ e f g. alternation (sequence e f) g) }
-    ensures ampersand_semicolon { Groups Ampersand Semicolon (λ e f g. intersection e
+    ensures bars { Groups (sign (codes "|")) (sign (codes "|")) (λ e f g. alternation (alternation e f) g) }
+    ensures ampersands { Groups (sign (codes "&")) (sign (codes "&")) (λ e f g. intersection (intersection e f) g) }
+    ensures semicolons { Groups (sign (codes ";")) (sign (codes ";")) (λ e f g. sequence (sequence e f) g) }
+    ensures bar_ampersand { Groups (sign (codes "|")) (sign (codes "&")) (λ e f g. alternation e (intersection f g)) }
+    ensures ampersand_bar { Groups (sign (codes "&")) (sign (codes "|")) (λ e f g. alternation (intersection e f) g) }
+    ensures bar_semicolon { Groups (sign (codes "|")) (sign (codes ";")) (λ e f g. alternation e (sequence f g)) }
+    ensures semicolon_bar { Groups (sign (codes ";")) (sign (codes "|")) (λ e f g. alternation (sequence e f) g) }
+    ensures ampersand_semicolon { Groups (sign (codes "&")) (sign (codes ";")) (λ e f g. intersection e
         (sequence f g)) }
-    ensures semicolon_ampersand { Groups Semicolon Ampersand (λ e f g. intersection
+    ensures semicolon_ampersand { Groups (sign (codes ";")) (sign (codes "&")) (λ e f g. intersection
         (sequence e f) g) }
 {}
 
 /// Inside a state `&&` binds more than `||`. Each of them groups to the left.
 pub fn state_strength()
-    ensures bars { StateGroups DoubleBar DoubleBar (λ s t u. disjunction (disjunction s t) u) }
-    ensures ampersands { StateGroups DoubleAmpersand DoubleAmpersand (λ s t u. conjunction
+    ensures bars { StateGroups (sign (codes "||")) (sign (codes "||")) (λ s t u. disjunction (disjunction s t) u) }
+    ensures ampersands { StateGroups (sign (codes "&&")) (sign (codes "&&")) (λ s t u. conjunction
         (conjunction s t) u) }
-    ensures bar_ampersand { StateGroups DoubleBar DoubleAmpersand (λ s t u. disjunction s
+    ensures bar_ampersand { StateGroups (sign (codes "||")) (sign (codes "&&")) (λ s t u. disjunction s
         (conjunction t u)) }
-    ensures ampersand_bar { StateGroups DoubleAmpersand DoubleBar (λ s t u. disjunction
+    ensures ampersand_bar { StateGroups (sign (codes "&&")) (sign (codes "||")) (λ s t u. disjunction
         (conjunction s t) u) }
 {}
 
@@ -171,7 +157,7 @@ pub fn blank_says_nothing()
 /// The place of the first bracket too many, said of the fronts of the tokens: with the token there
 /// more than `DEPTH_MAX` brackets are open, and with fewer tokens never.
 pub fn depth()
-    ensures { (tokens : List Token) → MatchOption (deep_place 0 0 tokens)
+    ensures { (tokens : Words) → MatchOption (deep_place 0 0 tokens)
         ((n : ℕ) → open_from 0 (take n tokens) ≤ DEPTH_MAX) (IsDeepAt tokens) }
 {}
 

@@ -1,11 +1,10 @@
 //! The language of patterns: from a text to the one pattern that it spells.
 //!
 //! The central call is `parse`. The grammar stands in specs/Grammar.antt as a relation between
-//! words and what they spell, apart from the way in which the parser reads them: once, from the
-//! left, by one function for each rule. Which words a text has is said in specs/Words.antt, by the
-//! bytes that write each: at each place it is the longest. The parser works on tokens, one for each
-//! word; specs/TokenGrammar.antt and specs/Written.antt say the same of those. The layers above may
-//! rely on `IsOutcome`, which says for every text and scale what becomes of it: a text has one
+//! tokens and what they spell, apart from the way in which the parser reads them: once, from the
+//! left, by one function for each rule. Which tokens a text has is said in specs/Written.antt, by
+//! the bytes that write each: at each place it is the longest. The layers above may rely on
+//! `IsOutcome`, which says for every text and scale what becomes of it: a text has one
 //! outcome, and `parse` answers it or `Memory`. Numbers are decimals that are whole numbers of
 //! units, which `units_of` of tre_decimal tells.
 //!

@@ -8,7 +8,7 @@ ghost use Rattle.tre_parse.specs.Reading.{Reads};
 ghost use Rattle.tre_parse.specs.Unkept.{FindsUpTo};
 ghost use Rattle.tre_parse.specs.Numbering.{IsNumberedByUse};
 ghost use Rattle.tre_parse.specs.Outcome.{IsSpelling, Outcome, IsOutcome};
-ghost use Rattle.tre_parse.specs.TokenOutcome.{limit_fault};
+ghost use Rattle.tre_parse.specs.ScannedOutcome.{limit_fault};
 ghost use Rattle.tre_parse.specs.Answers.{text_tokens_in, IsFaultOf, IsOutcomeWithin, IsWithinLimits, Answers};
 
 use crate::connective::Join;

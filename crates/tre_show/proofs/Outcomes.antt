@@ -14,56 +14,72 @@ use Rattle.tre_syntax.specs.PatternTree.{PatternTree, node_count, seen_after}
 use Rattle.tre_parse.specs.declared.token.Token.{Token}
 use Rattle.tre_parse.specs.declared.before.Before.{Before}
 use Rattle.tre_parse.specs.declared.before.Before.TheVariants.{Other}
-use Rattle.tre_parse.specs.declared.token.Token.TheVariants.{Number, Percent}
+use Rattle.tre_parse.specs.declared.token.Token.TheVariants.{Name, EventName, Number, Percent}
 use Rattle.tre_parse.specs.declared.fault.ParseFault.{ParseFault}
 use Rattle.tre_parse.specs.declared.fault.ParseFault.TheVariants.{TooLong, BadByte, Number as TooBig, TooDeep}
-use Rattle.tre_parse.specs.TokenGrammar.{expr, Spells}
+use Rattle.tre_parse.specs.Grammar.{Words, expr, Spells}
 use Rattle.tre_parse.specs.Scanned.{raw_tokens_from, tokens_of, bad_byte}
 use Rattle.tre_parse.specs.Known.{before_sign, nothing_known}
 use Rattle.tre_parse.specs.Unkept.{NoneEmpty}
 use Rattle.tre_parse.specs.Outcome.{IsSpelling, Outcome, spelt, refused, IsOutcome}
-use Rattle.tre_parse.specs.TokenOutcome.{TextTokens, is_big, is_past, deep_place, offset_of, size_fault, IsOutcomeOfTokens}
-use Rattle.tre_parse.specs.ScannedOutcome.{text_tokens_of}
+use Rattle.tre_parse.specs.Outcome.{is_big, is_past, deep_place}
+use Rattle.tre_parse.specs.ScannedOutcome.{TextTokens, offset_of, size_fault, IsOutcomeOfTokens, text_tokens_of}
+use Rattle.tre_parse.specs.Words.{Word, number, sign}
+use Rattle.tre_parse.specs.TokenWords.{word_of, words_for}
+use Rattle.tre_parse.proofs.TokenWords.{token_as, there_and_back}
+use Rattle.std.specs.Prelude.{codes}
 use Rattle.tre_parse.proofs.Agreement.{scanned_outcome, outcome_meant, spelling_meant}
-use Rattle.tre_parse.proofs.Named.{names_run, tokens_run, past_run}
+use Rattle.tre_parse.proofs.Named.{past_run}
 use Rattle.tre_show.specs.Intervals.{HasIntervals}
 use Rattle.tre_show.specs.PatternText.{expression_text}
 use Rattle.tre_show.specs.ReadBack.{IsReadBack}
-use Rattle.tre_show.proofs.TreeTokens.{BeginsWell, StandFrom, Stand, tree_prints}
+use Rattle.tre_show.proofs.TreeTokens.{BeginsWell, StandsHere, StandFrom, Stand, tree_prints}
 use Rattle.tre_show.proofs.Written.{WritesNumbers}
 use Rattle.tre_show.proofs.ReadBack.{AreRead, all_read}
 
 -- ---- the limits on tokens
 
 module _ (scale : ℕ) (names : Vocabulary) where
-  one_small : (token : Token) (rest : List Token) → is_big token ≡ false
+  one_small : (token : Word ℕ) (rest : Words) → is_big token ≡ false
       → position_or_len is_big rest ≡ length rest
       → position_or_len is_big (token ∷ rest) ≡ length (token ∷ rest)
   one_small token rest fails more = search rules
 
-  none_big_len : (before : Before) (tokens : List Token) → StandFrom scale names before tokens
-      → position_or_len is_big tokens ≡ length tokens
-  none_big_len before [] stand = refl
-  none_big_len before (Number n ∷ rest) stand =
-      let small : nat_lt 1099511627776 n ≡ false =
-      let within = stand.0.0 in grind (arith, nat_tests) in
-      one_small (Number n) rest small (none_big_len Other rest stand.1)
-  none_big_len before (token ∷ rest) stand =
-      one_small token rest refl (none_big_len (before_sign before token) rest stand.1)
+  not_big : (before : Before) (rest : List Token) (token : Token)
+      → StandsHere scale names before rest token → is_big (word_of token) ≡ false
+  not_big before rest (Number n) stands = let within = stands.0 in grind (arith, nat_tests)
+  not_big before rest (Name i) stands = refl
+  not_big before rest (EventName i) stands = refl
+  not_big before rest _ stands = refl
 
-  none_big : (tokens : List Token) → Stand scale names tokens → position is_big tokens ≡ None
+  none_big_len : (before : Before) (tokens : List Token) → StandFrom scale names before tokens
+      → position_or_len is_big (words_for tokens) ≡ length (words_for tokens)
+  none_big_len before [] stand = refl
+  none_big_len before (token ∷ rest) stand =
+      one_small (word_of token) (words_for rest) (not_big before rest token stand.0) (none_big_len (before_sign before token) rest stand.1)
+
+  none_big : (tokens : List Token) → Stand scale names tokens → position is_big (words_for tokens) ≡ None
   none_big tokens stand = search (rules, none_big_len, cond_above)
 
   -- behind each `%` there is no empty interval
-  well_behind : (before : Before) (front tokens rest : List Token)
-      → StandFrom scale names before tokens → tokens ≡ front ++ Percent ∷ rest → BeginsWell rest
-  well_behind before [] tokens rest stand e = search rules
+  well_behind : (before : Before) (front : Words) (tokens : List Token) (rest : Words)
+      → StandFrom scale names before tokens
+      → words_for tokens ≡ front ++ sign (codes "%") ∷ rest → BeginsWell rest
+  well_behind before [] [] rest stand e = absurd (cc)
+  well_behind before [] (token ∷ others) rest stand e =
+      let first : word_of token ≡ sign (codes "%") = cc in
+      let behind : words_for others ≡ rest = cc in
+      let same : token ≡ Percent = sym (there_and_back token) ∙ ap token_as first in
+      subst BeginsWell behind
+      (subst (λ (t : Token). StandsHere scale names before others t) same stand.0)
   well_behind before (token ∷ front) [] rest stand e = absurd (cc)
   well_behind before (token ∷ front) (other ∷ others) rest stand e =
       well_behind (before_sign before other) front others rest stand.1 (cc)
 
-  none_empty : (tokens : List Token) → Stand scale names tokens → NoneEmpty tokens
-  none_empty tokens stand = search (rules, well_behind, spelt)
+  none_empty : (tokens : List Token) → Stand scale names tokens → NoneEmpty (words_for tokens)
+  none_empty tokens stand = λ place h.
+      well_behind Other h.front tokens (h.body ++ h.rest) stand h.split h.body h.rest h.ends refl
+      h.spelt h.empty
 
 -- ---- the outcome
 
@@ -88,7 +104,7 @@ none_mapped : {A B : Type 0} (f : A → B) (o : Option A) → option_map f o ≡
 none_mapped f None e = refl
 none_mapped f (Some x) e = absurd (cc)
 
-limited : (words : TextTokens) (tree : PatternTree) → position is_past words.tokens ≡ None
+limited : (words : TextTokens) (tree : PatternTree) → position is_past (words_for words.tokens) ≡ None
     → node_count tree ≤ 1000 → size_fault words tree ≡ None
 limited words tree none small = search rules
 
@@ -115,15 +131,15 @@ text_of_tree scale writes names tree list events pattern fine once =
     subst (λ t. AreRead scale names nothing_known tokens (raw_tokens_from 0 0 t)) says.text_same
     (all_read scale writes names list events tokens 0 0 Other 0 stand (omega arith) (omega arith)
     numbered events_numbered) in
-    let tokens_same = tokens_run scale text ∙ is.tokens_same in
-    let names_same = names_run text ∙ is.names_same in
-    let spells : Spells expr (tokens_of scale text) tree =
-    subst (λ (ts : List Token). Spells expr ts tree) (sym tokens_same) printed.spells in
+    let tokens_same = is.tokens_same in
+    let names_same = is.names_same in
+    let spells : Spells expr (words_for (tokens_of scale text)) tree =
+    subst (λ (ts : List Token). Spells expr (words_for ts) tree) (sym tokens_same) printed.spells in
     let words = text_tokens_of scale text in
-    let big : position is_big (tokens_of scale text) ≡ None =
-    ap (position is_big) tokens_same ∙ none_big scale names tokens stand in
-    let past : position is_past (tokens_of scale text) ≡ None =
-    none_mapped (offset_of words) (position is_past (tokens_of scale text))
+    let big : position is_big (words_for (tokens_of scale text)) ≡ None =
+    ap (λ ts. position is_big (words_for ts)) tokens_same ∙ none_big scale names tokens stand in
+    let past : position is_past (words_for (tokens_of scale text)) ≡ None =
+    none_mapped (offset_of words) (position is_past (words_for (tokens_of scale text)))
     (past_run scale text ∙ is.few) in
     let tells = λ (fault : Option ParseFault). MatchOption fault
     (spelt tree names ≡ spelt tree words.names) (λ why. spelt tree names ≡ refused why) in
@@ -131,7 +147,7 @@ text_of_tree scale writes names tree list events pattern fine once =
       tree,
       spells,
       inr (
-        subst NoneEmpty (sym tokens_same) (none_empty scale names tokens stand),
+        subst (λ ts. NoneEmpty (words_for ts)) (sym tokens_same) (none_empty scale names tokens stand),
         subst tells (sym (limited words tree past pattern.small)) (ap (spelt tree) (sym names_same)),
       ),
     ) in
@@ -139,7 +155,7 @@ text_of_tree scale writes names tree list events pattern fine once =
       spelling = spelling_meant scale text tree names
           (record { tokens_alone = is.good; spells = spells; numbered = sym names_same });
       outcome = λ outcome said. judged (nat_lt 16384 (length text)) (bad_byte text)
-          (position is_big words.tokens) (deep_place 0 0 words.tokens) words tree names outcome
+          (position is_big (words_for words.tokens)) (deep_place 0 0 (words_for words.tokens)) words tree names outcome
           is.good big read (λ o so. once text o outcome (outcome_meant scale text o so) said)
           (scanned_outcome scale text outcome said);
     }

@@ -29,6 +29,7 @@ use Rattle.tre_parse.specs.Lexeme.{lexeme_named, word_lexeme, number_len, number
 use Rattle.tre_parse.specs.Written.{is_white_space, reserved}
 use Rattle.tre_parse.specs.declared.before.Before.{Before}
 use Rattle.tre_parse.specs.declared.before.Before.TheVariants.{Other}
+use Rattle.tre_parse.specs.TokenWords.{words_for}
 use Rattle.tre_parse.specs.Numbering.{numbers_in}
 use Rattle.tre_parse.specs.Tokens.{RawToken, name, number, sign}
 use Rattle.tre_parse.specs.Scanned.{RawTokens, raw_tokens_from, scanned, with_raw_token}
@@ -360,8 +361,8 @@ module _ (scale : ℕ) (writes : WritesNumbers scale) (names : Vocabulary)
 
     pub all_read : (tokens : List Token) (k m : ℕ) (before : Before) (at : ℕ)
         → StandFrom scale names before tokens → k ≤ length names.names → m ≤ length names.events
-        → seen_after k (numbers_in Proposition tokens) ≡ Some (length names.names)
-        → seen_after m (numbers_in EventKind tokens) ≡ Some (length names.events)
+        → seen_after k (numbers_in Proposition (words_for tokens)) ≡ Some (length names.names)
+        → seen_after m (numbers_in EventKind (words_for tokens)) ≡ Some (length names.events)
         → AreRead scale names (first_known k m before) tokens
         (raw_tokens_from 0 at (text_of scale names tokens))
     all_read [] k m before at stand within fits e f =
@@ -377,7 +378,7 @@ module _ (scale : ℕ) (writes : WritesNumbers scale) (names : Vocabulary)
           good = refl;
         }
     all_read (Name i ∷ rest) k m before at stand within fits e f =
-        let more = next_of names.names list k i (numbers_in Proposition rest) within e in
+        let more = next_of names.names list k i (numbers_in Proposition (words_for rest)) within e in
         let bytes = name_text names.names i in
         let is = name_at names.names list i (omega (arith, more.before, more.fits)) in
         let read = takes scale writes names before (Name i) rest at stand.0 is in
@@ -393,7 +394,7 @@ module _ (scale : ℕ) (writes : WritesNumbers scale) (names : Vocabulary)
         (word_read known (first_known more.next m Other) (Name i) (name bytes) rest read.0 _ word
         (all_read rest more.next m Other read.1 stand.1 more.fits fits more.left f))
     all_read (EventName i ∷ rest) k m before at stand within fits e f =
-        let more = next_of names.events events m i (numbers_in EventKind rest) fits f in
+        let more = next_of names.events events m i (numbers_in EventKind (words_for rest)) fits f in
         let bytes = name_text names.events i in
         let is = name_at names.events events i (omega (arith, more.before, more.fits)) in
         let read = takes scale writes names before (EventName i) rest at stand.0 is in

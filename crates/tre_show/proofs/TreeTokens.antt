@@ -14,9 +14,10 @@ use Rattle.tre_syntax.specs.PatternTree.{Atom, empty, literal, rise, fall, event
 use Rattle.tre_parse.specs.declared.token.Token.{Token}
 use Rattle.tre_parse.specs.declared.token.Token.TheVariants.{Name, EventName, Number, LeftParen, RightParen, LeftBracket, RightBracket, LeftBrace, RightBrace, Comma, Semicolon, Bar, DoubleBar, Ampersand, DoubleAmpersand, Bang, Star, Plus, Question, Percent, Begins, Ends, Eps, Rise, Fall, Inf, True, Event, EndOfText}
 use Rattle.tre_parse.specs.declared.sign.TheConstants.{LEFT_PAREN, RIGHT_PAREN, LEFT_BRACKET, RIGHT_BRACKET, LEFT_BRACE, RIGHT_BRACE, COMMA, SEMICOLON, BAR, DOUBLE_BAR, AMPERSAND, DOUBLE_AMPERSAND, BANG, STAR, PLUS, QUESTION, PERCENT, BEGINS, ENDS}
-use Rattle.tre_parse.specs.TokenGrammar.{StateRule, SpellsState, lit, state as any_state, conj, neg, lit_name, lit_true, lit_braces, lit_bang, state_conj, state_bars, conj_neg, conj_ampersands, neg_name, neg_true, neg_parens, neg_bang}
-use Rattle.tre_parse.specs.TokenGrammar.{opening, closing, SpellsInterval, with_high, without_high}
-use Rattle.tre_parse.specs.TokenGrammar.{Rule, Spells, expr, meet, seq, post, primary, expr_meet, expr_bar, meet_seq, meet_ampersand, seq_post, seq_semicolon, post_primary, post_star, post_percent, primary_eps, primary_parens, primary_rise, primary_fall, primary_event, primary_lit}
+use Rattle.tre_parse.specs.Words.{Word, name, event_name, number, sign, is_sign}
+use Rattle.tre_parse.specs.TokenWords.{word_of, words_for}
+use Rattle.tre_parse.specs.Grammar.{Words, StateRule, SpellsState, state as any_state, conj, unary, unary_name, unary_true, unary_bang, braces, parens, state_conj, state_bars, conj_unary, conj_ampersands, SpellsInterval, with_high, without_high, Rule, Spells, expr, meet, seq, post, primary, expr_meet, expr_bar, meet_seq, meet_ampersand, seq_post, seq_semicolon, post_primary, post_star, post_percent, primary_eps, primary_parens, primary_rise, primary_fall, primary_event, primary_lit}
+use Rattle.std.proofs.lemmas.List.{map-append}
 use Rattle.tre_parse.specs.declared.before.Before.{Before}
 use Rattle.tre_parse.specs.declared.before.Before.TheVariants.{Other}
 use Rattle.tre_parse.specs.Numbering.{numbers_at, numbers_in}
@@ -71,8 +72,8 @@ IsCut [] = Unit {0}
 IsCut (byte ∷ rest) = continues_name byte ≡ false
 
 -- No interval of which the rest is the beginning is empty.
-abbrev pub BeginsWell : List Token → Type 0
-BeginsWell rest = (body left : List Token) (ends : IntervalEnds) → rest ≡ body ++ left
+abbrev pub BeginsWell : Words → Type 0
+BeginsWell rest = (body left : Words) (ends : IntervalEnds) → rest ≡ body ++ left
     → SpellsInterval body ends → HasNoDuration ends → ⊥
 
 -- The token can stand here: a word or a number isn't gone on with, a number isn't above the latest
@@ -89,7 +90,7 @@ StandsHere scale names before rest Fall = IsCut (text_of scale names rest)
 StandsHere scale names before rest Inf = IsCut (text_of scale names rest)
 StandsHere scale names before rest True = IsCut (text_of scale names rest)
 StandsHere scale names before rest Event = IsCut (text_of scale names rest)
-StandsHere scale names before rest Percent = BeginsWell rest
+StandsHere scale names before rest Percent = BeginsWell (words_for rest)
 StandsHere scale names before rest EndOfText = ⊥
 StandsHere scale names before rest _ = Unit {0}
 
@@ -103,6 +104,15 @@ Stand scale names tokens = StandFrom scale names Other tokens
 
 -- ---- intervals
 
+-- the brackets of an interval
+abbrev opening : Bool → Token
+opening true = LeftBracket
+opening false = LeftParen
+
+abbrev closing : Bool → Token
+closing true = RightBracket
+closing false = RightParen
+
 abbrev end_tokens : Option ℕ → Bool → List Token
 end_tokens None weak = Inf ∷ RightParen ∷ []
 end_tokens (Some high) weak = Number high ∷ closing weak ∷ []
@@ -112,33 +122,38 @@ interval_tokens ends =
     opening ends.low_weak ∷ Number ends.low ∷ Comma ∷ end_tokens ends.high ends.high_weak
 
 interval_spelt : (ends : IntervalEnds) → IsInterval ends
-    → SpellsInterval (interval_tokens ends) ends
+    → SpellsInterval (words_for (interval_tokens ends)) ends
 interval_spelt ends is = by ends.low ends.low_weak ends.high ends.high_weak is.kept
   where
     by : (low : ℕ) (low_weak : Bool) (high : Option ℕ) (high_weak : Bool)
         → kept_weak high high_weak ≡ high_weak
-        → SpellsInterval (opening low_weak ∷ Number low ∷ Comma ∷ end_tokens high high_weak)
+        → SpellsInterval
+        (words_for (opening low_weak ∷ Number low ∷ Comma ∷ end_tokens high high_weak))
         (record { low = low; low_weak = low_weak; high = high; high_weak = high_weak })
-    by low low_weak (Some high) high_weak kept = with_high low high low_weak high_weak
+    by low true (Some high) true kept = with_high low high true true
+    by low true (Some high) false kept = with_high low high true false
+    by low false (Some high) true kept = with_high low high false true
+    by low false (Some high) false kept = with_high low high false false
     by low low_weak None true kept = absurd (cc)
-    by low low_weak None false kept = without_high low low_weak
+    by low true None false kept = without_high low true
+    by low false None false kept = without_high low false
 
--- The interval that tokens begin with.
-weak_of : Token → Bool
-weak_of LeftBracket = true
-weak_of RightBracket = true
-weak_of _ = false
-
-ends_of : List Token → IntervalEnds
-ends_of (l ∷ Number low ∷ Comma ∷ Number high ∷ r ∷ _) =
-    record { low = low; low_weak = weak_of l; high = Some high; high_weak = weak_of r }
-ends_of (l ∷ Number low ∷ Comma ∷ Inf ∷ _) =
-    record { low = low; low_weak = weak_of l; high = None; high_weak = false }
+-- The interval that words begin with.
+ends_of : Words → IntervalEnds
+ends_of (l ∷ number low ∷ comma ∷ number high ∷ r ∷ _) =
+    record {
+      low = low;
+      low_weak = is_sign (codes "[") l;
+      high = Some high;
+      high_weak = is_sign (codes "]") r;
+    }
+ends_of (l ∷ number low ∷ comma ∷ sign text ∷ _) =
+    record { low = low; low_weak = is_sign (codes "[") l; high = None; high_weak = false }
 ends_of _ = record { low = 0; low_weak = false; high = None; high_weak = false }
 
-ends_spelt : (body left : List Token) (ends : IntervalEnds) → SpellsInterval body ends
+ends_spelt : (body left : Words) (ends : IntervalEnds) → SpellsInterval body ends
     → ends_of (body ++ left) ≡ ends
-unfolding ends_of weak_of
+unfolding ends_of
 ends_spelt _ left _ (with_high low high true true) = refl
 ends_spelt _ left _ (with_high low high true false) = refl
 ends_spelt _ left _ (with_high low high false true) = refl
@@ -147,14 +162,16 @@ ends_spelt _ left _ (without_high low true) = refl
 ends_spelt _ left _ (without_high low false) = refl
 
 begins_well : (ends : IntervalEnds) (more : List Token) → IsInterval ends
-    → BeginsWell (interval_tokens ends ++ more)
+    → BeginsWell (words_for (interval_tokens ends ++ more))
 begins_well ends more is = λ body left others e spelt none.
-    is.some (subst HasNoDuration (sym (ends_spelt body left others spelt) ∙ sym (ap ends_of e)
-    ∙ ends_spelt (interval_tokens ends) more ends (interval_spelt ends is)) none)
+    is.some (subst HasNoDuration (sym (ends_spelt body left others spelt) ∙ sym (ap ends_of
+    (sym (map-append word_of (interval_tokens ends) more) ∙ e))
+    ∙ ends_spelt (words_for (interval_tokens ends)) (words_for more) ends
+    (interval_spelt ends is)) none)
 
 -- ---- what tokens say
 
-numbers_join : (kind : NameKind) (xs ys : List Token)
+numbers_join : (kind : NameKind) (xs ys : Words)
     → numbers_in kind (xs ++ ys) ≡ numbers_in kind xs ++ numbers_in kind ys
 numbers_join kind [] ys = refl
 numbers_join kind (x ∷ xs) ys =
@@ -201,15 +218,15 @@ those_of_either s t EventKind = refl
 pub record Say (scale : ℕ) (names : Vocabulary) (tokens : List Token) (text : List ℕ)
     (numbers : Numbers) : Type 0 where
   pub text_same : text_of scale names tokens ≡ text
-  pub numbers_same : (kind : NameKind) → numbers_in kind tokens ≡ numbers kind
+  pub numbers_same : (kind : NameKind) → numbers_in kind (words_for tokens) ≡ numbers kind
   pub stand : (more : List Token) → IsCut (text_of scale names more) → Stand scale names more
       → Stand scale names (tokens ++ more)
 
 -- Some tokens that are of this kind say the text.
-pub record Prints (scale : ℕ) (names : Vocabulary) (Spelt : List Token → Type 0) (text : List ℕ)
+pub record Prints (scale : ℕ) (names : Vocabulary) (Spelt : Words → Type 0) (text : List ℕ)
     (numbers : Numbers) : Type 0 where
   pub tokens : List Token
-  pub spells : Spelt tokens
+  pub spells : Spelt (words_for tokens)
   pub says : Say scale names tokens text numbers
 
 -- The sum in unary, which computes over a variable.
@@ -222,8 +239,8 @@ raised_sum zero k = omega arith
 raised_sum (suc n) k = let more = raised_sum n k in omega (arith, more)
 
 -- What a tighter rule spells does a looser one, so many rules down.
-down : (Spelt : ℕ → List Token → Type 0)
-    → ((k : ℕ) (xs : List Token) → Spelt (suc k) xs → Spelt k xs) → (n k : ℕ) (xs : List Token)
+down : (Spelt : ℕ → Words → Type 0)
+    → ((k : ℕ) (xs : Words) → Spelt (suc k) xs → Spelt k xs) → (n k : ℕ) (xs : Words)
     → Spelt (raised n k) xs → Spelt k xs
 down Spelt looser zero k xs h = h
 down Spelt looser (suc n) k xs h = down Spelt looser n k xs (looser (raised n k) xs h)
@@ -232,18 +249,18 @@ down Spelt looser (suc n) k xs h = down Spelt looser n k xs (looser (raised n k)
 abbrev state_rule : ℕ → StateRule
 state_rule zero = any_state
 state_rule (suc zero) = conj
-state_rule (suc (suc k)) = neg
+state_rule (suc (suc k)) = unary true
 
-abbrev StateSpelt : StateTree → ℕ → List Token → Type 0
+abbrev StateSpelt : StateTree → ℕ → Words → Type 0
 StateSpelt s k xs = SpellsState (state_rule k) xs s
 
-state_looser : (s : StateTree) (k : ℕ) (xs : List Token) → StateSpelt s (suc k) xs
+state_looser : (s : StateTree) (k : ℕ) (xs : Words) → StateSpelt s (suc k) xs
     → StateSpelt s k xs
 state_looser s zero xs h = state_conj xs s h
-state_looser s (suc zero) xs h = conj_neg xs s h
+state_looser s (suc zero) xs h = conj_unary xs s h
 state_looser s (suc (suc k)) xs h = h
 
-state_tight : (s : StateTree) (k : ℕ) (xs : List Token) → SpellsState neg xs s → StateSpelt s k xs
+state_tight : (s : StateTree) (k : ℕ) (xs : Words) → SpellsState (unary true) xs s → StateSpelt s k xs
 state_tight s k xs h = down (StateSpelt s) (state_looser s) 2 k xs h
 
 abbrev rule_of : ℕ → Rule
@@ -252,23 +269,28 @@ rule_of (suc zero) = meet
 rule_of (suc (suc zero)) = seq
 rule_of (suc (suc (suc k))) = post
 
-abbrev TreeSpelt : PatternTree → ℕ → List Token → Type 0
+abbrev TreeSpelt : PatternTree → ℕ → Words → Type 0
 TreeSpelt e k xs = Spells (rule_of k) xs e
 
-looser : (e : PatternTree) (k : ℕ) (xs : List Token) → TreeSpelt e (suc k) xs → TreeSpelt e k xs
+looser : (e : PatternTree) (k : ℕ) (xs : Words) → TreeSpelt e (suc k) xs → TreeSpelt e k xs
 looser e zero xs h = expr_meet xs e h
 looser e (suc zero) xs h = meet_seq xs e h
 looser e (suc (suc zero)) xs h = seq_post xs e h
 looser e (suc (suc (suc k))) xs h = h
 
-tight : (e : PatternTree) (k : ℕ) (xs : List Token) → Spells post xs e → TreeSpelt e k xs
+tight : (e : PatternTree) (k : ℕ) (xs : Words) → Spells post xs e → TreeSpelt e k xs
 tight e k xs h = down (TreeSpelt e) (looser e) 3 k xs h
 
 module _ (scale : ℕ) (names : Vocabulary) where
-  prints : {Spelt : List Token → Type 0} {text : List ℕ} {numbers : Numbers}
-      (tokens : List Token) → Spelt tokens → Say scale names tokens text numbers
+  prints : {Spelt : Words → Type 0} {text : List ℕ} {numbers : Numbers}
+      (tokens : List Token) → Spelt (words_for tokens) → Say scale names tokens text numbers
       → Prints scale names Spelt text numbers
   prints tokens spells says = record { tokens = tokens; spells = spells; says = says }
+
+  -- What the words of two lists spell side by side.
+  side : (Spelt : Words → Type 0) (xs ys : List Token) → Spelt (words_for xs ++ words_for ys)
+      → Spelt (words_for (xs ++ ys))
+  side Spelt xs ys h = subst Spelt (sym (map-append word_of xs ys)) h
 
   -- The same numbers in another form.
   renumbered : {tokens : List Token} {text : List ℕ} {numbers others : Numbers}
@@ -276,7 +298,7 @@ module _ (scale : ℕ) (names : Vocabulary) where
       → Say scale names tokens text others
   renumbered same is = search rules
 
-  reprinted : {Spelt : List Token → Type 0} {text : List ℕ} {numbers others : Numbers}
+  reprinted : {Spelt : Words → Type 0} {text : List ℕ} {numbers others : Numbers}
       → ((kind : NameKind) → numbers kind ≡ others kind) → Prints scale names Spelt text numbers
       → Prints scale names Spelt text others
   reprinted same is = prints _ is.spells (renumbered same is.says)
@@ -285,7 +307,7 @@ module _ (scale : ℕ) (names : Vocabulary) where
   one : (token : Token) → ((more : List Token) → IsCut (text_of scale names more)
       → Stand scale names more → Stand scale names (token ∷ more))
       → Say scale names (token ∷ []) (printed scale names token)
-      (λ kind. numbers_in kind (token ∷ []))
+      (λ kind. numbers_in kind (words_for (token ∷ [])))
   one token stands = search rules
 
   nothing : Say scale names [] [] no_numbers
@@ -293,7 +315,7 @@ module _ (scale : ℕ) (names : Vocabulary) where
 
   -- Two lists of tokens with a sign between them.
   between : (mark : Token) (xs ys : List Token) {text other : List ℕ} {numbers others : Numbers}
-      → ((kind : NameKind) → numbers_at mark kind ≡ [])
+      → ((kind : NameKind) → numbers_at (word_of mark) kind ≡ [])
       → ((rest : List ℕ) → IsCut (printed scale names mark ++ rest))
       → ((more : List Token) → Stand scale names (ys ++ more)
       → Stand scale names (mark ∷ (ys ++ more)))
@@ -305,9 +327,10 @@ module _ (scale : ℕ) (names : Vocabulary) where
         ∙ ap (λ t. t ++ (printed scale names mark ++ text_of scale names ys)) is.text_same
         ∙ ap (λ t. text ++ (printed scale names mark ++ t)) its.text_same
         ∙ sym (append_assoc text (printed scale names mark) other);
-    numbers_same = λ kind. numbers_join kind xs (mark ∷ ys)
-        ∙ ap (λ l. l ++ numbers_in kind (mark ∷ ys)) (is.numbers_same kind)
-        ∙ ap (λ l. numbers kind ++ (l ++ numbers_in kind ys)) (none kind)
+    numbers_same = λ kind. ap (numbers_in kind) (map-append word_of xs (mark ∷ ys))
+        ∙ numbers_join kind (words_for xs) (words_for (mark ∷ ys))
+        ∙ ap (λ l. l ++ numbers_in kind (words_for (mark ∷ ys))) (is.numbers_same kind)
+        ∙ ap (λ l. numbers kind ++ (l ++ numbers_in kind (words_for ys))) (none kind)
         ∙ ap (λ l. numbers kind ++ l) (its.numbers_same kind);
     stand = λ more ends rest.
         subst (Stand scale names) (sym (append_assoc xs (mark ∷ ys) more))
@@ -317,7 +340,7 @@ module _ (scale : ℕ) (names : Vocabulary) where
 
   -- Tokens with a sign behind them.
   behind : (mark : Token) (xs : List Token) {text : List ℕ} {numbers : Numbers}
-      → ((kind : NameKind) → numbers_at mark kind ≡ [])
+      → ((kind : NameKind) → numbers_at (word_of mark) kind ≡ [])
       → ((rest : List ℕ) → IsCut (printed scale names mark ++ rest))
       → ((more : List Token) → Stand scale names more → Stand scale names (mark ∷ more))
       → Say scale names xs text numbers
@@ -329,17 +352,18 @@ module _ (scale : ℕ) (names : Vocabulary) where
       (between mark xs [] none cut stands is nothing))
 
   -- Two that are printed with a sign between them, which together are of this kind.
-  both : (mark : Token) {One Other Spelt : List Token → Type 0} {text other : List ℕ}
+  both : (mark : Token) {One Other Spelt : Words → Type 0} {text other : List ℕ}
       {numbers others : Numbers}
-      → ((kind : NameKind) → numbers_at mark kind ≡ [])
+      → ((kind : NameKind) → numbers_at (word_of mark) kind ≡ [])
       → ((rest : List ℕ) → IsCut (printed scale names mark ++ rest))
       → ((rest : List Token) → Stand scale names rest → Stand scale names (mark ∷ rest))
-      → ((xs ys : List Token) → One xs → Other ys → Spelt (xs ++ mark ∷ ys))
+      → ((xs ys : Words) → One xs → Other ys → Spelt (xs ++ word_of mark ∷ ys))
       → Prints scale names One text numbers → Prints scale names Other other others
       → Prints scale names Spelt (text ++ printed scale names mark ++ other)
       (joined_numbers numbers others)
-  both mark none cut stands joined is its =
-      prints _ (joined is.tokens its.tokens is.spells its.spells)
+  both mark {Spelt = Spelt} none cut stands joined is its =
+      prints _ (side Spelt is.tokens (mark ∷ its.tokens)
+      (joined (words_for is.tokens) (words_for its.tokens) is.spells its.spells))
       (between mark is.tokens its.tokens none cut (λ more. stands (its.tokens ++ more)) is.says
       its.says)
 
@@ -352,24 +376,28 @@ module _ (scale : ℕ) (names : Vocabulary) where
       (behind RightParen _ (λ _. refl) (λ _. refl) (λ _ rest. (tt, rest)) its)
 
   -- An operand of another strength than is asked for, in parentheses where it binds less.
-  bound : (Spelt : ℕ → List Token → Type 0)
-      → ((k : ℕ) (xs : List Token) → Spelt (suc k) xs → Spelt k xs)
-      → ((k : ℕ) (xs : List Token) → Spelt 0 xs → Spelt k (LeftParen ∷ xs ++ RightParen ∷ []))
+  bound : (Spelt : ℕ → Words → Type 0)
+      → ((k : ℕ) (xs : Words) → Spelt (suc k) xs → Spelt k xs)
+      → ((k : ℕ) (xs : Words) → Spelt 0 xs
+      → Spelt k (sign (codes "(") ∷ xs ++ sign (codes ")") ∷ []))
       → (k least : ℕ) {text : List ℕ} {numbers : Numbers}
       → Prints scale names (Spelt k) text numbers
       → Prints scale names (Spelt least) (in_parens (nat_lt k least) text) numbers
-  bound Spelt looser parens k least {text} {numbers} is = by (nat_lt k least) refl
+  bound Spelt looser closed k least {text} {numbers} is = by (nat_lt k least) refl
     where
-      loosen : (low : ℕ) → low ≤ k → Spelt low is.tokens
+      loosen : (low : ℕ) → low ≤ k → Spelt low (words_for is.tokens)
       loosen low within =
           let sum = raised_sum (k - low) low in
           let same : k ≡ raised (k - low) low = omega (arith, within, sum) in
-          down Spelt looser (k - low) low is.tokens (subst (λ n. Spelt n is.tokens) same is.spells)
+          down Spelt looser (k - low) low (words_for is.tokens)
+          (subst (λ n. Spelt n (words_for is.tokens)) same is.spells)
 
       by : (asked : Bool) → nat_lt k least ≡ asked
           → Prints scale names (Spelt least) (in_parens asked text) numbers
       by true e =
-          prints _ (parens least is.tokens (loosen 0 (omega arith))) (edge_says nothing is.says)
+          prints _ (side (λ ws. Spelt least (sign (codes "(") ∷ ws)) is.tokens (RightParen ∷ [])
+          (closed least (words_for is.tokens) (loosen 0 (omega arith))))
+          (edge_says nothing is.says)
       by false e =
           let within : least ≤ k = grind (arith, nat_tests) in
           prints _ (loosen least within) is.says
@@ -378,7 +406,7 @@ module _ (scale : ℕ) (names : Vocabulary) where
       → Prints scale names (StateSpelt s k) text numbers
       → Prints scale names (StateSpelt s least) (in_parens (nat_lt k least) text) numbers
   state_bound s k least is = bound (StateSpelt s) (state_looser s)
-      (λ k xs h. state_tight s k _ (neg_parens xs s h)) k least is
+      (λ k xs h. state_tight s k _ (parens xs s h)) k least is
 
   tree_bound : (e : PatternTree) (k least : ℕ) {text : List ℕ} {numbers : Numbers}
       → Prints scale names (TreeSpelt e k) text numbers
@@ -396,11 +424,11 @@ module _ (scale : ℕ) (names : Vocabulary) where
   state_prints : (s : StateTree) (least : ℕ)
       → Prints scale names (StateSpelt s least) (state_operand_text least names.names s)
       (numbers_at_state s)
-  state_prints always least = prints _ (state_tight always least _ neg_true) true_says
-  state_prints (proposition i) least = prints _ (state_tight _ _ _ (neg_name i)) (name_says i)
+  state_prints always least = prints _ (state_tight always least _ (unary_true true)) true_says
+  state_prints (proposition i) least = prints _ (state_tight _ _ _ (unary_name true i)) (name_says i)
   state_prints (negation s) least =
       let is = state_prints s 2 in
-      prints _ (state_tight _ least _ (neg_bang _ s is.spells))
+      prints _ (state_tight _ least _ (unary_bang true _ s is.spells))
       (renumbered (those_of_negated s)
       (between Bang [] _ (λ _. refl) (λ _. refl) (λ _ rest. (tt, rest)) nothing is.says))
   state_prints (conjunction s t) least =
@@ -413,22 +441,23 @@ module _ (scale : ℕ) (names : Vocabulary) where
       (state_prints s 0) (state_prints t 1)))
 
   braces_print : (s : StateTree)
-      → Prints scale names (λ xs. SpellsState lit xs s)
+      → Prints scale names (λ xs. SpellsState (unary false) xs s)
       (codes "{" ++ state_text names.names s ++ codes "}") (numbers_at_state s)
   braces_print s =
       let is = state_prints s 0 in
-      prints _ (lit_braces _ s is.spells)
+      prints _ (side (λ ws. SpellsState (unary false) (sign (codes "{") ∷ ws) s) is.tokens
+      (RightBrace ∷ []) (braces _ s is.spells))
       (between LeftBrace [] _ (λ _. refl) (λ _. refl) (λ _ rest. (tt, rest)) nothing
       (behind RightBrace _ (λ _. refl) (λ _. refl) (λ _ rest. (tt, rest)) is.says))
 
   literal_prints : (s : StateTree)
-      → Prints scale names (λ xs. SpellsState lit xs s) (literal_text names.names s)
+      → Prints scale names (λ xs. SpellsState (unary false) xs s) (literal_text names.names s)
       (numbers_at_state s)
-  literal_prints always = prints _ lit_true true_says
-  literal_prints (proposition i) = prints _ (lit_name i) (name_says i)
+  literal_prints always = prints _ (unary_true false) true_says
+  literal_prints (proposition i) = prints _ (unary_name false i) (name_says i)
   literal_prints (negation s) =
       let is = literal_prints s in
-      prints _ (lit_bang _ s is.spells)
+      prints _ (unary_bang false _ s is.spells)
       (renumbered (those_of_negated s)
       (between Bang [] _ (λ _. refl) (λ _. refl) (λ _ rest. (tt, rest)) nothing is.says))
   literal_prints (conjunction s t) = braces_print (conjunction s t)
@@ -449,11 +478,13 @@ module _ (scale : ℕ) (names : Vocabulary) where
       let is = literal_prints s in prints _ (primary_lit _ s is.spells) is.says
   atom_prints (rise s) =
       let is = state_prints s 0 in
-      prints _ (primary_rise _ s is.spells)
+      prints _ (side (λ ws. Spells primary (sign (codes "rise") ∷ sign (codes "(") ∷ ws)
+      (atom (rise s))) is.tokens (RightParen ∷ []) (primary_rise _ s is.spells))
       (edge_says (one Rise (λ more cut rest. (cut, rest))) is.says)
   atom_prints (fall s) =
       let is = state_prints s 0 in
-      prints _ (primary_fall _ s is.spells)
+      prints _ (side (λ ws. Spells primary (sign (codes "fall") ∷ sign (codes "(") ∷ ws)
+      (atom (fall s))) is.tokens (RightParen ∷ []) (primary_fall _ s is.spells))
       (edge_says (one Fall (λ more cut rest. (cut, rest))) is.says)
   atom_prints (event i) = prints _ (primary_event i) (event_says i)
 
@@ -496,14 +527,17 @@ module _ (scale : ℕ) (names : Vocabulary) where
       (λ xs ys. expr_bar xs ys e f) (tree_prints e fine.0 0) (tree_prints f fine.1 1))
   tree_prints (repetition e) fine least =
       let is = tree_prints e fine 3 in
-      prints _ (tight _ least _ (post_star _ e is.spells))
+      prints _ (tight _ least _ (side (λ ws. Spells post ws (repetition e)) is.tokens (Star ∷ [])
+      (post_star _ e is.spells)))
       (behind Star _ (λ _. refl) (λ _. refl) (λ _ rest. (tt, rest)) is.says)
   tree_prints (restriction e ends) fine least =
       let is = tree_prints e fine.0 3 in
       let interval = interval_by ends.low ends.low_weak _ _ fine.1.within.low
       (end_says ends.high ends.high_weak fine.1.within.high) in
       prints _
-      (tight _ least _ (post_percent _ _ e ends is.spells (interval_spelt ends fine.1)))
+      (tight _ least _ (side (λ ws. Spells post ws (restriction e ends)) is.tokens
+      (Percent ∷ interval_tokens ends)
+      (post_percent _ _ e ends is.spells (interval_spelt ends fine.1))))
       (renumbered (λ kind. append-nil (numbers_of kind e))
       (between Percent _ _ (λ _. refl) (λ _. refl)
       (λ more rest. (begins_well ends more fine.1, rest)) is.says interval))

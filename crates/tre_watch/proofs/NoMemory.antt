@@ -5,8 +5,9 @@ use Rattle.std.specs.Char.{is_newline}
 use Rattle.std.specs.List.{slice_split}
 use Rattle.std.specs.Option.{option_map, option_or}
 use Rattle.tre_parse.specs.Outcome.{Outcome as Parsed, spelt, refused, IsOutcome as ParsesTo}
-use Rattle.tre_parse.specs.TokenOutcome.{TextTokens, offset_of, is_big, is_past, deep_place, limit_fault, size_fault, IsOutcomeOfTree, IsOutcomeOfTokens}
-use Rattle.tre_parse.specs.ScannedOutcome.{text_tokens_of, byte_fault}
+use Rattle.tre_parse.specs.Outcome.{is_big, is_past, deep_place}
+use Rattle.tre_parse.specs.TokenWords.{words_for}
+use Rattle.tre_parse.specs.ScannedOutcome.{TextTokens, offset_of, limit_fault, size_fault, IsOutcomeOfTree, IsOutcomeOfTokens, text_tokens_of, byte_fault}
 use Rattle.tre_parse.specs.Scanned.{bad_byte}
 use Rattle.tre_parse.proofs.Agreement.{scanned_outcome}
 use Rattle.tre_parse.specs.declared.fault.ParseFault.{ParseFault}
@@ -63,10 +64,10 @@ in_either (Some found) Others fault none others told =
 
 in_tree : (words : TextTokens) (tree : PatternTree) (fault : ParseFault)
     → IsOutcomeOfTree words tree (refused fault) → fault ≢ ParseMemory
-in_tree words tree fault (inl told) = λ memory. let is = told.2 in cc
+in_tree words tree fault (inl told) = λ memory. let is = told.3 in cc
 in_tree words tree fault (inr told) =
     in_either (size_fault words tree) _ fault
-    (of_size words (position is_past words.tokens) (nat_lt NODES_MAX (node_count tree)) _)
+    (of_size words (position is_past (words_for words.tokens)) (nat_lt NODES_MAX (node_count tree)) _)
     (λ is memory. cc) told.1
 
 in_tokens : (words : TextTokens) (fault : ParseFault) → IsOutcomeOfTokens words (refused fault)
@@ -81,7 +82,7 @@ text_told scale text fault told =
     in_either (option_or (byte_fault text) (limit_fault words)) _ fault
     (of_either (byte_fault text) (limit_fault words)
     (of_bytes (nat_lt TEXT_MAX (length text)) (bad_byte text))
-    (of_limits words (position is_big words.tokens) (deep_place 0 0 words.tokens)))
+    (of_limits words (position is_big (words_for words.tokens)) (deep_place 0 0 (words_for words.tokens))))
     (in_tokens words fault) (scanned_outcome scale text (refused fault) told)
 
 -- ---- files

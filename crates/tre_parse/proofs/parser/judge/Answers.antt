@@ -1,11 +1,14 @@
 use Rattle.std.proofs.Common.{◌≡◌, ◌≤◌, ◌-◌, List, [], ◌∷◌, length, refl, sym, ◌∙◌, ap, arith, inr, subst, rules}
 use Rattle.std.specs.Prelude.{position}
 use Rattle.tre_parse.specs.declared.token.Token.{Token}
+use Rattle.tre_parse.specs.TokenWords.{word_of, words_for}
+use Rattle.tre_state.proofs.Places.{position-map}
 use Rattle.tre_parse.specs.Front.{tokens_in}
 use Rattle.tre_parse.specs.Operands.{Represents}
 use Rattle.tre_parse.specs.Reader.{got}
 use Rattle.tre_parse.specs.Reading.{ReadingGoes}
-use Rattle.tre_parse.specs.TokenOutcome.{offset_of, is_past}
+use Rattle.tre_parse.specs.ScannedOutcome.{offset_of}
+use Rattle.tre_parse.specs.Outcome.{is_past}
 use Rattle.tre_parse.specs.Answers.{text_tokens_in}
 use Rattle.tre_parse.specs.Unkept.{FindsUpTo}
 use Rattle.tre_parse.proofs.Judging.{rest_outcome, is_whole, none_found, first_found, empty_outcome, past_outcome, large_outcome}
@@ -52,7 +55,8 @@ returns-in-Some-first_past-clause-fault c =
     inr (past_outcome words whole c.in-Some-first_past.place _ c.requires.small
     (is_whole words whole reads)
     (none_found words whole c.requires.small finds c.in_default.is)
-    (ap (λ ts. position is_past (tokens_in ts)) (sym c.deref.ensures.value)
+    (position-map word_of is_past words.tokens
+    ∙ ap (λ ts. position (λ t. is_past (word_of t)) (tokens_in ts)) (sym c.deref.ensures.value)
     ∙ sym c.first_past.ensures ∙ c.in-Some-first_past.is)
     c.offset-at-in-Some-first_past.ensures)
 
@@ -69,7 +73,8 @@ returns-then-nodes-gt-NODES_MAX-clause-fault c =
     let finds = subst Q none c.requires.unkept in
     inr (large_outcome words whole _ c.requires.small (is_whole words whole reads)
     (none_found words whole c.requires.small finds c.in_default.is)
-    (ap (λ ts. position is_past (tokens_in ts)) (sym c.deref.ensures.value)
+    (position-map word_of is_past words.tokens
+    ∙ ap (λ ts. position (λ t. is_past (word_of t)) (tokens_in ts)) (sym c.deref.ensures.value)
     ∙ sym c.first_past.ensures ∙ c.in_default-first_past.is) refl
     c.if-nodes-gt-NODES_MAX.true)
 
@@ -77,4 +82,4 @@ pub returns-clause-all : goal.returns-clause-all
 returns-clause-all c = none_left _ (omega (arith, c.left.ensures, c.if-left-gt0.false))
 
 pub returns-clause-judged : goal.returns-clause-judged
-returns-clause-judged c = search (rules, is_past, tokens_in)
+returns-clause-judged c = search (rules, is_past, tokens_in, words_for, position-map)
