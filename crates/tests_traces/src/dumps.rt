@@ -1,16 +1,19 @@
 // Tests of tre_vcd.
 use crate::feeding::feed;
 use std::alloc::{AllocError, Global};
+use std::rc::Rc;
 use std::test::Fail;
 use tests_support::names_of;
 use tre_trace::TraceKind::{LineTooLong, Spent};
 use tre_trace::{Segment, TraceFault, TraceKind, TraceReader};
-use tre_vcd::{TokenReader, VcdReader};
+use tre_vcd::{Needed, TokenReader, VcdReader};
 
 fn reader(alloc: Global, names: &str, events: &str) -> Result<VcdReader, Fail> {
     let names = names_of(alloc, names)?;
     let events = names_of(alloc, events)?;
-    Ok(VcdReader::new(alloc, TokenReader::new(alloc, names, events, 0)))
+    let needed = Rc::new(alloc, Needed::new(alloc))?;
+    let tokens = TokenReader::new(alloc, names, events, 0, &needed)?;
+    Ok(VcdReader::new(alloc, tokens))
 }
 
 // The propositions p and q, and the event e.

@@ -2,7 +2,7 @@
 use Rattle.std.proofs.Common.{◌≡◌, ℕ, List, ◌∷◌, refl, sym, ap, subst}
 use Rattle.tre_vcd.specs.VcdReading.{Form, Statement, change}
 use Rattle.tre_vcd.specs.Kept.{KnowsOfPast}
-use Rattle.tre_vcd.specs.Offers.{KnowOffers}
+use Rattle.tre_vcd.specs.Offers.{KnowsOffers}
 use Rattle.tre_vcd.specs.Sections.{KnowsPast}
 use Rattle.tre_vcd.specs.Signals.{KnowsSignals}
 use Rattle.tre_vcd.specs.declared.past.Past.{Past}
@@ -21,13 +21,14 @@ pub past-changed : (reader : TokenReader) (past : List Statement) (form : Form)
     (change form identifier letters ∷ past)
 past-changed reader past form identifier letters kept signals known read same knows = record {
   past = known;
-  needed = needed-same past (change form identifier letters ∷ past) reader.needed.items
+  needed = needed-same past (change form identifier letters ∷ past) reader.needed
       (λ test name. refl) knows.needed;
   signals = read;
   offers =
-      subst (λ all. KnowOffers all (change form identifier letters ∷ past) reader.needed.items)
+      subst (λ all. KnowsOffers all (change form identifier letters ∷ past) reader.needed)
       (ap (λ all. all.items) (sym same))
       (offers-stay reader.signals.definitions.items past (change form identifier letters ∷ past)
-      reader.needed.items (reads-no_var (change form identifier letters) past tt) knows.offers);
+      reader.needed (reads-no_var (change form identifier letters) past tt) knows.offers);
   within = knows.within;
+  needed_within = knows.needed_within;
 }

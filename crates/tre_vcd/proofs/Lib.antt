@@ -1,6 +1,7 @@
 mod Bits
 mod Changing
-mod Deciding
+mod Looking
+mod MaskBits
 mod Declaring
 mod Dumps
 mod Flagging

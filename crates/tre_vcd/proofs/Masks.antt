@@ -3,7 +3,7 @@ use Rattle.std.proofs.Common.{◌≡◌, ℕ, Bool, List, [], ◌∷◌, Option,
 use Rattle.tre_trace.specs.Reading.{bits_of}
 use Rattle.tre_trace.specs.Segments.{segment_with}
 use Rattle.tre_vcd.specs.Kept.{is_of, mask_from}
-use Rattle.tre_vcd.proofs.Deciding.{split-bits}
+use Rattle.tre_vcd.proofs.MaskBits.{split-bits}
 
 pub mask-bits : (identified : List ℕ → Option (List ℕ)) (test : List ℕ → Bool)
     (names : List (List ℕ)) → mask_from identified test 0 names

@@ -1,11 +1,11 @@
 -- What is known of the past, one statement later.
-use Rattle.std.proofs.Common.{◌≡◌, ◌≢◌, ℕ, ◌==◌, ◌≤◌, ◌&&◌, not, Bool, true, false, None, List, ◌∷◌, [], Option, length, get_or, refl, sym, ap, ◌∙◌, arith, if◌then◌else◌, rules}
+use Rattle.std.proofs.Common.{◌≡◌, ◌≢◌, ℕ, ◌==◌, ◌≤◌, ◌&&◌, not, Bool, true, false, true≢false, None, Some, List, ◌∷◌, [], Option, length, get_or, refl, sym, ap, ◌∙◌, arith, if◌then◌else◌, rules}
 use Rattle.std.specs.Int.{bit_at}
 use Rattle.std.proofs.lemmas.Bool.Decides.{nat_tests}
 use Rattle.std.specs.Option.{option_or, option_map_or}
 use Rattle.std.specs.Prelude.{All}
 use Rattle.tre_trace.specs.Reading.{Vocabulary}
-use Rattle.tre_vcd.specs.VcdReading.{Form, Statement, var, time, change, scalar, is_defined, time_at, scopes_at, in_dump, letters_at, happened_at, is_signal, is_event, path}
+use Rattle.tre_vcd.specs.VcdReading.{Form, Statement, var, time, change, scalar, is_defined, time_at, scopes_at, in_dump, letters_at, happened_at, happened_in, latest, is_signal, is_event, path}
 use Rattle.tre_vcd.specs.Brief.{IsBriefOf}
 use Rattle.tre_vcd.specs.declared.brief.Brief.{Brief}
 use Rattle.tre_vcd.specs.Kept.{ends_true, identifier_at, identifier_of, value_at, KnowsOfPast, IsQuiet, AreScopes, AreKnown, KeepsNames, AreHaving, AreNoLonger, Declares, DeclaresNone, DeclaresNoneWithin, and_declared, valuation_behind, events_at}
@@ -27,14 +27,22 @@ pub record LooksSame (past now : List Statement) : Type 0 where
 
 values-same : (past now : List Statement) (names : List (List ℕ)) → LooksSame past now
     → valuation_behind past names ≡ valuation_behind now names
-values-same past now names same = search rules
+values-same past now names same =
+    mask-same (identifier_of is_signal past) (identifier_of is_signal now) (value_at past)
+    (value_at now) 0 names (same.identifiers is_signal)
+    (λ identifier. ap value_of (same.values identifier))
 
 events-same : (past now : List Statement) (names : List (List ℕ)) → LooksSame past now
     → events_at past names ≡ events_at now names
-events-same past now names same = search rules
+events-same past now names same =
+    mask-same (identifier_of is_event past) (identifier_of is_event now) (happened_at past)
+    (happened_at now) 0 names (same.identifiers is_event) same.events
 
 quiet-same : (past now : List Statement) → LooksSame past now → IsQuiet past → IsQuiet now
-quiet-same past now same quiet = search rules
+quiet-same past now same quiet = record {
+  values = λ identifier. same.values identifier ∙ quiet.values identifier;
+  events = λ identifier. same.events identifier ∙ quiet.events identifier;
+}
 
 -- where it is told anew which identifiers are short
 pub knows-brief : (names event_names : List (List ℕ)) (kept : Past) (past : List Statement)
@@ -90,8 +98,22 @@ knows-begins names event_names kept defined dumps ticks scopes propositions even
 
 -- ---- times
 
+-- what was said of an event, behind a time
+abbrev pub timed : Bool → Option Bool → Bool
+timed same said =
+    option_map_or (λ happened. happened) (option_or (if same then None else Some false) said) false
+
+timed-quiet : (same : Bool) (said : Option Bool)
+    → option_map_or (λ happened. happened) said false ≡ false → timed same said ≡ false
+timed-quiet true said quiet = quiet
+timed-quiet false said quiet = refl
+
 quiet-time : (past : List Statement) (ticks : ℕ) → IsQuiet past → IsQuiet (time ticks ∷ past)
-quiet-time past ticks quiet = search rules
+quiet-time past ticks quiet = record {
+  values = quiet.values;
+  events = λ identifier. timed-quiet (ticks == time_at past)
+      (latest (happened_in identifier) past) (quiet.events identifier);
+}
 
 pub other_time : (ticks before : ℕ) → ticks ≢ before → (ticks == before) ≡ false
 other_time ticks before other = grind (arith, nat_tests)
@@ -126,8 +148,7 @@ knows-time names event_names kept past ticks other known =
       happened =
           sym (mask-quiet (identifier_of is_event (time ticks ∷ past))
           (happened_at (time ticks ∷ past)) 0 event_names
-          (λ identifier. ap (λ (b : Bool). if b then happened_at past identifier else false)
-          later));
+          (λ identifier. ap (λ same. timed same (latest (happened_in identifier) past)) later));
       quiet = λ e. quiet-time past ticks (known.quiet e);
       brief = known.brief;
     }
@@ -137,7 +158,32 @@ pub knows-same_time : (names event_names : List (List ℕ)) (kept : Past) (past 
     (ticks : ℕ)
     → ticks ≡ kept.time → KnowsOfPast names event_names kept past
     → KnowsOfPast names event_names kept (time ticks ∷ past)
-knows-same_time names event_names kept past ticks is known = search rules
+knows-same_time names event_names kept past ticks is known =
+    let again : (ticks == time_at past) ≡ true = same_time ticks (time_at past) (is ∙ known.time) in
+    record {
+      defined = known.defined;
+      dump = known.dump;
+      time = sym is;
+      scopes = known.scopes;
+      propositions =
+          keeps-same (identifier_of is_signal past) (identifier_of is_signal (time ticks ∷ past))
+          names kept.propositions (λ name. refl) known.propositions;
+      events =
+          keeps-same (identifier_of is_event past) (identifier_of is_event (time ticks ∷ past))
+          event_names kept.events (λ name. refl) known.events;
+      values =
+          known.values
+          ∙ mask-same (identifier_of is_signal past) (identifier_of is_signal (time ticks ∷ past))
+          (value_at past) (value_at (time ticks ∷ past)) 0 names (λ name. refl)
+          (λ identifier. refl);
+      happened =
+          known.happened
+          ∙ mask-same (identifier_of is_event past) (identifier_of is_event (time ticks ∷ past))
+          (happened_at past) (happened_at (time ticks ∷ past)) 0 event_names (λ name. refl)
+          (λ identifier. ap (λ same. timed same (latest (happened_in identifier) past)) again);
+      quiet = λ e. quiet-time past ticks (known.quiet e);
+      brief = known.brief;
+    }
 
 -- ---- changes
 
@@ -306,7 +352,27 @@ pub knows-declared : (names event_names : List (List ℕ)) (kept : Past) (past :
     → KnowsOfPast names event_names (record kept { propositions = propositions; events = events })
     (var tokens ∷ past)
 knows-declared names event_names kept past tokens propositions events before signals said known =
-    search rules
+    let quiet = known.quiet before in
+    let now : List Statement = var tokens ∷ past in
+    record {
+      defined = known.defined;
+      dump = known.dump;
+      time = known.time;
+      scopes = known.scopes;
+      propositions = signals;
+      events = said;
+      values = known.values
+          ∙ mask-quiet (identifier_of is_signal past) (value_at past) 0 names
+          (λ identifier. ap value_of (quiet.values identifier))
+          ∙ sym (mask-quiet (identifier_of is_signal now) (value_at now) 0 names
+          (λ identifier. ap value_of (quiet.values identifier)));
+      happened = known.happened
+          ∙ mask-quiet (identifier_of is_event past) (happened_at past) 0 event_names quiet.events
+          ∙ sym (mask-quiet (identifier_of is_event now) (happened_at now) 0 event_names
+          quiet.events);
+      quiet = λ _. record { values = quiet.values; events = quiet.events };
+      brief = λ e. absurd (true≢false (sym e ∙ before));
+    }
 
 keeps-within : (longest : ℕ) (test : List ℕ → List ℕ → Bool) (past : List Statement)
     (tokens names : List (List ℕ)) (kept : Variables)

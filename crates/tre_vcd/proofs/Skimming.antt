@@ -98,15 +98,16 @@ holds-later reader past ticks kept changes known changed holds =
     } in
     holds-on reader now past (time ticks ∷ past) holds refl refl (record {
       past = known;
-      needed = needed-same past (time ticks ∷ past) reader.needed.items (λ test name. refl)
+      needed = needed-same past (time ticks ∷ past) reader.needed (λ test name. refl)
           knows.needed;
       signals = record {
         tests = tests-stay-time past ticks _ reader.names reader.signals.tests knows.signals.tests;
         changes = changed;
       };
-      offers = offers-stay _ past (time ticks ∷ past) reader.needed.items
+      offers = offers-stay _ past (time ticks ∷ past) reader.needed
           (reads-no_var (time ticks) past tt) knows.offers;
       within = knows.within;
+      needed_within = knows.needed_within;
     })
 
 -- where as much is known by definitions as before

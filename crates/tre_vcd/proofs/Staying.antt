@@ -1,16 +1,17 @@
 -- What is known by definitions, behind a statement that says nothing of them.
 use Rattle.std.specs.Global.{Vec}
-use Rattle.std.proofs.Common.{◌≡◌, ℕ, Bool, true, false, List, [], ◌∷◌, map, Option, None, Some, refl, sym, ap, ◌∙◌, rules}
+use Rattle.std.proofs.Common.{◌≡◌, ℕ, Bool, true, false, List, [], ◌∷◌, map, Option, None, Some, refl, sym, ap, ap₂, ◌∙◌, rules}
 use Rattle.std.proofs.Math.Path.{fun_ext}
 use Rattle.std.specs.Option.{is_some, option_map_or}
 use Rattle.std.specs.Int.{bit_at}
 use Rattle.tre_define.specs.Signals.{SignalDefined}
+use Rattle.tre_define.specs.declared.part.Part.{Part}
 use Rattle.tre_define.specs.declared.test.Test.{Test}
-use Rattle.tre_vcd.specs.VcdReading.{Statement, time, is_defined, letters_at, before_now, Asked, is_passed}
+use Rattle.tre_vcd.specs.VcdReading.{Statement, time, is_defined, letters_at, before_now, Asked, differs, is_passed}
 use Rattle.tre_vcd.specs.Kept.{KnowsOfPast, identifier_of}
-use Rattle.tre_vcd.specs.Offers.{KnowOffers}
+use Rattle.tre_vcd.specs.Offers.{KnowsOffers}
 use Rattle.tre_vcd.specs.Sections.{KnowsPast}
-use Rattle.tre_vcd.specs.Signals.{SignalsAreWatched, KnowsAt, KnowsChanges, KnowsSignals, KnowsTests, bit_of, part_read, test_at, test_read, watched_at}
+use Rattle.tre_vcd.specs.Signals.{SignalsAreWatched, KnowsAt, KnowsChanges, KnowsSignals, KnowsTests, bit_of, has_changed, part_kept, part_read, test_at, test_read, watched_at}
 use Rattle.tre_vcd.specs.declared.changes.Changes.{Changes}
 use Rattle.tre_vcd.specs.declared.changes.Watched.{Watched}
 use Rattle.tre_vcd.specs.declared.found.Found.{Found}
@@ -73,10 +74,30 @@ watched-same past now [] same are = tt
 watched-same past now (watched ∷ list) same are =
     (are.0 ∙ sym (same watched.definition), watched-same past now list same are.1)
 
+changed-same : (past now : List Statement) → StaysSame past now → (asked : Option (Asked Part))
+    → option_map_or (has_changed past) asked false ≡ option_map_or (has_changed now) asked false
+changed-same past now same None = refl
+changed-same past now same (Some asked) =
+    ap₂ (differs asked.asks) (sym (same.before asked.identifier))
+    (sym (same.letters asked.identifier))
+
 at-same : (past now : List Statement) (watched : Option Watched) (said happened : ℕ)
     → StaysSame past now → KnowsAt watched said happened past → KnowsAt watched said happened now
 at-same past now None said happened same knows = knows
-at-same past now (Some watched) said happened same knows = search rules
+at-same past now (Some watched) said happened same knows = record {
+  letters = λ asked is.
+      let part = knows.letters asked is in
+      let letters = same.letters asked.identifier in
+      let before = same.before asked.identifier in
+      record {
+        now = part.now ∙ sym letters;
+        before = λ one. part.before one ∙ sym before;
+        quiet = λ none. before ∙ part.quiet none ∙ sym letters;
+      };
+  silent = knows.silent;
+  happened_is = knows.happened_is
+      ∙ ap bit_of (changed-same past now same (part_kept watched));
+}
 
 pub changes-stay : (past now : List Statement) (all : List SignalDefined) (names : List (List ℕ))
     (kept : Changes) → StaysSame past now → KnowsChanges all names kept past
@@ -99,22 +120,18 @@ signals-stay past now names events kept same knows = record {
   changes = changes-stay past now _ events kept.changes same knows.changes;
 }
 
-pub offers-stay : (all : List SignalDefined) (past now : List Statement) (found : List Found)
-    → ReadsSame past now → KnowOffers all past found → KnowOffers all now found
-offers-stay all past now [] same knows = tt
-offers-stay all past now (found ∷ others) same knows = (
-  record {
-    same = knows.0.same;
-    tests = knows.0.tests ∙ ap (λ (f : SignalDefined → Bool). map f found.needed.value.tests.items)
-        (fun_ext (λ one. ap is_some (sym (same.tests (Some one)))));
-    changes = knows.0.changes
-        ∙ ap (λ (f : SignalDefined → Bool). map f found.needed.value.changes.items)
-        (fun_ext (λ one. ap is_some (sym (same.parts (Some one)))));
-    names = knows.0.names;
-    events = knows.0.events;
-  },
-  offers-stay all past now others same knows.1,
-)
+pub offers-stay : (all : List SignalDefined) (past now : List Statement) (found : Found)
+    → ReadsSame past now → KnowsOffers all past found → KnowsOffers all now found
+offers-stay all past now found same knows = record {
+  same = knows.same;
+  tests = knows.tests ∙ ap (λ (f : SignalDefined → Bool). map f found.needed.value.tests.items)
+      (fun_ext (λ one. ap is_some (sym (same.tests (Some one)))));
+  changes = knows.changes
+      ∙ ap (λ (f : SignalDefined → Bool). map f found.needed.value.changes.items)
+      (fun_ext (λ one. ap is_some (sym (same.parts (Some one)))));
+  names = knows.names;
+  events = knows.events;
+}
 
 -- all of it, where the reader has this past
 pub past-stays : (reader : TokenReader) (past now : List Statement) (kept : Past)
@@ -124,10 +141,11 @@ pub past-stays : (reader : TokenReader) (past now : List Statement) (kept : Past
     → KnowsPast (record reader { past = kept }) now
 past-stays reader past now kept identifiers same known knows = record {
   past = known;
-  needed = needed-same past now reader.needed.items identifiers knows.needed;
+  needed = needed-same past now reader.needed identifiers knows.needed;
   signals = signals-stay past now _ _ reader.signals same knows.signals;
-  offers = offers-stay _ past now reader.needed.items same.reads knows.offers;
+  offers = offers-stay _ past now reader.needed same.reads knows.offers;
   within = knows.within;
+  needed_within = knows.needed_within;
 }
 
 -- whatever is open

@@ -19,7 +19,7 @@ use Rattle.tre_vcd.specs.Kept.{IsQuiet, ends_true, identifier_of, value_at, mask
 use Rattle.tre_vcd.specs.Signals.{AreDefined, AreTested, KnowsTests, bit_of, bit_told, has_at, has_test_at, test_at, test_kept, test_read, test_told}
 use Rattle.tre_vcd.specs.declared.tests.Tested.{Tested}
 use Rattle.tre_vcd.specs.declared.tests.Tests.{Tests}
-use Rattle.tre_vcd.proofs.Deciding.{passes_at, bit_in}
+use Rattle.tre_vcd.proofs.MaskBits.{passes_at, bit_in}
 use Rattle.tre_vcd.proofs.Knowing.{false_of}
 use Rattle.tre_vcd.proofs.Masks.{mask-bits}
 use Rattle.tre_vcd.proofs.Plain.{plain-is}
@@ -211,7 +211,9 @@ valuation-is all past names list result plain mask values defined are is plain_i
 pub quiet-passes : (past : List Statement) → IsQuiet past → (asked : Option (Asked Test))
     → option_map_or (is_passed past) asked false ≡ false
 quiet-passes past quiet None = refl
-quiet-passes past quiet (Some asked) = search rules
+quiet-passes past quiet (Some asked) =
+    ap (λ letters. option_map_or (passes asked.asks) letters false)
+    (quiet.values asked.identifier)
 
 pub tests-declared : (all : List SignalDefined) (names : List (List ℕ)) (kept : Tests)
     (past : List Statement) (tokens : List (List ℕ)) (list : Vec Tested) → IsQuiet past

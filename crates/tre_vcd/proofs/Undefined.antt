@@ -7,7 +7,7 @@ use Rattle.std.specs.Int.{bit_at}
 use Rattle.std.proofs.lemmas.List.Elements.{All-head}
 use Rattle.tre_define.specs.Signals.{SignalDefined, signal_definition_of}
 use Rattle.tre_vcd.specs.VcdReading.{Statement, of_changes}
-use Rattle.tre_vcd.specs.Offers.{KnowOffers}
+use Rattle.tre_vcd.specs.Offers.{KnowsOffers}
 use Rattle.tre_vcd.specs.Signals.{AreDefined, AreTested, SignalsAreWatched, KnowsAt, KnowsChanges, KnowsSignals, KnowsTests, bit_of, has_at, part_at, part_kept, part_read, test_at, test_read, watched_at}
 use Rattle.tre_vcd.specs.declared.changes.Changes.{Changes}
 use Rattle.tre_vcd.specs.declared.changes.Watched.{Watched}
@@ -107,22 +107,21 @@ flags-none : (f g : SignalDefined → Bool) (own : List SignalDefined) (flags : 
     → own ≡ [] → flags ≡ map f own → flags ≡ map g own
 flags-none f g own flags none is = search rules
 
-offers-undefined : (past now : List Statement) (found : List Found)
-    → KnowOffers [] past found → KnowOffers [] now found
-offers-undefined past now [] knows = tt
-offers-undefined past now (found ∷ others) knows = (
-  record {
-    same = knows.0.same;
-    tests = flags-none _ _ found.needed.value.tests.items found.tests.items
-        (own-none found.needed.value.tests.items knows.0.names.defined) knows.0.tests;
-    changes = flags-none _ _ found.needed.value.changes.items found.changes.items
-        (own-none found.needed.value.changes.items knows.0.events.defined) knows.0.changes;
-    names = knows.0.names;
-    events = knows.0.events;
-  },
-  offers-undefined past now others knows.1,
-)
+offers-undefined : (past now : List Statement) (found : Found)
+    → KnowsOffers [] past found → KnowsOffers [] now found
+offers-undefined past now found knows = record {
+  same = knows.same;
+  tests = flags-none _ _ found.needed.value.tests.items found.tests.items
+      (own-none found.needed.value.tests.items knows.names.defined) knows.tests;
+  changes = flags-none _ _ found.needed.value.changes.items found.changes.items
+      (own-none found.needed.value.changes.items knows.events.defined) knows.changes;
+  names = knows.names;
+  events = knows.events;
+}
 
-pub offers-empty : (all : List SignalDefined) (past now : List Statement) (found : List Found)
-    → (length all == 0) ≡ true → KnowOffers all past found → KnowOffers all now found
-offers-empty all past now found empty knows = search (rules, no-definition, offers-undefined)
+pub offers-empty : (all : List SignalDefined) (past now : List Statement) (found : Found)
+    → (length all == 0) ≡ true → KnowsOffers all past found → KnowsOffers all now found
+offers-empty all past now found empty knows =
+    let none = no-definition all empty in
+    subst (λ own. KnowsOffers own now found) (sym none)
+    (offers-undefined past now found (subst (λ own. KnowsOffers own past found) none knows))

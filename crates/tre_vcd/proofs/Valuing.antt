@@ -8,7 +8,7 @@ use Rattle.tre_state.specs.Sieve.{MayBe}
 use Rattle.tre_vcd.specs.VcdReading.{}
 use Rattle.tre_vcd.specs.Kept.{AreKnown, IsSieveOf, AreHaving, identifier_kept, has_identifier, identifier_at, mask_from}
 use Rattle.tre_vcd.specs.declared.variable.Variable.{Variable}
-use Rattle.tre_vcd.proofs.Deciding.{passes, passes_at, bit_in}
+use Rattle.tre_vcd.proofs.MaskBits.{passes, passes_at, bit_in}
 
 -- ---- the identifier at a place
 

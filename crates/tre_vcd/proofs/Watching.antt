@@ -20,7 +20,7 @@ use Rattle.tre_vcd.specs.Kept.{IsQuiet, identifier_of, mask_from}
 use Rattle.tre_vcd.specs.Signals.{AreDefined, SignalsAreWatched, KnowsAt, KnowsChanges, KnowsPart, KnowsWatched, SameAsked, bit_of, has_at, has_changed, has_part_at, letters_kept, occasion_of, part_at, part_kept, part_read, reads_part, watched_at}
 use Rattle.tre_vcd.specs.declared.changes.Changes.{Changes}
 use Rattle.tre_vcd.specs.declared.changes.Watched.{Watched}
-use Rattle.tre_vcd.proofs.Deciding.{passes_at, bit_in}
+use Rattle.tre_vcd.proofs.MaskBits.{passes_at, bit_in}
 use Rattle.tre_vcd.proofs.Masks.{mask-bits}
 use Rattle.tre_vcd.proofs.Pasts.{other_time}
 use Rattle.tre_vcd.proofs.Staying.{watched-same}
@@ -309,10 +309,17 @@ pub at-moved : (old new : Option Watched) (said now happened happens : ℕ)
     → KnowsAt old said happened past → KnowsAt new now happens past
 at-moved old new said now happened happens past same knows = search rules
 
+differs-none : (part : Part) (letters : Option (List ℕ)) → differs part letters None ≡ false
+differs-none part None = refl
+differs-none part (Some letters) = refl
+
 quiet-change : (past : List Statement) → IsQuiet past → (asked : Option (Asked Part))
     → option_map_or (has_changed past) asked false ≡ false
 quiet-change past quiet None = refl
-quiet-change past quiet (Some asked) = search rules
+quiet-change past quiet (Some asked) =
+    ap (differs asked.asks (letters_at (before_now past) asked.identifier))
+    (quiet.values asked.identifier)
+    ∙ differs-none asked.asks (letters_at (before_now past) asked.identifier)
 
 before-time : (past : List Statement) (identifier : List ℕ) (same : Bool)
     → letters_at past identifier ≡ None → letters_at (before_now past) identifier ≡ None
@@ -321,7 +328,7 @@ before-time past identifier true none before = before
 before-time past identifier false none before = none
 
 none-behind : (past : List Statement) (identifier letters : List ℕ) (same : Bool)
-    → (if same then Some letters else letters_at past identifier) ≡ None
+    → option_or (if same then Some letters else None) (letters_at past identifier) ≡ None
     → letters_at past identifier ≡ None
 none-behind past identifier letters true none = absurd (cc (none))
 none-behind past identifier letters false none = none
@@ -346,7 +353,8 @@ latest-none : (past : List Statement) (watched : Watched) (said happened : ℕ)
     (asked : Option (Asked Part)) → part_kept watched ≡ asked → IsQuiet past
     → KnowsWatched watched said happened past → letters_kept watched.latest ≡ None
 latest-none past watched said happened None is quiet knows = (knows.silent is).0
-latest-none past watched said happened (Some asked) is quiet knows = search rules
+latest-none past watched said happened (Some asked) is quiet knows =
+    (knows.letters asked is).now ∙ quiet.values asked.identifier
 
 earlier-none : (past : List Statement) (watched : Watched) (said happened : ℕ)
     (asked : Option (Asked Part)) → part_kept watched ≡ asked → IsQuiet past

@@ -9,6 +9,7 @@ use Rattle.tre_vcd.specs.VcdReading.{Statement, var, is_defined, time_at, scopes
 use Rattle.tre_vcd.specs.declared.variable.Variable.{Variable}
 use Rattle.tre_vcd.specs.declared.variables.Variables.{Variables}
 use Rattle.tre_vcd.specs.declared.past.Past.{Past}
+use Rattle.tre_vcd.specs.declared.needed.Needed.{Needed}
 use Rattle.tre_vcd.specs.declared.found.Found.{Found}
 use Rattle.tre_vcd.specs.Brief.{IsBriefOf}
 use Rattle.tre_vcd.specs.Needs.{needs}
@@ -140,11 +141,14 @@ abbrev pub vocabulary_of : Found → Vocabulary
 vocabulary_of found = needs found.needed.value
 
 -- the names that have no definition
-abbrev pub plain_of : Found → Vocabulary
-plain_of found = record {
-  names = map (λ name. name.items) found.needed.value.names.keys;
-  events = map (λ name. name.items) found.needed.value.events.keys;
+abbrev pub plain_by : Needed → Vocabulary
+plain_by needed = record {
+  names = map (λ name. name.items) needed.names.keys;
+  events = map (λ name. name.items) needed.events.keys;
 }
+
+abbrev pub plain_of : Found → Vocabulary
+plain_of found = plain_by found.needed.value
 
 -- which of the names have been declared by variables that pass the test
 abbrev pub flags_of : (List ℕ → List ℕ → Bool) → List Statement → List (List ℕ) → List Bool
@@ -155,22 +159,12 @@ pub record KnowsNeeded (past : List Statement) (found : Found) : Type 0 where
   pub names : found.names.items ≡ flags_of is_signal past (plain_of found).names
   pub events : found.events.items ≡ flags_of is_event past (plain_of found).events
 
--- It is kept of each of them.
-abbrev pub KnowsAll : List Statement → List Found → Type 0
-KnowsAll past [] = Unit {0}
-KnowsAll past (found ∷ others) = KnowsNeeded past found × KnowsAll past others
-
 -- ---- how long names are
 
 -- None of the names is longer.
 pub record AreNoLonger (longest : ℕ) (asked : Vocabulary) : Type 0 where
   pub names : All (λ name. length name ≤ longest) asked.names
   pub events : All (λ name. length name ≤ longest) asked.events
-
--- None of all these names is.
-abbrev pub AreWithin : ℕ → List Vocabulary → Type 0
-AreWithin longest [] = Unit {0}
-AreWithin longest (asked ∷ others) = AreNoLonger longest asked × AreWithin longest others
 
 -- ---- what a declaration declares
 

@@ -2,7 +2,7 @@
 pub mod VcdReading
 pub mod Sorted
 pub mod Needs
-pub mod Deciding
+pub mod Looking
 pub mod Dumps
 -- What the functions inside promise each other.
 pub mod Brief

@@ -1,5 +1,5 @@
 -- What is kept of the names that must be declared and are defined.
-use Rattle.std.specs.Prelude.{◌≡◌, List, [], ◌∷◌, map, Some}
+use Rattle.std.specs.Prelude.{◌≡◌, List, map, Some}
 use Rattle.std.specs.Option.{is_some}
 use Rattle.tre_define.specs.Signals.{SignalDefined}
 use Rattle.tre_vcd.specs.VcdReading.{Statement, of_changes}
@@ -20,9 +20,3 @@ pub record KnowsOffers (definitions : List SignalDefined) (past : List Statement
       found.needed.value.tests.items
   pub events : AreSorted (of_changes definitions)
       (map (λ name. name.items) found.needed.value.events.keys) found.needed.value.changes.items
-
--- It is kept of each of them.
-abbrev pub KnowOffers : List SignalDefined → List Statement → List Found → Type 0
-KnowOffers definitions past [] = Unit {0}
-KnowOffers definitions past (found ∷ others) =
-    KnowsOffers definitions past found × KnowOffers definitions past others

@@ -6,8 +6,8 @@ use Rattle.tre_trace.specs.Reading.{Vocabulary}
 use Rattle.tre_trace.specs.declared.fault.TraceKind.{TraceKind}
 use Rattle.tre_trace.specs.declared.fault.TraceKind.TheVariants.{BadToken}
 use Rattle.tre_vcd.specs.VcdReading.{Terms, Statement, dump, dump_end, Open, nothing, section, comment, vector, number, Place, is_defined, in_dump, goes_to}
-use Rattle.tre_vcd.specs.Kept.{KnowsOfPast, KnowsAll, AreWithin, ends_true, plain_of, vocabulary_of}
-use Rattle.tre_vcd.specs.Offers.{KnowOffers}
+use Rattle.tre_vcd.specs.Kept.{KnowsOfPast, KnowsNeeded, AreNoLonger, ends_true, plain_of, vocabulary_of}
+use Rattle.tre_vcd.specs.Offers.{KnowsOffers}
 use Rattle.tre_vcd.specs.Signals.{KnowsSignals}
 use Rattle.tre_vcd.specs.declared.command.Command.{Command}
 use Rattle.tre_vcd.specs.declared.command.Command.TheVariants.{Scope, Upscope, Var, EndDefinitions, Other}
@@ -63,7 +63,7 @@ asked_of_reader reader = record { names = reader.names; events = reader.events }
 
 abbrev pub terms_kept : TokenReader → Terms
 terms_kept reader = record {
-  declared = map vocabulary_of reader.needed.items;
+  declared = vocabulary_of reader.needed ∷ [];
   scale = reader.scale.exponent;
   definitions = reader.signals.definitions.items;
 }
@@ -77,10 +77,11 @@ KeepsLetters reader _ = Unit {0}
 -- The reader knows the past: for its names, for those that must be declared, and by definitions.
 pub record KnowsPast (reader : TokenReader) (read : List Statement) : Type 0 where
   pub past : KnowsOfPast reader.names reader.events reader.past read
-  pub needed : KnowsAll read reader.needed.items
+  pub needed : KnowsNeeded read reader.needed
   pub signals : KnowsSignals reader.names reader.events reader.signals read
-  pub offers : KnowOffers reader.signals.definitions.items read reader.needed.items
-  pub within : AreWithin reader.longest (asked_of_reader reader ∷ map plain_of reader.needed.items)
+  pub offers : KnowsOffers reader.signals.definitions.items read reader.needed
+  pub within : AreNoLonger reader.longest (asked_of_reader reader)
+  pub needed_within : AreNoLonger reader.longest (plain_of reader.needed)
 
 -- The reader is at this place: it knows the past, and of what is open it keeps what counts. Of a
 -- section the first `KEPT_MAX` tokens do.

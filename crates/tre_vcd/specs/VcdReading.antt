@@ -28,22 +28,6 @@ pub record Terms : Type 0 where
   pub scale : ℕ
   pub definitions : List SignalDefined
 
--- The same, and the dump must declare these names too.
-abbrev pub requiring : Terms → Vocabulary → Terms
-requiring terms needed = record {
-  declared = terms.declared ++ needed ∷ [];
-  scale = terms.scale;
-  definitions = terms.definitions;
-}
-
--- The same, with these definitions.
-abbrev pub defining : Terms → List SignalDefined → Terms
-defining terms defined = record {
-  declared = terms.declared;
-  scale = terms.scale;
-  definitions = defined;
-}
-
 -- How a change is written: as one letter and its identifier, or as a vector.
 pub data Form : Type 0 where
   scalar : Form
@@ -107,12 +91,19 @@ in_dump (dump ∷ past) = true
 in_dump (dump_end ∷ past) = false
 in_dump (_ ∷ past) = in_dump past
 
+-- what the newest says that says anything, each beside what was read before it
+abbrev pub latest : {X Y : Type 0} → (X → List X → Option Y) → List X → Option Y
+latest says [] = None
+latest says (one ∷ past) = option_or (says one past) (latest says past)
+
 -- the letters of the last change of this identifier; none where there is no change
+abbrev pub letters_in : List ℕ → Statement → List Statement → Option (List ℕ)
+letters_in identifier (change form other letters) past =
+    if bytes_eq identifier other then Some letters else None
+letters_in identifier _ past = None
+
 abbrev pub letters_at : List Statement → List ℕ → Option (List ℕ)
-letters_at [] identifier = None
-letters_at (change form other letters ∷ past) identifier =
-    if bytes_eq identifier other then Some letters else letters_at past identifier
-letters_at (_ ∷ past) identifier = letters_at past identifier
+letters_at past identifier = latest (letters_in identifier) past
 
 -- what had been read when the last time was reached
 abbrev pub before_now : List Statement → List Statement
@@ -122,13 +113,15 @@ before_now (_ ∷ past) = before_now past
 
 -- The event of this identifier happened at the last time. A scalar change says it, whatever its
 -- value, but not in a dump section.
+abbrev pub happened_in : List ℕ → Statement → List Statement → Option Bool
+happened_in identifier (change scalar other letters) past =
+    if not (in_dump past) && bytes_eq identifier other then Some true else None
+happened_in identifier (time ticks) past = if ticks == time_at past then None else Some false
+happened_in identifier _ past = None
+
 abbrev pub happened_at : List Statement → List ℕ → Bool
-happened_at [] identifier = false
-happened_at (change scalar other value ∷ past) identifier =
-    (not (in_dump past) && bytes_eq identifier other) || happened_at past identifier
-happened_at (time ticks ∷ past) identifier =
-    if ticks == time_at past then happened_at past identifier else false
-happened_at (_ ∷ past) identifier = happened_at past identifier
+happened_at past identifier =
+    option_map_or (λ happened. happened) (latest (happened_in identifier) past) false
 
 -- the names of the scopes, the outermost first, and the reference, joined by full stops (46)
 abbrev pub path : List (List ℕ) → List ℕ → List ℕ

@@ -7,8 +7,8 @@ ghost use Rattle.tre_state.specs.Names.{place_of};
 ghost use Rattle.tre_define.specs.Signals.{SignalDefined, changes_in, test_in};
 ghost use Rattle.tre_vcd.specs.VcdReading.{Statement, var, scopes_at, is_signal, is_event, offer_in, are_declared};
 ghost use Rattle.tre_vcd.specs.Needs.{definitions_of, needs};
-ghost use Rattle.tre_vcd.specs.Kept.{KnowsNeeded, KnowsAll, AreNoLonger, Declares, DeclaresNone, plain_of, vocabulary_of};
-ghost use Rattle.tre_vcd.specs.Offers.{KnowsOffers, KnowOffers};
+ghost use Rattle.tre_vcd.specs.Kept.{KnowsNeeded, AreNoLonger, Declares, DeclaresNone, plain_of, vocabulary_of};
+ghost use Rattle.tre_vcd.specs.Offers.{KnowsOffers};
 ghost use Rattle.tre_vcd.specs.Signals.{offer_kept};
 
 use crate::needed::Needed;
@@ -54,6 +54,13 @@ impl Found {
         })
     }
 
+    // The definitions of names.
+    pub fn definitions(&self) -> &[SignalDefinition]
+        ensures { result.now ≡ definitions_of self.now.needed.value }
+    {
+        &self.needed.definitions
+    }
+
     // The length of the longest of the names.
     pub fn longest(&self) -> usize
         ensures { AreNoLonger result (plain_of self.now) }
@@ -64,7 +71,7 @@ impl Found {
     }
 
     // A proposition of this path is declared, if it is one of the names.
-    fn declare(&mut self, path: &[u8])
+    pub fn declare(&mut self, path: &[u8])
         ensures knows { (past : List Statement) (identifier : List ℕ) (tokens : List (List ℕ)) →
             KnowsNeeded past self.old →
             Declares is_signal (scopes_at past) tokens identifier path.now →
@@ -78,7 +85,7 @@ impl Found {
     }
 
     // An event of this path is declared, if it is one of the names.
-    fn declare_event(&mut self, path: &[u8])
+    pub fn declare_event(&mut self, path: &[u8])
         ensures knows { (past : List Statement) (identifier : List ℕ) (tokens : List (List ℕ)) →
             KnowsNeeded past self.old →
             Declares is_event (scopes_at past) tokens identifier path.now →
@@ -92,7 +99,7 @@ impl Found {
     }
 
     // This is offered to definitions by a declaration.
-    fn declare_offered(&mut self, offered: &Offered)
+    pub fn declare_offered(&mut self, offered: &Offered)
         ensures offers { (all : List SignalDefined) (past : List Statement)
             (tokens : List (List ℕ)) →
             offer_in (scopes_at past) tokens ≡ Some (offer_kept offered.now) →
@@ -106,7 +113,7 @@ impl Found {
     }
 
     // Whether all of them are declared.
-    fn is_declared(&self) -> bool
+    pub fn is_declared(&self) -> bool
         ensures { (all : List SignalDefined) (past : List Statement) →
             KnowsNeeded past self.now → KnowsOffers all past self.now →
             result ≡ are_declared all past (vocabulary_of self.now) }
@@ -223,71 +230,4 @@ fn longest_in(names: &[Vec<u8>]) -> usize
         longest = longest.max(name.len());
     }
     longest
-}
-
-// A proposition is declared, where one of these needs it.
-pub fn declare(all: &mut [Found], path: &[u8])
-    ensures knows { (past : List Statement) (identifier : List ℕ) (tokens : List (List ℕ)) →
-        KnowsAll past all.old →
-        Declares is_signal (scopes_at past) tokens identifier path.now →
-        DeclaresNone is_event (scopes_at past) tokens →
-        KnowsAll (var tokens ∷ past) all.new }
-    ensures offers { (definitions : List SignalDefined) (past : List Statement) →
-        KnowOffers definitions past all.old → KnowOffers definitions past all.new }
-    ensures plain { map plain_of all.new ≡ map plain_of all.old }
-    ensures same_names { map vocabulary_of all.new ≡ map vocabulary_of all.old }
-{
-    let Some((first, others)) = all.split_first_mut() else {
-        return;
-    };
-    first.declare(path);
-    declare(others, path);
-}
-
-// An event is declared, where one of these needs it.
-pub fn declare_event(all: &mut [Found], path: &[u8])
-    ensures knows { (past : List Statement) (identifier : List ℕ) (tokens : List (List ℕ)) →
-        KnowsAll past all.old →
-        Declares is_event (scopes_at past) tokens identifier path.now →
-        DeclaresNone is_signal (scopes_at past) tokens →
-        KnowsAll (var tokens ∷ past) all.new }
-    ensures offers { (definitions : List SignalDefined) (past : List Statement) →
-        KnowOffers definitions past all.old → KnowOffers definitions past all.new }
-    ensures plain { map plain_of all.new ≡ map plain_of all.old }
-    ensures same_names { map vocabulary_of all.new ≡ map vocabulary_of all.old }
-{
-    let Some((first, others)) = all.split_first_mut() else {
-        return;
-    };
-    first.declare_event(path);
-    declare_event(others, path);
-}
-
-// This is offered to definitions by a declaration.
-pub fn declare_offered(all: &mut [Found], offered: &Offered)
-    ensures offers { (definitions : List SignalDefined) (past : List Statement)
-        (tokens : List (List ℕ)) →
-        offer_in (scopes_at past) tokens ≡ Some (offer_kept offered.now) →
-        KnowOffers definitions past all.old → KnowOffers definitions (var tokens ∷ past) all.new }
-    ensures knows { (past : List Statement) → KnowsAll past all.old → KnowsAll past all.new }
-    ensures plain { map plain_of all.new ≡ map plain_of all.old }
-    ensures same_names { map vocabulary_of all.new ≡ map vocabulary_of all.old }
-{
-    let Some((first, others)) = all.split_first_mut() else {
-        return;
-    };
-    first.declare_offered(offered);
-    declare_offered(others, offered);
-}
-
-// Whether all that are needed are declared.
-pub fn are_declared(all: &[Found]) -> bool
-    ensures { (definitions : List SignalDefined) (past : List Statement) →
-        KnowsAll past all.now → KnowOffers definitions past all.now →
-        result ≡ list_all (are_declared definitions past) (map vocabulary_of all.now) }
-{
-    let Some((first, others)) = all.split_first() else {
-        return true;
-    };
-    first.is_declared() && are_declared(others)
 }

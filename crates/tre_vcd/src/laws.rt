@@ -7,9 +7,9 @@ ghost use Rattle.tre_define.specs.declared.test.Test.{Test};
 ghost use Rattle.tre_trace.specs.Reading.{Grows, Stretch, Vocabulary, reading_for};
 ghost use Rattle.tre_trace.specs.Trace.{IsTrace};
 ghost use Rattle.tre_trace.specs.declared.fault.TraceKind.{TraceKind};
-ghost use Rattle.tre_vcd.specs.Deciding.{KeepsValue, LastChange, Happened, Leaves, FirstRead, IsHigh, HasHappened};
+ghost use Rattle.tre_vcd.specs.Looking.{Latest, Silent};
 ghost use Rattle.tre_vcd.specs.Dumps.{IsToken, Spaced, GroupsSay, tokens_of_groups, CompletesWith, TokenHasFault, moved_recording};
-ghost use Rattle.tre_vcd.specs.VcdReading.{vcd_recording, Terms, is_white, path, Statement, letters_at, happened_at, Asked, Occasion, first_read, true_at, happens_at};
+ghost use Rattle.tre_vcd.specs.VcdReading.{vcd_recording, Terms, is_white, path, Statement, letters_at, letters_in, happened_at, happened_in};
 
 /// What is read of a dump is a trace, and nothing is taken back when more bytes come.
 pub fn reading()
@@ -25,44 +25,15 @@ pub fn paths()
         path (name ∷ scopes) reference ≡ path scopes name ++ 46 ∷ reference }
 {}
 
-/// An identifier has the letters of its last change, and none where there is no change.
-pub fn changes()
-    ensures last { (past : List Statement) (identifier letters : List ℕ) →
-        LastChange past identifier letters ↔ (letters_at past identifier ≡ Some letters) }
-    ensures none { (past : List Statement) (identifier : List ℕ) →
-        KeepsValue identifier past → letters_at past identifier ≡ None }
-{}
-
-/// An event happened exactly where a scalar change of its identifier was read at the last time,
-/// outside a dump section.
-pub fn happenings()
-    ensures { (past : List Statement) (identifier : List ℕ) →
-        Happened past identifier ↔ (happened_at past identifier ≡ true) }
-{}
-
-/// A name reads what is read of the first declaration of which something is, and nothing where
-/// there is no such declaration.
-pub fn declarations()
-    ensures signals { (reads : List (List ℕ) → List (List ℕ) → Option (Asked Test))
-        (past : List Statement) (asked : Asked Test) →
-        FirstRead reads past asked ↔ (first_read reads past ≡ Some asked) }
-    ensures no_signal { (reads : List (List ℕ) → List (List ℕ) → Option (Asked Test))
-        (past : List Statement) → Leaves reads past → first_read reads past ≡ None }
-    ensures events { (reads : List (List ℕ) → List (List ℕ) → Option (Asked Occasion))
-        (past : List Statement) (asked : Asked Occasion) →
-        FirstRead reads past asked ↔ (first_read reads past ≡ Some asked) }
-    ensures no_event { (reads : List (List ℕ) → List (List ℕ) → Option (Asked Occasion))
-        (past : List Statement) → Leaves reads past → first_read reads past ≡ None }
-{}
-
-/// On a stretch exactly those propositions are true that read a signal whose last letters pass what
-/// is asked. Exactly those events happen that read a signal of which a scalar change was said at
-/// that time, or some bits of which have changed at it.
-pub fn valuations()
-    ensures values { (definitions : List SignalDefined) (past : List Statement) (name : List ℕ) →
-        IsHigh definitions past name ↔ (true_at definitions past name ≡ true) }
-    ensures events { (definitions : List SignalDefined) (past : List Statement) (name : List ℕ) →
-        HasHappened definitions past name ↔ (happens_at definitions past name ≡ true) }
+/// An identifier has the letters of its last change, and none where there is no change. An event
+/// happened exactly where the last that says anything of it is a scalar change outside a dump section.
+pub fn looks_back()
+    ensures letters { (past : List Statement) (identifier letters : List ℕ) →
+        Latest (letters_in identifier) past letters ↔ (letters_at past identifier ≡ Some letters) }
+    ensures no_letters { (past : List Statement) (identifier : List ℕ) →
+        Silent (letters_in identifier) past [] → letters_at past identifier ≡ None }
+    ensures happened { (past : List Statement) (identifier : List ℕ) →
+        Latest (happened_in identifier) past true ↔ (happened_at past identifier ≡ true) }
 {}
 
 /// Without a definition a proposition is true exactly where the last letter that its identifier was

@@ -6,12 +6,14 @@
 //! [`VcdReader`] reads them in pieces. It keeps the token that isn't ended yet, the open section
 //! and scopes, the time, the identifiers of its propositions and events, and which of them are true
 //! and have happened, and nothing else. A name may be defined by a test of a signal's value, or by
-//! its changes ([`TokenReader::define`]); of an event that is one of changes it keeps the last
+//! its changes ([`Needed::define`]); of an event that is one of changes it keeps the last
 //! letters too, and those before this time. The layers above rely on the definition and on the
 //! contract of a `TraceReader`.
 //!
 //! ```text
-//! let mut reader = VcdReader::new(alloc, TokenReader::new(alloc, names, events, 0));
+//! let needed = Rc::new(alloc, Needed::new(alloc))?;
+//! let tokens = TokenReader::new(alloc, names, events, 0, &needed)?;
+//! let mut reader = VcdReader::new(alloc, tokens);
 //! reader.feed(b"$var wire 1 ! p $end $enddefinitions $end 1! #5", &mut segments)?;
 //! reader.finish(&mut segments)?; // one segment of five ticks, on which p is true
 //! ```

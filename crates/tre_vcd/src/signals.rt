@@ -24,33 +24,24 @@ pub struct Signals {
 impl Signals {
     ghost use Rattle.tre_vcd.specs.Signals.{KnowsSignals};
 
-    // There is no definition.
-    pub fn new(alloc: Global) -> Signals
-        ensures knows { (names events : List (List ℕ)) → KnowsSignals names events result [] }
-        ensures none { result.definitions.items ≡ [] }
-    {
-        Signals {
-            definitions: Vec::new(alloc),
-            tests: Tests::new(alloc),
-            changes: Changes::new(alloc),
-        }
-    }
-
     // There are these definitions.
-    pub fn define(
-        &mut self,
+    pub fn new(
         alloc: Global,
         names: &Names,
         events: &Names,
         all: &[SignalDefinition],
-    ) -> Result<(), AllocError>
-        ensures knows { OnOk result (KnowsSignals names.now events.now self.new []) }
-        ensures kept { OnOk result (self.new.definitions.items ≡ all.now) }
+    ) -> Result<Signals, AllocError>
+        ensures knows { IfOk result (λ signals. KnowsSignals names.now events.now signals []) }
+        ensures kept { IfOk result (λ signals. signals.definitions.items ≡ all.now) }
     {
-        self.tests = tests_of(alloc, names, all)?;
-        self.changes = changes_by(alloc, events, all)?;
-        self.definitions = copy_of(alloc, all)?;
-        Ok(())
+        let tests = tests_of(alloc, names, all)?;
+        let changes = changes_by(alloc, events, all)?;
+        let definitions = copy_of(alloc, all)?;
+        Ok(Signals {
+            definitions,
+            tests,
+            changes,
+        })
     }
 
     // Whether there is no definition.

@@ -1,22 +1,22 @@
 // The tokens of a dump, one after the other.
-ghost use Rattle.std.specs.Prelude.{◌≡◌, ◌≢◌, ◌≤◌, ℕ, List, [], ◌∷◌, ◌++◌, length, map, take, true, false, not, ◌&&◌, All, OnOk};
+ghost use Rattle.std.specs.Prelude.{◌≡◌, ◌≢◌, ◌≤◌, ℕ, List, [], ◌∷◌, ◌++◌, length, map, take, true, false, not, ◌&&◌, All, IfOk, OnOk};
 ghost use Rattle.tre_decimal.specs.declared.TheConstants.{SCALE_MAX};
 ghost use Rattle.tre_parts.specs.Walk.{TellsPart};
 ghost use Rattle.tre_parts.specs.declared.said.Said.{Said};
 ghost use Rattle.tre_trace.specs.Reading.{segment_for};
 ghost use Rattle.tre_trace.specs.declared.fault.TraceKind.TheVariants.{Spent};
 ghost use Rattle.tre_define.specs.Signals.{SignalDefined};
-ghost use Rattle.tre_vcd.specs.VcdReading.{Terms, requiring, defining, first_place, scalar, wide, scopes_at, Statement, var, Place, nothing, section, comment, vector, number, is_defined, goes_to, vcd_format, command_says, section_says, ticks_say, keyword_says, scalar_says, vector_says, value_says, scope_says, declaration_says, change, token_at, stretch_until};
+ghost use Rattle.tre_vcd.specs.VcdReading.{Terms, first_place, scalar, wide, scopes_at, Statement, var, Place, nothing, section, comment, vector, number, is_defined, goes_to, vcd_format, command_says, section_says, ticks_say, keyword_says, scalar_says, vector_says, value_says, scope_says, declaration_says, change, token_at, stretch_until};
 ghost use Rattle.tre_vcd.specs.Sections.{Holds, KnowsPast, asked_of_reader, terms_kept, command_of, is_nothing, dump_says, dump_end_says};
 ghost use Rattle.tre_vcd.specs.Needs.{definitions_of, needs};
-ghost use Rattle.tre_vcd.specs.Offers.{KnowOffers};
+ghost use Rattle.tre_vcd.specs.Offers.{KnowsOffers};
 ghost use Rattle.tre_vcd.specs.Signals.{KnowsSignals};
-ghost use Rattle.tre_vcd.specs.Kept.{ends_true, plain_of, AreScopes, IsQuiet, KnowsOfPast, KnowsAll};
+ghost use Rattle.tre_vcd.specs.Kept.{ends_true, AreScopes, IsQuiet, KnowsOfPast, KnowsNeeded};
 ghost use Rattle.tre_vcd.specs.Times.{vcd-keeps_time};
 
 use crate::command::{Command, command_of};
 use crate::declaration::{declare_event, declare_proposition};
-use crate::found::{Found, are_declared, declare_offered};
+use crate::found::Found;
 use crate::inside::Inside;
 use crate::letters::copy_into;
 use crate::needed::Needed;
@@ -30,7 +30,6 @@ use crate::token::{
 use crate::white::White;
 use std::alloc::{AllocError, Global};
 use std::rc::Rc;
-use tre_define::SignalDefinition;
 use tre_pairs::TIME_MAX;
 use tre_parts::{PartReader, Said, Skimmed, Spot, first_of};
 use tre_state::Names;
@@ -48,7 +47,7 @@ const KEPT_MAX: usize = 6;
 pub struct TokenReader {
     pub(crate) names: Names,
     pub(crate) events: Names,
-    pub(crate) needed: Vec<Found>,
+    pub(crate) needed: Found,
     // No name that is asked or needed is longer.
     pub(crate) longest: usize,
     pub(crate) scale: Scale,
@@ -62,63 +61,40 @@ pub struct TokenReader {
 }
 
 impl TokenReader {
-    /// Nothing was read, and no name must be declared. A tick of the dump is 10^scale units.
-    pub fn new(alloc: Global, names: Names, events: Names, scale: u8) -> TokenReader
-        requires { scale ≤ SCALE_MAX }
-        ensures begins { ⟦<TokenReader as PartReader>⟧.holds result first_place }
-        ensures terms { ⟦<TokenReader as PartReader>⟧.terms result
-            ≡ record { declared = []; scale = scale; definitions = [] } }
-        ensures names { ⟦<TokenReader as PartReader>⟧.names result
-            ≡ record { names = names; events = events } }
+    /// Nothing was read. The dump must declare what is needed, whether it is read or not, and names
+    /// are read as its definitions say. A tick of the dump is 10^scale units.
+    pub fn new(
+        alloc: Global,
+        names: Names,
+        events: Names,
+        scale: u8,
+        needed: &Rc<Needed>,
+    ) -> Result<TokenReader, AllocError>
+        requires scale { scale ≤ SCALE_MAX }
+        ensures begins { IfOk result (λ reader.
+            ⟦<TokenReader as PartReader>⟧.holds reader first_place) }
+        ensures terms { IfOk result (λ reader. ⟦<TokenReader as PartReader>⟧.terms reader
+            ≡ record { declared = needs needed.now.value ∷ []; scale = scale;
+            definitions = definitions_of needed.now.value }) }
+        ensures names { IfOk result (λ reader. ⟦<TokenReader as PartReader>⟧.names reader
+            ≡ record { names = names; events = events }) }
     {
-        let longest = longest_of(&names).max(longest_of(&events));
-        TokenReader {
+        let found = Found::new(alloc, needed)?;
+        let signals = Signals::new(alloc, &names, &events, found.definitions())?;
+        let own = longest_of(&names).max(longest_of(&events));
+        let longest = own.max(found.longest());
+        Ok(TokenReader {
             names,
             events,
-            needed: Vec::new(alloc),
+            needed: found,
             longest,
             scale: Scale::new(scale),
             past: Past::new(alloc),
-            signals: Signals::new(alloc),
+            signals,
             inside: Inside::Nothing,
             tokens: Vec::new(alloc),
             letters: Vec::new(alloc),
-        }
-    }
-
-    /// Names are read as these definitions say. To be called before names must be declared, and
-    /// before the first token.
-    pub fn define(&mut self, definitions: &[SignalDefinition]) -> Result<(), AllocError>
-        ensures begins { ⟦<TokenReader as PartReader>⟧.holds self.old first_place →
-            (⟦<TokenReader as PartReader>⟧.terms self.old).declared ≡ [] →
-            OnOk result (⟦<TokenReader as PartReader>⟧.holds self.new first_place) }
-        ensures terms { OnOk result (⟦<TokenReader as PartReader>⟧.terms self.new
-            ≡ defining (⟦<TokenReader as PartReader>⟧.terms self.old) definitions.now) }
-        ensures names { ⟦<TokenReader as PartReader>⟧.names self.new
-            ≡ ⟦<TokenReader as PartReader>⟧.names self.old }
-    {
-        let alloc = self.past.alloc;
-        self.signals
-            .define(alloc, &self.names, &self.events, definitions)
-    }
-
-    /// The dump must declare these names and events too, whether they are read or not. Their
-    /// definitions are those of the reader. To be called before the first token.
-    pub fn must_declare(&mut self, needed: &Rc<Needed>) -> Result<(), AllocError>
-        ensures begins { ⟦<TokenReader as PartReader>⟧.holds self.old first_place →
-            definitions_of needed.now.value
-            ≡ (⟦<TokenReader as PartReader>⟧.terms self.old).definitions →
-            OnOk result (⟦<TokenReader as PartReader>⟧.holds self.new first_place) }
-        ensures terms { OnOk result (⟦<TokenReader as PartReader>⟧.terms self.new
-            ≡ requiring (⟦<TokenReader as PartReader>⟧.terms self.old) (needs needed.now.value)) }
-        ensures names { ⟦<TokenReader as PartReader>⟧.names self.new
-            ≡ ⟦<TokenReader as PartReader>⟧.names self.old }
-    {
-        let found = Found::new(self.past.alloc, needed)?;
-        let longest = self.longest.max(found.longest());
-        self.needed.push(found)?;
-        self.longest = longest;
-        Ok(())
+        })
     }
 
     // Whether the next token is one among the values, where nothing is open.
@@ -154,7 +130,7 @@ impl TokenReader {
         if is(token, "$upscope") && self.past.scopes.is_empty() {
             return Said::Wrong(TraceKind::BadToken);
         }
-        if is(token, "$enddefinitions") && !are_declared(&self.needed) {
+        if is(token, "$enddefinitions") && !self.needed.is_declared() {
             return Said::Wrong(TraceKind::UnknownName);
         }
         self.inside = Inside::Section(command_of(token));
@@ -456,13 +432,13 @@ impl TokenReader {
             self.old.past.scopes.lens.items →
             map (λ token. token.items) self.old.tokens.items ≡ take KEPT_MAX tokens →
             KnowsSignals self.old.names self.old.events self.old.signals past →
-            KnowOffers self.old.signals.definitions.items past self.old.needed.items →
+            KnowsOffers self.old.signals.definitions.items past self.old.needed →
             OnOk result (KnowsSignals self.old.names self.old.events self.new.signals
-            (var tokens ∷ past) × KnowOffers self.old.signals.definitions.items
-            (var tokens ∷ past) self.new.needed.items) }
-        ensures needed { (past : List Statement) → KnowsAll past self.old.needed.items →
-            KnowsAll past self.new.needed.items }
-        ensures plain { map plain_of self.new.needed.items ≡ map plain_of self.old.needed.items }
+            (var tokens ∷ past) × KnowsOffers self.old.signals.definitions.items
+            (var tokens ∷ past) self.new.needed) }
+        ensures needed { (past : List Statement) → KnowsNeeded past self.old.needed →
+            KnowsNeeded past self.new.needed }
+        ensures same_needed { self.new.needed.needed ≡ self.old.needed.needed }
         ensures same_past { (self.new.past ≡ self.old.past)
             × (self.new.longest ≡ self.old.longest) }
         ensures same_terms { terms_kept self.new ≡ terms_kept self.old }
@@ -472,7 +448,7 @@ impl TokenReader {
         let Some(offered) = offer_in(alloc, &self.past.scopes, &self.tokens)? else {
             return Ok(());
         };
-        declare_offered(&mut self.needed, &offered);
+        self.needed.declare_offered(&offered);
         self.signals.declare(alloc, &offered)
     }
 
@@ -483,10 +459,10 @@ impl TokenReader {
             Holds self.old (record { past = past; inside = section word tokens }) →
             OnOk result (KnowsOfPast self.new.names self.new.events self.new.past (var tokens ∷
             past)
-            × KnowsAll (var tokens ∷ past) self.new.needed.items) }
+            × KnowsNeeded (var tokens ∷ past) self.new.needed) }
         ensures offers { (all : List SignalDefined) (past : List Statement) →
-            KnowOffers all past self.old.needed.items → KnowOffers all past self.new.needed.items }
-        ensures plain { map plain_of self.new.needed.items ≡ map plain_of self.old.needed.items }
+            KnowsOffers all past self.old.needed → KnowsOffers all past self.new.needed }
+        ensures same_needed { self.new.needed.needed ≡ self.old.needed.needed }
         ensures same_signals { (self.new.signals ≡ self.old.signals)
             × (self.new.tokens ≡ self.old.tokens) }
         ensures same_longest { self.new.longest ≡ self.old.longest }

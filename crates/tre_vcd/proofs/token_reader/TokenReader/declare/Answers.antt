@@ -1,9 +1,7 @@
-use Rattle.std.proofs.Common.{◌≡◌, ℕ, List, Bool, ◌∷◌, length, map, true, false, refl, sym, ap, subst, ◌∙◌, arith}
-use Rattle.std.proofs.lemmas.Result.{on_ok_weaker}
-use Rattle.tre_vcd.specs.VcdReading.{var, path, scopes_at, is_signal, is_event}
-use Rattle.tre_vcd.specs.Kept.{KnowsAll, plain_of, vocabulary_of}
-use Rattle.tre_vcd.specs.Offers.{KnowOffers}
-use Rattle.tre_vcd.proofs.Needing.{same-terms, written-back}
+use Rattle.std.proofs.Common.{◌≡◌, ℕ, List, Bool, length, true, false, refl, sym, ap, ◌∙◌, arith}
+use Rattle.tre_vcd.specs.VcdReading.{path, scopes_at, is_signal, is_event}
+use Rattle.tre_vcd.specs.Needs.{needs}
+use Rattle.tre_vcd.proofs.Needing.{same-terms}
 use Rattle.tre_vcd.proofs.Sectioning.{knows-neither}
 use Rattle.tre_vcd.proofs.Tokens.{declares-kept, declares-longer, declares-none, kept-count, kept-tokens, none-within, signal-no_event, test-at, token-at}
 use Rattle.tre_vcd.proofs.token_reader.TokenReader.declare.Goals as goal
@@ -51,14 +49,8 @@ returns-then-is_signal-clause-knows c = λ past word tokens holds.
     (λ _. (test-at _ _ _ is_event false kept four c.index-tokens-0.is
     c.deref.ensures.value c.index-tokens-1.is c.deref-2.ensures.value
     (signal-no_event c.deref.result.now c.deref-2.result.now signal))) in
-    on_ok_weaker c.declare_proposition.result (λ knows. (
-      knows.0,
-      written-back (KnowsAll (var tokens ∷ past)) c.declare_proposition.new.needed
-          reader.needed.items reader.needed.len
-          (omega (arith, c.declare_proposition.auto.needed, c.deref_mut.ensures.len)) knows.1,
-    ))
-    (c.declare_proposition.ensures.knows reader.events past tokens holds.knows.past holds.suits
-    (subst (KnowsAll past) (sym c.deref_mut.ensures.value) holds.knows.needed) declares none)
+    c.declare_proposition.ensures.knows reader.events past tokens holds.knows.past holds.suits
+    holds.knows.needed declares none
 
 pub returns-then-is_event-clause-knows : goal.returns-then-is_event-clause-knows
 returns-then-is_event-clause-knows c = λ past word tokens holds.
@@ -80,16 +72,8 @@ returns-then-is_event-clause-knows c = λ past word tokens holds.
     (λ _. (test-at _ _ _ is_signal false kept four c.index-tokens-0.is
     c.deref.ensures.value c.index-tokens-1.is c.deref-2.ensures.value
     (sym c.is_signal.ensures ∙ c.if-is_signal.false))) in
-    on_ok_weaker c.declare_event.result (λ knows. (
-      knows.0,
-      written-back (KnowsAll (var tokens ∷ past)) c.declare_event.new.needed reader.needed.items
-          reader.needed.len
-          (omega (arith, c.declare_event.auto.needed, c.deref_mut-then-is_event.ensures.len))
-          knows.1,
-    ))
-    (c.declare_event.ensures.knows reader.names past tokens holds.knows.past holds.suits
-    (subst (KnowsAll past) (sym c.deref_mut-then-is_event.ensures.value) holds.knows.needed)
-    declares none)
+    c.declare_event.ensures.knows reader.names past tokens holds.knows.past holds.suits
+    holds.knows.needed declares none
 
 pub returns-else-is_event-clause-knows : goal.returns-else-is_event-clause-knows
 returns-else-is_event-clause-knows c = λ past word tokens holds.
@@ -107,52 +91,10 @@ returns-else-is_event-clause-knows c = λ past word tokens holds.
     (none-within c.args.self.now.longest is_signal (scopes_at past) tokens none)
     (none-within c.args.self.now.longest is_event (scopes_at past) tokens silent)
 
-pub returns-then-is_signal-clause-offers : goal.returns-then-is_signal-clause-offers
-returns-then-is_signal-clause-offers c = λ all past knows.
-    let reader = c.args.self.now in
-    written-back (KnowOffers all past) c.declare_proposition.new.needed reader.needed.items reader.needed.len
-    (omega (arith, c.declare_proposition.auto.needed, c.deref_mut.ensures.len))
-    (c.declare_proposition.ensures.offers all past
-    (subst (KnowOffers all past) (sym c.deref_mut.ensures.value) knows))
-
-pub returns-then-is_signal-clause-plain : goal.returns-then-is_signal-clause-plain
-returns-then-is_signal-clause-plain c =
-    let reader = c.args.self.now in
-    written-back (λ all. map plain_of all ≡ map plain_of reader.needed.items)
-    c.declare_proposition.new.needed reader.needed.items reader.needed.len
-    (omega (arith, c.declare_proposition.auto.needed, c.deref_mut.ensures.len))
-    (c.declare_proposition.ensures.plain ∙ ap (map plain_of) c.deref_mut.ensures.value)
-
 pub returns-then-is_signal-clause-same_terms : goal.returns-then-is_signal-clause-same_terms
-returns-then-is_signal-clause-same_terms c =
-    let reader = c.args.self.now in
-    same-terms reader.scale.exponent (written-back
-    (λ all. map vocabulary_of all ≡ map vocabulary_of reader.needed.items)
-    c.declare_proposition.new.needed reader.needed.items reader.needed.len
-    (omega (arith, c.declare_proposition.auto.needed, c.deref_mut.ensures.len))
-    (c.declare_proposition.ensures.same_names ∙ ap (map vocabulary_of) c.deref_mut.ensures.value)) refl
-
-pub returns-then-is_event-clause-offers : goal.returns-then-is_event-clause-offers
-returns-then-is_event-clause-offers c = λ all past knows.
-    let reader = c.args.self.now in
-    written-back (KnowOffers all past) c.declare_event.new.needed reader.needed.items reader.needed.len
-    (omega (arith, c.declare_event.auto.needed, c.deref_mut-then-is_event.ensures.len))
-    (c.declare_event.ensures.offers all past
-    (subst (KnowOffers all past) (sym c.deref_mut-then-is_event.ensures.value) knows))
-
-pub returns-then-is_event-clause-plain : goal.returns-then-is_event-clause-plain
-returns-then-is_event-clause-plain c =
-    let reader = c.args.self.now in
-    written-back (λ all. map plain_of all ≡ map plain_of reader.needed.items)
-    c.declare_event.new.needed reader.needed.items reader.needed.len
-    (omega (arith, c.declare_event.auto.needed, c.deref_mut-then-is_event.ensures.len))
-    (c.declare_event.ensures.plain ∙ ap (map plain_of) c.deref_mut-then-is_event.ensures.value)
+returns-then-is_signal-clause-same_terms c = same-terms c.args.self.now.scale.exponent
+    (ap (λ needed. needs needed.value) c.declare_proposition.ensures.same_names) refl
 
 pub returns-then-is_event-clause-same_terms : goal.returns-then-is_event-clause-same_terms
-returns-then-is_event-clause-same_terms c =
-    let reader = c.args.self.now in
-    same-terms reader.scale.exponent (written-back
-    (λ all. map vocabulary_of all ≡ map vocabulary_of reader.needed.items)
-    c.declare_event.new.needed reader.needed.items reader.needed.len
-    (omega (arith, c.declare_event.auto.needed, c.deref_mut-then-is_event.ensures.len))
-    (c.declare_event.ensures.same_names ∙ ap (map vocabulary_of) c.deref_mut-then-is_event.ensures.value)) refl
+returns-then-is_event-clause-same_terms c = same-terms c.args.self.now.scale.exponent
+    (ap (λ needed. needs needed.value) c.declare_event.ensures.same_names) refl

@@ -2,7 +2,8 @@ use Rattle.std.specs.Global.{Vec}
 use Rattle.std.proofs.Common.{◌≡◌, ◌∷◌, ℕ, false, map, refl, sym, ap, ◌∙◌, subst}
 use Rattle.std.proofs.lemmas.Result.{on_ok_weaker}
 use Rattle.tre_vcd.specs.VcdReading.{var, is_defined}
-use Rattle.tre_vcd.specs.Offers.{KnowOffers}
+use Rattle.tre_vcd.specs.Kept.{plain_by}
+use Rattle.tre_vcd.specs.Offers.{KnowsOffers}
 use Rattle.tre_vcd.proofs.Needing.{within-same}
 use Rattle.tre_vcd.proofs.Undefined.{offers-empty, signals-undefined}
 use Rattle.tre_vcd.proofs.Declaring.{knows-moved, quiet-before, signals-moved}
@@ -22,11 +23,13 @@ returns-then-is_empty-clause-knows c = λ past word tokens holds.
           (signals-moved reader.names after.names reader.events after.events reader.signals
           after.signals past (ap (λ own. own.names) c.declare.ensures.same_names)
           (ap (λ own. own.events) c.declare.ensures.same_names) signals holds.knows.signals);
-      offers = offers-empty after.signals.definitions.items past _ after.needed.items empty
-          (subst (λ own. KnowOffers own.definitions.items past after.needed.items) (sym signals)
+      offers = offers-empty after.signals.definitions.items past _ after.needed empty
+          (subst (λ own. KnowsOffers own.definitions.items past after.needed) (sym signals)
           (c.declare.ensures.offers reader.signals.definitions.items past holds.knows.offers));
-      within = within-same _ _ _ _ _ _ c.declare.ensures.same_longest
-          c.declare.ensures.same_names c.declare.ensures.plain holds.knows.within;
+      within = within-same _ _ _ _ c.declare.ensures.same_longest c.declare.ensures.same_names
+          holds.knows.within;
+      needed_within = within-same _ _ _ _ c.declare.ensures.same_longest
+          (ap (λ needed. plain_by needed.value) c.declare.ensures.same_needed) holds.knows.needed_within;
     }
 
 pub returns-clause-knows : goal.returns-clause-knows
@@ -46,7 +49,7 @@ returns-clause-knows c = λ past word tokens holds.
     (signals-moved reader.names after.names reader.events after.events reader.signals
     after.signals past (ap (λ own. own.names) c.declare.ensures.same_names)
     (ap (λ own. own.events) c.declare.ensures.same_names) signals holds.knows.signals)
-    (subst (λ own. KnowOffers own.definitions.items past after.needed.items) (sym signals)
+    (subst (λ own. KnowsOffers own.definitions.items past after.needed) (sym signals)
     (c.declare.ensures.offers reader.signals.definitions.items past holds.knows.offers)) in
     let names = c.declare_offered.ensures.same_names in
     on_ok_weaker c.declare_offered.result (λ both. record {
@@ -56,9 +59,11 @@ returns-clause-knows c = λ past word tokens holds.
       signals = signals-moved after.names last.names after.events last.events last.signals
           last.signals _ (ap (λ own. own.names) names) (ap (λ own. own.events) names) refl
           both.0;
-      offers = subst (λ all. KnowOffers all (var tokens ∷ past) last.needed.items)
+      offers = subst (λ all. KnowsOffers all (var tokens ∷ past) last.needed)
           (sym (ap (λ terms. terms.definitions) c.declare_offered.ensures.same_terms)) both.1;
-      within = within-same _ _ _ _ _ _ (kept.1 ∙ c.declare.ensures.same_longest)
-          (names ∙ c.declare.ensures.same_names)
-          (c.declare_offered.ensures.plain ∙ c.declare.ensures.plain) holds.knows.within;
+      within = within-same _ _ _ _ (kept.1 ∙ c.declare.ensures.same_longest)
+          (names ∙ c.declare.ensures.same_names) holds.knows.within;
+      needed_within = within-same _ _ _ _ (kept.1 ∙ c.declare.ensures.same_longest)
+          (ap (λ needed. plain_by needed.value) (c.declare_offered.ensures.same_needed ∙ c.declare.ensures.same_needed))
+          holds.knows.needed_within;
     }) offered

@@ -1,12 +1,11 @@
-use Rattle.std.proofs.Common.{◌≡◌, ◌∷◌, Some, None, map, sym, ap, ◌∙◌, subst, arith}
+use Rattle.std.proofs.Common.{◌≡◌, ◌∷◌, Some, None, map, sym, ap, ◌∙◌}
 use Rattle.std.specs.Option.{option_map}
 use Rattle.std.proofs.lemmas.Result.{on_ok_weaker}
 use Rattle.tre_vcd.specs.VcdReading.{var, scopes_at, offer_in}
-use Rattle.tre_vcd.specs.Kept.{KnowsAll, plain_of, vocabulary_of}
-use Rattle.tre_vcd.specs.Offers.{KnowOffers}
+use Rattle.tre_vcd.specs.Needs.{needs}
 use Rattle.tre_vcd.specs.Signals.{offer_kept}
 use Rattle.tre_vcd.proofs.Declaring.{offer-six}
-use Rattle.tre_vcd.proofs.Needing.{same-terms, written-back}
+use Rattle.tre_vcd.proofs.Needing.{same-terms}
 use Rattle.tre_vcd.proofs.Standing.{stays-unoffered}
 use Rattle.tre_vcd.proofs.Staying.{offers-stay, signals-stay}
 use Rattle.tre_vcd.proofs.token_reader.TokenReader.declare_offered.Goals as goal
@@ -21,7 +20,7 @@ returns-in_default-clause-knows c = λ past tokens quiet before scopes kept know
     ∙ ap (option_map offer_kept) c.in_default.is in
     let stays = stays-unoffered past tokens none in (
       signals-stay past (var tokens ∷ past) reader.names reader.events reader.signals stays knows,
-      offers-stay reader.signals.definitions.items past (var tokens ∷ past) reader.needed.items
+      offers-stay reader.signals.definitions.items past (var tokens ∷ past) reader.needed
           stays.reads offers,
     )
 
@@ -36,36 +35,14 @@ returns-clause-knows c = λ past tokens quiet before scopes kept knows offers.
     ∙ ap (option_map offer_kept) c.in-Some.is in
     on_ok_weaker c.declare.result (λ signals. (
       signals,
-      written-back (KnowOffers all (var tokens ∷ past)) c.declare_offered.new.all
-          reader.needed.items reader.needed.len
-          (omega (arith, c.declare_offered.auto.all, c.deref_mut.ensures.len))
-          (c.declare_offered.ensures.offers all past tokens offered
-          (subst (KnowOffers all past) (sym c.deref_mut.ensures.value) offers)),
+      c.declare_offered.ensures.offers all past tokens offered offers,
     ))
     (c.declare.ensures.knows reader.names reader.events past tokens offered quiet before knows)
 
 pub returns-clause-needed : goal.returns-clause-needed
-returns-clause-needed c = λ past knows.
-    let reader = c.args.self.now in
-    written-back (KnowsAll past) c.declare_offered.new.all reader.needed.items reader.needed.len
-    (omega (arith, c.declare_offered.auto.all, c.deref_mut.ensures.len))
-    (c.declare_offered.ensures.knows past
-    (subst (KnowsAll past) (sym c.deref_mut.ensures.value) knows))
-
-pub returns-clause-plain : goal.returns-clause-plain
-returns-clause-plain c =
-    let reader = c.args.self.now in
-    written-back (λ all. map plain_of all ≡ map plain_of reader.needed.items)
-    c.declare_offered.new.all reader.needed.items reader.needed.len
-    (omega (arith, c.declare_offered.auto.all, c.deref_mut.ensures.len))
-    (c.declare_offered.ensures.plain ∙ ap (map plain_of) c.deref_mut.ensures.value)
+returns-clause-needed c = λ past knows. c.declare_offered.ensures.knows past knows
 
 pub returns-clause-same_terms : goal.returns-clause-same_terms
-returns-clause-same_terms c =
-    let reader = c.args.self.now in
-    same-terms reader.scale.exponent (written-back
-    (λ all. map vocabulary_of all ≡ map vocabulary_of reader.needed.items)
-    c.declare_offered.new.all reader.needed.items reader.needed.len
-    (omega (arith, c.declare_offered.auto.all, c.deref_mut.ensures.len))
-    (c.declare_offered.ensures.same_names ∙ ap (map vocabulary_of) c.deref_mut.ensures.value))
+returns-clause-same_terms c = same-terms c.args.self.now.scale.exponent
+    (ap (λ needed. needs needed.value) c.declare_offered.ensures.same_names)
     (ap (λ own. own.items) c.declare.ensures.kept)

@@ -3,7 +3,7 @@ use Rattle.tre_parts.specs.Walk.{TellsPart}
 use Rattle.tre_vcd.specs.Sections.{Holds, asked_of_reader}
 use Rattle.tre_vcd.specs.VcdReading.{upscope, definitions, nothing}
 use Rattle.tre_vcd.specs.declared.command.Command.TheVariants.{Scope, Upscope, Var, EndDefinitions}
-use Rattle.tre_vcd.specs.Offers.{KnowOffers}
+use Rattle.tre_vcd.specs.Offers.{KnowsOffers}
 use Rattle.tre_vcd.proofs.Needing.{needed-same}
 use Rattle.tre_vcd.proofs.Standing.{reads-no_var, stays}
 use Rattle.tre_vcd.proofs.Staying.{offers-stay, past-stays}
@@ -43,14 +43,15 @@ returns-in-EndDefinitions-clause-tells c = λ past word tokens holds is.
       says = section-ended past word tokens EndDefinitions (sym c.in-EndDefinitions.is ∙ is);
       is_held = c.close-in-EndDefinitions.ensures.holds (definitions ∷ past) (record {
         past = c.define.ensures reader.events past holds.knows.past;
-        needed = needed-same past (definitions ∷ past) reader.needed.items (λ test name. refl)
+        needed = needed-same past (definitions ∷ past) reader.needed (λ test name. refl)
             holds.knows.needed;
         signals = c.sift.ensures.knows reader.names reader.events past holds.knows.signals;
         offers =
-            subst (λ all. KnowOffers all (definitions ∷ past) reader.needed.items)
+            subst (λ all. KnowsOffers all (definitions ∷ past) reader.needed)
             (ap (λ all. all.items) (sym c.sift.ensures.kept))
             (offers-stay reader.signals.definitions.items past (definitions ∷ past)
-            reader.needed.items (reads-no_var definitions past tt) holds.knows.offers);
+            reader.needed (reads-no_var definitions past tt) holds.knows.offers);
         within = holds.knows.within;
+        needed_within = holds.knows.needed_within;
       });
     }
