@@ -11,7 +11,7 @@ use Rattle.tre_syntax.proofs.MeaningLaws.{IsOrdered-Meaning}
 use Rattle.tre_tell.specs.Sought.{Sought}
 use Rattle.tre_trace.specs.Trace.{Timeline}
 use Rattle.tre_zone.specs.declared.zone_bounds.ZoneBounds.{ZoneBounds}
-use Rattle.tre_answer.specs.Request.{Request}
+use Rattle.tre_tell.specs.Request.{Request}
 use Rattle.tre_answer.specs.Alike.{WantTheSame}
 use Rattle.tre_answer.specs.Wanted.{IsWanted, AreZonesOf, AreZonesFor, IsOfflineAnswer, AreTooMany}
 

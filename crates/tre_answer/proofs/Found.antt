@@ -1,5 +1,5 @@
 -- What was found over a whole input, and the text that tells it.
-use Rattle.std.proofs.Common.{◌≡◌, ◌∙◌, ℕ, ◌+◌, ◌≤◌, ◌<◌, Bool, true, List, [], ◌∷◌, length, get_or, map, Option, None, Some, IfSome, IsSomeAnd, is_some, refl, sym, ap, subst, arith}
+use Rattle.std.proofs.Common.{◌≡◌, ◌∙◌, ℕ, ◌+◌, ◌≤◌, ◌<◌, Bool, true, List, [], ◌∷◌, length, get_or, map, Option, None, Some, IfSome, IsSomeAnd, is_some, IsTrue, refl, sym, ap, subst, arith}
 use Rattle.std.proofs.lemmas.List.{length-map}
 use Rattle.tre_feed.specs.Input.{InputTold, AllReadsGood}
 use Rattle.tre_feed.specs.Comes.{Outcome, refuses, exceeds}
@@ -15,14 +15,15 @@ use Rattle.tre_words.specs.declared.job.Mode.TheVariants.{Offline}
 use Rattle.tre_zone.specs.ZoneList.{SetHolds, HoldExactly}
 use Rattle.tre_zone.specs.declared.zone_bounds.ZoneBounds.{ZoneBounds}
 use Rattle.tre_zoneset.specs.ZoneSet.{IsZoneSet}
+use Rattle.tre_tell.specs.Ends.{EndsAtInput, ReadsInput, StandsAtMemory, StandsSoFar, as_it_comes}
 use Rattle.tre_tell.specs.Outputs.{OutputTold, NothingWritten}
+use Rattle.tre_tell.specs.Request.{Request}
+use Rattle.tre_tell.specs.Streams.{OfBytes}
 use Rattle.tre_tell.specs.Sought.{Sought, all_names}
-use Rattle.tre_answer.specs.Answering.{IsTextIn, StandsBefore, IsAtFault}
-use Rattle.tre_answer.specs.Ends.{ReadsInput}
+use Rattle.tre_tell.proofs.Tellings.{at_input, of_all}
+use Rattle.tre_answer.specs.Ends.{IsAnswerIn}
 use Rattle.tre_answer.specs.Parts.{IsFound, IsFoundFor, StopsAs}
-use Rattle.tre_answer.specs.Recorded.{recording_for}
-use Rattle.tre_answer.specs.Request.{Request}
-use Rattle.tre_answer.specs.Wanted.{IsWanted, AreZonesOf, AreZonesFor}
+use Rattle.tre_answer.specs.Wanted.{IsWanted, AreZonesOf, AreZonesFor, AreTooMany, IsOfflineAnswer}
 use Rattle.tre_answer.proofs.Wanted.{AreZonesOf-wanted}
 
 -- a limit of zones is one of canonical ones
@@ -64,15 +65,14 @@ of_patterns said (pattern ∷ patterns) =
 
 -- what is wanted over the traces that a whole input is
 pub IsFound-whole : (request : Request) (input : InputTold)
-    (recording : Bool → List ℕ → Recording) (limit : ℕ) (traces : List Timeline) (d : Timeline)
-    (set : List ZoneBounds) (end : ℕ) → recording ≡ recording_for request
+    (limit : ℕ) (traces : List Timeline) (d : Timeline) (set : List ZoneBounds) (end : ℕ)
     → limit ≡ request.job.max_bytes
-    → IsWhole (all_names request.patterns) recording limit input traces → 0 < length traces
+    → IsWhole (all_names request.patterns) request.recording limit input traces → 0 < length traces
     → HoldExactly set (IsWanted request.patterns traces)
     → end ≡ end_of 0 (get_or traces 0 d).segments → IsFound request input set end
-IsFound-whole request input recording limit traces d set end same limited read some exact ends =
-    let whole = rw (same, limited) at read in
-    let said = recording_for request true whole.bytes in
+IsFound-whole request input limit traces d set end limited read some exact ends =
+    let whole = rw limited at read in
+    let said = request.recording true whole.bytes in
     record {
       reads = whole.reads;
       bytes = whole.bytes;
@@ -99,22 +99,26 @@ module _ (request : Request) (input : InputTold) (set zones : List ZoneBounds) (
         is_set.canonical found.exact asked;
   }
 
+  -- what is so of the bytes that were read is so of all
+  of_found : (IsSo : List ℕ → Type 0) → IsSo found.bytes → OfBytes input IsSo
+  of_found IsSo so = of_all input found.bytes IsSo found.all.opened
+      (found.all.read.of_open found.all.opened) found.all.all_read found.reads so
+
   -- the text of an answer
   pub IsFoundFor-text : request.job.mode ≡ Offline → (text : List ℕ)
       → IfSome request.job.max_zones (λ most. length zones ≤ most)
       → text ≡ offline_text request.job.scale zones end → IsFoundFor request input text
   IsFoundFor-text offline text few printed = record {
     reads = found.reads;
-    right = subst (λ mode. IsTextIn mode request input text) (sym offline) (record {
-      bytes = found.bytes;
-      all = found.all;
-      is_so = record {
+    right = subst (λ mode. IsAnswerIn mode request input [] text) (sym offline) (
+      found.all.all_read,
+      of_found (λ bytes. IsOfflineAnswer request bytes text) (record {
         zones = zones;
         right = right_zones;
         few = few;
         printed = printed ∙ ap (offline_text request.job.scale zones) found.ends;
-      };
-    });
+      }),
+    );
   }
 
   -- there are too many zones
@@ -123,18 +127,14 @@ module _ (request : Request) (input : InputTold) (set zones : List ZoneBounds) (
       → StopsAs request input (TooManyZones (length zones))
   StopsAs-over offline normal many = λ output unwritten. record {
     offline = offline;
-    reads = found.reads;
-    cause = record {
-      bytes = found.bytes;
-      all = found.all;
-      is_so = record {
-        normal = normal;
-        zones = zones;
-        right = right_zones;
-        counted = refl;
-        many = many;
-      };
-    };
+    ended = found.all.all_read;
+    cause = of_found (λ bytes. AreTooMany request bytes (length zones)) (record {
+      normal = normal;
+      zones = zones;
+      right = right_zones;
+      counted = refl;
+      many = many;
+    });
     nothing = unwritten;
   }
 
@@ -142,28 +142,31 @@ module _ (request : Request) (input : InputTold) (offline : request.job.mode ≡
   reads_here : ReadsInput request.job.mode
   reads_here = rw offline tt
 
-  nothing_so_far : (output : OutputTold) (blocks : Type 0) → NothingWritten output
-      → StandsBefore request.job.mode output blocks
-  nothing_so_far output blocks unwritten = rw offline unwritten
+  nothing_so_far : (output : OutputTold) (stretches : List Stretch) → NothingWritten output
+      → StandsSoFar request output stretches
+  nothing_so_far output stretches unwritten = rw offline unwritten
 
   -- memory was wanting
   pub StopsAs-wanting : AllReadsGood input → StopsAs request input Memory
-  StopsAs-wanting reads = λ output unwritten. (reads, nothing_so_far output _ unwritten)
+  StopsAs-wanting reads = λ output unwritten.
+      (reads, ([], [], nothing_so_far output [] unwritten, λ comes. not_told comes))
+    where
+      not_told : {X : Type 0} → IsTrue (as_it_comes request.job.mode) → X
+      not_told comes =
+          let told : IsTrue (as_it_comes Offline) =
+          subst (λ mode. IsTrue (as_it_comes mode)) offline comes in
+          absurd (cc)
 
   stops_decided : (outcome : Outcome) (output : OutputTold)
-      → IsDecided (recording_for request) request.job.max_bytes input outcome
-      → NothingWritten output → IsAtFault outcome request input output
-  stops_decided outcome output decided unwritten = record {
-    reads_input = reads_here;
-    opened = decided.opened;
-    cause = decided.cause;
-    reads = decided.reads;
-    stands = nothing_so_far output _ unwritten;
-  }
+      → IsDecided request.recording request.job.max_bytes input outcome
+      → NothingWritten output → EndsAtInput outcome request input output
+  stops_decided outcome output decided unwritten =
+      at_input request outcome input output reads_here decided.opened decided.reads decided.cause
+      (nothing_so_far output _ unwritten)
 
   -- the input couldn't be read as traces
   StopsAs-unread : (fault : Fault)
-      → StopsReading (recording_for request) request.job.max_bytes request.job.input input fault
+      → StopsReading request.recording request.job.max_bytes request.job.input input fault
       → StopsAs request input fault
   StopsAs-unread (Trace fault) stops = λ output unwritten.
       (stops.0, stops_decided (refuses fault) output stops.1 unwritten)
@@ -172,16 +175,18 @@ module _ (request : Request) (input : InputTold) (offline : request.job.mode ≡
   StopsAs-unread Read stops = λ output unwritten. record {
     reads_input = reads_here;
     unread = record { cause = stops.cause; unsound = stops.unsound };
-    goes_on = stops.goes_on;
+    bytes = stops.goes_on.bytes;
+    read = stops.goes_on.read;
+    within = stops.goes_on.within;
+    faultless = stops.goes_on.faultless;
     stands = nothing_so_far output _ unwritten;
   }
   StopsAs-unread Write stops = absurd stops
   StopsAs-unread Memory stops = StopsAs-wanting stops
 
-  -- nor by an input that says this
-  pub StopsAs-input : (recording : Bool → List ℕ → Recording) (limit : ℕ) (name : List ℕ)
-      (fault : Fault) → recording ≡ recording_for request → limit ≡ request.job.max_bytes
-      → name ≡ request.job.input → StopsReading recording limit name input fault
-      → StopsAs request input fault
-  StopsAs-input recording limit name fault same limited named stops =
-      StopsAs-unread fault (rw (same, limited, named) at stops)
+  -- nor by an input that may have so many bytes
+  pub StopsAs-input : (limit : ℕ) (name : List ℕ) (fault : Fault)
+      → limit ≡ request.job.max_bytes → name ≡ request.job.input
+      → StopsReading request.recording limit name input fault → StopsAs request input fault
+  StopsAs-input limit name fault limited named stops =
+      StopsAs-unread fault (rw (limited, named) at stops)

@@ -1,8 +1,6 @@
 pub mod Canonical
 pub mod Differences
 pub mod Found
-pub mod Known
-pub mod OnlineRuns
 pub mod Recorded
 pub mod Stops
 pub mod Strips

@@ -7,7 +7,7 @@ use Rattle.tre_num.specs.Rows.{ColumnTerms as RowTerms, rows_recording}
 use Rattle.tre_parts.specs.Format.{recording_from}
 use Rattle.tre_syntax.specs.Pattern.{names_of}
 use Rattle.tre_syntax.specs.declared.pattern.Pattern.{Pattern}
-use Rattle.tre_tell.specs.Sought.{sought_by}
+use Rattle.tre_tell.specs.Sought.{Sought, sought_by}
 use Rattle.tre_tell.proofs.Loop.{asked_sought}
 use Rattle.tre_text.specs.TextReading.{text_recording}
 use Rattle.tre_trace.specs.Reading.{Recording, Vocabulary}
@@ -15,8 +15,8 @@ use Rattle.tre_vcd.specs.VcdReading.{Terms as DumpTerms, vcd_recording}
 use Rattle.tre_words.specs.declared.job.Format.{Format}
 use Rattle.tre_words.specs.declared.job.Format.TheVariants.{Text, Vcd, Csv}
 use Rattle.tre_words.specs.declared.job.Job.{Job}
-use Rattle.tre_answer.specs.Recorded.{first_names, recording_for, recording_in}
-use Rattle.tre_answer.specs.Request.{Request, FitsJob, request_for}
+use Rattle.tre_answer.specs.Recorded.{first_names, recording_in}
+use Rattle.tre_answer.specs.Request.{FitsJob, request_for, sought_in}
 use Rattle.tre_answer.specs.declared.asked.Definitions.{Definitions}
 use Rattle.tre_answer.specs.declared.asked.Asked.{Asked}
 
@@ -30,14 +30,17 @@ dump_nothing : (terms : DumpTerms) → (vcd_recording terms false []).stretches 
 unfolding recording_from
 dump_nothing terms = refl
 
-nothing_in : (format : Format) (request : Request)
-    → (recording_in format request false []).stretches ≡ []
-nothing_in Text request = text_nothing request.job.scale
-nothing_in Vcd request = dump_nothing _
-nothing_in Csv request = refl
+nothing_in : (format : Format) (scale : ℕ) (patterns : List Sought) (lets : List Defined)
+    (signals : List SignalDefined)
+    → (recording_in format scale patterns lets signals false []).stretches ≡ []
+nothing_in Text scale patterns lets signals = text_nothing scale
+nothing_in Vcd scale patterns lets signals = dump_nothing _
+nothing_in Csv scale patterns lets signals = refl
 
-pub nothing_said : (request : Request) → (recording_for request false []).stretches ≡ []
-nothing_said request = nothing_in request.job.format request
+pub nothing_said : (job : Job) (definitions : Definitions) (asked : Asked)
+    → ((request_for job definitions asked).recording false []).stretches ≡ []
+nothing_said job definitions asked = nothing_in job.format job.scale (sought_in asked)
+    definitions.columns.items definitions.signals.items
 
 -- ---- what inputs say
 
@@ -81,19 +84,21 @@ module _ (job : Job) (definitions : Definitions) (asked : Asked) (fits : FitsJob
   labels_fit = length-map asked.labels.items string_bytes ∙ fits.labels
 
   -- an input in the format of the job says what is asked for
-  in_format : (format : Format) → job.format ≡ format → recording_in format
-      (request_for job definitions asked) ≡ recording_for (request_for job definitions asked)
-  in_format format is = ap (λ f. recording_in f (request_for job definitions asked)) (sym is)
+  in_format : (format : Format) → job.format ≡ format
+      → recording_in format job.scale (sought_in asked) definitions.columns.items
+      definitions.signals.items ≡ (request_for job definitions asked).recording
+  in_format format is = ap (λ f. recording_in f job.scale (sought_in asked)
+      definitions.columns.items definitions.signals.items) (sym is)
 
   pub text_says : {said : Bool → List ℕ → Recording} → job.format ≡ Text
-      → said ≡ text_recording job.scale → said ≡ recording_for (request_for job definitions asked)
+      → said ≡ text_recording job.scale → said ≡ (request_for job definitions asked).recording
   text_says is says = says ∙ in_format Text is
 
   pub dump_says : {said : Bool → List ℕ → Recording} (patterns : List Pattern)
       (signals : List SignalDefined) → patterns ≡ asked.patterns.items
       → signals ≡ definitions.signals.items → job.format ≡ Vcd
       → said ≡ vcd_recording (dump_terms_of (map names_of patterns) job.scale signals)
-      → said ≡ recording_for (request_for job definitions asked)
+      → said ≡ (request_for job definitions asked).recording
   dump_says patterns signals all defined is says =
       says ∙ (ap (λ signals. vcd_recording (dump_terms_of (map names_of patterns) job.scale
       signals)) defined
@@ -108,7 +113,7 @@ module _ (job : Job) (definitions : Definitions) (asked : Asked) (fits : FitsJob
         definitions = definitions.columns.items;
         names = names_of pattern;
         scale = job.scale;
-      }) → said ≡ recording_for (request_for job definitions asked)
+      }) → said ≡ (request_for job definitions asked).recording
   rows_says pattern first is says =
       says ∙ (ap (λ names. rows_recording (record {
         definitions = definitions.columns.items;

@@ -1,92 +1,123 @@
--- How an answer ends that is written at once.
-use Rattle.std.proofs.Common.{◌≡◌, ◌⊎◌, ℕ, false, MatchBool, List, Result, Ok, Err, OnOk, OnErr, IfErr, refl, sym, ap, subst}
+-- How an answer ends that is written at once, and one that is told as its input comes.
+use Rattle.std.proofs.Common.{◌≡◌, ⊎_elim, ℕ, ◌≤◌, true, List, [], Result, Ok, Err, OnOk, OnErr, IfErr, refl, sym, subst, inl, inr, arith}
 use Rattle.std.specs.Io.KnownBytes.{Appends}
 use Rattle.tre_feed.specs.Input.{InputTold}
 use Rattle.tre_feed.specs.declared.fault.Fault.{Fault}
 use Rattle.tre_feed.specs.declared.fault.Fault.TheVariants.{Trace, TooLong, TooManyZones, Read, Write, Memory}
 use Rattle.tre_io.specs.Faults.{count_after}
 use Rattle.tre_io.specs.Written.{AppendsPart}
+use Rattle.tre_tell.specs.Ends.{EndsTelling, ReadsInput, TellsWhole, as_it_comes}
 use Rattle.tre_tell.specs.Outputs.{OutputTold, AllWritesGood}
-use Rattle.tre_tell.specs.Standing.{BlockIsCut, EndIsCut}
+use Rattle.tre_tell.specs.Request.{Request}
 use Rattle.tre_words.specs.declared.job.Mode.{Mode}
 use Rattle.tre_words.specs.declared.job.Mode.TheVariants.{Offline, Online, Show, Generate, Watch}
-use Rattle.tre_answer.specs.Answering.{PartIsWritten, EndsAnswering}
-use Rattle.tre_answer.specs.Ends.{ReadsInput, as_it_comes}
+use Rattle.tre_answer.specs.Ends.{EndsOver, IsAnswerIn}
 use Rattle.tre_answer.specs.Parts.{IsFoundFor}
-use Rattle.tre_answer.specs.Recorded.{watched_of}
 use Rattle.tre_answer.specs.Printing.{EndsPutting}
-use Rattle.tre_answer.specs.Request.{Request}
 
--- the modes in which an answer is written at once
-pub offline_once : (mode : Mode) → mode ≡ Offline → as_it_comes mode ≡ false
-offline_once mode offline = ap as_it_comes offline
+-- ---- told as the input comes
 
-pub show_once : (mode : Mode) → mode ≡ Show → as_it_comes mode ≡ false
-show_once mode shows = ap as_it_comes shows
+-- a mode that reads its input, and not as a whole
+pub told_way : (mode : Mode) → ReadsInput mode → (mode ≡ Offline → ⊥) → as_it_comes mode ≡ true
+told_way Offline reads other = absurd (other refl)
+told_way Online reads other = refl
+told_way Show reads other = absurd reads
+told_way (Generate count) reads other = absurd reads
+told_way (Watch file) reads other = refl
 
-pub made_once : (mode : Mode) (count : ℕ) → mode ≡ Generate count → as_it_comes mode ≡ false
-made_once mode count makes = ap as_it_comes makes
+module _ (request : Request) (input : InputTold) (output : OutputTold) where
+  told_answer : (mode : Mode) (front text : List ℕ) → as_it_comes mode ≡ true
+      → TellsWhole request input front text → IsAnswerIn mode request input front text
+  told_answer Offline front text comes right = absurd (cc)
+  told_answer Online front text comes right = right
+  told_answer Show front text comes right = absurd (cc)
+  told_answer (Generate count) front text comes right = absurd (cc)
+  told_answer (Watch file) front text comes right = right
 
--- an answer that is written at once, and of which a write failed
-EndsAnswering-cut : (request : Request) (input : InputTold) (output : OutputTold) (text : List ℕ)
-    → as_it_comes request.job.mode ≡ false → IsFoundFor request input text
-    → output.now.faults ≡ count_after output.before.faults
-    → AppendsPart output.before.written output.now.written text
-    → EndsAnswering {T = Unit {0}} request input output (Err Write)
-EndsAnswering-cut request input output text once found cause part = record {
-  cause = cause;
-  reads = found.reads;
-  stands = subst (λ comes. MatchBool comes
-      (BlockIsCut (watched_of request) input output ⊎ EndIsCut (watched_of request) input output)
-      (PartIsWritten request input output)) (sym once)
-      (record { text = text; right = found.right; written = part });
-}
+  pub EndsOver-told : as_it_comes request.job.mode ≡ true → (result : Result (Unit {0}) Fault)
+      → EndsTelling request input output result → EndsOver request input output result
+  EndsOver-told comes (Ok value) told = record {
+    reads = told.reads;
+    front = told.front;
+    text = told.text;
+    right = told_answer request.job.mode told.front told.text comes told.right;
+    written = told.written;
+  }
+  EndsOver-told comes (Err (Trace fault)) told = told
+  EndsOver-told comes (Err TooLong) told = told
+  EndsOver-told comes (Err (TooManyZones zones)) told = absurd told
+  EndsOver-told comes (Err Read) told = told
+  EndsOver-told comes (Err Write) told = record {
+    reads = told.reads;
+    front = told.front;
+    text = told.text;
+    right = ⊎_elim
+        (λ whole. inl (told_answer request.job.mode told.front told.text comes whole))
+        (λ block. inr (comes, block)) told.right;
+    cut = told.cut;
+  }
+  EndsOver-told comes (Err Memory) told = told
 
--- one that was written
-EndsAnswering-done : (request : Request) (input : InputTold) (output : OutputTold) (text : List ℕ)
-    (value : Unit {0}) → IsFoundFor request input text → AllWritesGood output
-    → Appends output.before.written output.now.written text
-    → EndsAnswering request input output (Ok value)
-EndsAnswering-done request input output text value found writes written = record {
-  reads = found.reads;
-  text = text;
-  right = found.right;
-  writes = writes;
-  written = written;
-}
+-- ---- written at once
 
--- an answer of which all, or a first part, was written at once
-pub EndsAnswering-written : (request : Request) (input : InputTold) (output : OutputTold)
-    (text given : List ℕ) → given ≡ text → as_it_comes request.job.mode ≡ false
-    → IsFoundFor request input text → (result : Result (Unit {0}) Fault)
-    → OnOk result (Appends output.before.written output.now.written given)
-    → OnOk result (AllWritesGood output)
-    → OnErr result (AppendsPart output.before.written output.now.written given)
-    → OnErr result (output.now.faults ≡ count_after output.before.faults)
-    → IfErr result (λ fault. fault ≡ Write) → EndsAnswering request input output result
-EndsAnswering-written request input output text given same once found (Ok value) all good part cause
-    fault = EndsAnswering-done request input output text value found good
-    (subst (Appends output.before.written output.now.written) same all)
-EndsAnswering-written request input output text given same once found (Err fault) all good part cause
-    is = subst (λ f. EndsAnswering {T = Unit {0}} request input output (Err f)) (sym is)
-    (EndsAnswering-cut request input output text once found cause
-    (subst (AppendsPart output.before.written output.now.written) same part))
+module _ (request : Request) (input : InputTold) (output : OutputTold) (text : List ℕ)
+    (found : IsFoundFor request input text) where
+  -- a write failed
+  EndsOver-cut : output.now.faults ≡ count_after output.before.faults
+      → AppendsPart output.before.written output.now.written text
+      → EndsOver {T = Unit {0}} request input output (Err Write)
+  EndsOver-cut cause part = record {
+    reads = found.reads;
+    front = [];
+    text = text;
+    right = inl found.right;
+    cut = record {
+      cause = cause;
+      count = part.count;
+      behind = omega arith;
+      short = part.short;
+      written = part.appends;
+    };
+  }
 
--- one that was written by pieces, as far as it was
-pub EndsAnswering-put : (request : Request) (input : InputTold) (output : OutputTold)
-    (text : List ℕ) → as_it_comes request.job.mode ≡ false → IsFoundFor request input text
-    → (result : Result (Unit {0}) Fault) → EndsPutting text output result
-    → EndsAnswering request input output result
-EndsAnswering-put request input output text once found (Ok value) ends =
-    EndsAnswering-done request input output text value found ends.writes ends.written
-EndsAnswering-put request input output text once found (Err (Trace fault)) ends = absurd ends
-EndsAnswering-put request input output text once found (Err TooLong) ends = absurd ends
-EndsAnswering-put request input output text once found (Err (TooManyZones zones)) ends =
-    absurd ends
-EndsAnswering-put request input output text once found (Err Read) ends = absurd ends
-EndsAnswering-put request input output text once found (Err Write) ends =
-    EndsAnswering-cut request input output text once found ends.cause ends.part
-EndsAnswering-put request input output text once found (Err Memory) ends = absurd ends
+  -- all was written
+  EndsOver-done : (value : Unit {0}) → AllWritesGood output
+      → Appends output.before.written output.now.written text
+      → EndsOver request input output (Ok value)
+  EndsOver-done value writes written = record {
+    reads = found.reads;
+    front = [];
+    text = text;
+    right = found.right;
+    written = record { writes = writes; written = written };
+  }
+
+  -- all, or a first part, was written
+  pub EndsOver-written : (given : List ℕ) → given ≡ text → (result : Result (Unit {0}) Fault)
+      → OnOk result (Appends output.before.written output.now.written given)
+      → OnOk result (AllWritesGood output)
+      → OnErr result (AppendsPart output.before.written output.now.written given)
+      → OnErr result (output.now.faults ≡ count_after output.before.faults)
+      → IfErr result (λ fault. fault ≡ Write) → EndsOver request input output result
+  EndsOver-written given same (Ok value) all good part cause fault =
+      EndsOver-done value good (subst (Appends output.before.written output.now.written) same all)
+  EndsOver-written given same (Err fault) all good part cause is =
+      subst (λ f. EndsOver {T = Unit {0}} request input output (Err f)) (sym is)
+      (EndsOver-cut cause
+      (subst (AppendsPart output.before.written output.now.written) same part))
+
+  -- by pieces, as far as it was
+  pub EndsOver-put : (result : Result (Unit {0}) Fault) → EndsPutting text output result
+      → EndsOver request input output result
+  EndsOver-put (Ok value) ends = EndsOver-done value ends.writes ends.written
+  EndsOver-put (Err (Trace fault)) ends = absurd ends
+  EndsOver-put (Err TooLong) ends = absurd ends
+  EndsOver-put (Err (TooManyZones zones)) ends = absurd ends
+  EndsOver-put (Err Read) ends = absurd ends
+  EndsOver-put (Err Write) ends = EndsOver-cut ends.cause ends.part
+  EndsOver-put (Err Memory) ends = absurd ends
+
+-- ---- what is read
 
 -- a job that shows its patterns, or makes its trace, reads no input, and another does
 pub reads_input : (mode : Mode) → (mode ≡ Show → ⊥)

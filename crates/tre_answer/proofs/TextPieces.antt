@@ -17,7 +17,7 @@ use Rattle.tre_tell.specs.Outputs.{OutputTold, AllWritesGood, output_told}
 use Rattle.tre_zone.specs.declared.zone_bounds.ZoneBounds.{ZoneBounds}
 use Rattle.tre_zoneset.proofs.Stretches.{take_to}
 use Rattle.tre_answer.specs.Printing.{EndsPutting}
-use Rattle.tre_answer.specs.Streams.{WroteText}
+use Rattle.tre_tell.specs.Streams.{WroteText}
 
 -- a text that was written by one call
 pub EndsPutting-given : (output : OutputTold) (text given : List ℕ) → given ≡ text

@@ -1,6 +1,7 @@
 -- The answer to what is asked, before the input is opened and where none is read.
-use Rattle.std.proofs.Common.{◌≡◌, ◌∙◌, ℕ, zero, suc, List, [], ◌∷◌, ◌++◌, All, length, get_or, flat_map, map, codes, Bool, true, false, MatchBool, string_bytes, Err, sym, ap, subst, append-nil, arith}
+use Rattle.std.proofs.Common.{◌≡◌, ◌∙◌, ℕ, zero, suc, List, [], ◌∷◌, ◌++◌, All, length, get_or, flat_map, map, codes, Bool, true, false, MatchBool, string_bytes, Result, Err, sym, ap, subst, append-nil, arith}
 use Rattle.tre_feed.specs.Input.{InputTold, AllReadsGood}
+use Rattle.tre_feed.specs.declared.fault.Fault.{Fault}
 use Rattle.tre_feed.specs.declared.fault.Fault.TheVariants.{Memory}
 use Rattle.tre_generate.specs.Summary.{IsSummary}
 use Rattle.tre_answer.specs.declared.asked.Definitions.{Definitions}
@@ -9,38 +10,38 @@ use Rattle.tre_syntax.specs.Pattern.{pattern_tree, names_of}
 use Rattle.tre_syntax.specs.declared.pattern.Pattern.{Pattern}
 use Rattle.tre_tell.specs.Outputs.{OutputTold, NothingWritten}
 use Rattle.tre_tell.specs.Sought.{Sought, sought_by}
-use Rattle.tre_tell.specs.Standing.{FirstBlocksStand}
-use Rattle.tre_tell.proofs.Loop.{FirstBlocksStand-unread}
+use Rattle.tre_tell.proofs.Loop.{StandsAtMemory-unread}
+use Rattle.tre_trace.specs.Reading.{Recording}
 use Rattle.tre_words.specs.declared.job.Job.{Job}
 use Rattle.tre_words.specs.declared.job.Mode.{Mode}
 use Rattle.tre_words.specs.declared.job.Mode.TheVariants.{Show, Generate}
-use Rattle.tre_answer.specs.Answering.{IsTextIn, EndsAnswering}
-use Rattle.tre_answer.specs.Ends.{as_it_comes}
+use Rattle.tre_answer.specs.Ends.{EndsOver, IsAnswerIn}
 use Rattle.tre_answer.specs.Parts.{IsFoundFor}
-use Rattle.tre_answer.specs.Recorded.{recording_for, watched_of}
-use Rattle.tre_answer.specs.Request.{FitsJob, request_for}
+use Rattle.tre_answer.specs.Request.{FitsJob, request_for, request_over}
 use Rattle.tre_answer.specs.declared.asked.Asked.{Asked}
 use Rattle.tre_answer.proofs.Recorded.{labels_fit, nothing_said}
 
 -- ---- where memory was wanting before the input was opened
 
-module _ (job : Job) (definitions : Definitions) (asked : Asked) (input : InputTold)
-    (output : OutputTold) where
-  early_by : (comes : Bool) → input.now.opened ≡ false → NothingWritten output
-      → MatchBool comes (FirstBlocksStand (watched_of (request_for job definitions asked)) input
-      output)
-      (NothingWritten output)
-  early_by false closed unwritten = unwritten
-  early_by true closed unwritten =
-      let request = request_for job definitions asked in
-      FirstBlocksStand-unread (map string_bytes asked.labels.items) asked.patterns.items
-      (recording_for request) job.max_bytes job.scale (nothing_said request) input output
-      (λ is_open. cc) (λ is_open. cc) unwritten
+pub EndsOver-early : (job : Job) (definitions : Definitions) (asked : Asked) (input : InputTold)
+    (output : OutputTold) → input.now.opened ≡ false → AllReadsGood input
+    → NothingWritten output
+    → EndsOver {T = Unit {0}} (request_for job definitions asked) input output (Err Memory)
+EndsOver-early job definitions asked input output closed reads unwritten = (
+  reads,
+  StandsAtMemory-unread (request_for job definitions asked) (nothing_said job definitions asked)
+      input output (λ is_open. cc) unwritten (λ is_open. cc),
+)
 
-  pub EndsAnswering-early : input.now.opened ≡ false → AllReadsGood input → NothingWritten output
-      → EndsAnswering {T = Unit {0}} (request_for job definitions asked) input output (Err Memory)
-  EndsAnswering-early closed reads unwritten =
-      (reads, early_by (as_it_comes job.mode) closed unwritten)
+-- ---- what the input says
+
+-- an answer over what an input says is one over what is asked for
+pub EndsOver-said : (job : Job) (asked : Asked) (input : InputTold) (output : OutputTold)
+    (result : Result (Unit {0}) Fault) (said other : Bool → List ℕ → Recording) → said ≡ other
+    → EndsOver (request_over job asked said) input output result
+    → EndsOver (request_over job asked other) input output result
+EndsOver-said job asked input output result said other same =
+    subst (λ recording. EndsOver (request_over job asked recording) input output result) same
 
 -- ---- where no input is read
 
@@ -86,13 +87,13 @@ module _ (job : Job) (definitions : Definitions) (asked : Asked) (fits : FitsJob
     (reads : AllReadsGood input) (text : List ℕ) where
   shown_in : (mode : Mode) → mode ≡ Show
       → text ≡ expression_text job.scale (names_of pattern) (pattern_tree pattern) ++ codes "\n"
-      → IsTextIn mode (request_for job definitions asked) input text
+      → IsAnswerIn mode (request_for job definitions asked) input [] text
   shown_in mode is same = rw is (shown_one job.scale (map string_bytes asked.labels.items)
       asked.patterns.items pattern text (labels_fit job definitions asked fits) alone first same)
 
   made_in : (mode : Mode) (count : ℕ) (copy : Pattern) → mode ≡ Generate count
       → pattern_tree copy ≡ pattern_tree pattern → IsSummary (pattern_tree copy) count text
-      → IsTextIn mode (request_for job definitions asked) input text
+      → IsAnswerIn mode (request_for job definitions asked) input [] text
   made_in mode count copy is copied summary = rw is (made_one count
       (map string_bytes asked.labels.items) asked.patterns.items pattern copy text
       (labels_fit job definitions asked fits) alone first copied summary)

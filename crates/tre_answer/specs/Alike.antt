@@ -1,9 +1,8 @@
 -- When two requests ask for the same of two inputs.
 use Rattle.std.specs.Prelude.{◌≡◌, ℕ, ◌<◌, ◌≤◌, ◌↔◌, true, List}
+use Rattle.tre_tell.specs.Request.{Request, AreReadAs}
 use Rattle.tre_trace.specs.Reading.{no_names, segments_for}
 use Rattle.tre_trace.specs.Trace.{Timeline, end_of}
-use Rattle.tre_answer.specs.Recorded.{recording_for, AreReadAs}
-use Rattle.tre_answer.specs.Request.{Request}
 use Rattle.tre_answer.specs.Wanted.{IsWanted}
 
 -- Both ask for canonical zones, at one scale, no more of them than so many; the inputs end at one
@@ -12,8 +11,8 @@ pub record WantTheSame (one other : Request) (bytes others : List ℕ) : Type 0 
   pub normal : (one.job.normal ≡ true) × (other.job.normal ≡ true)
   pub scale : one.job.scale ≡ other.job.scale
   pub most : one.job.max_zones ≡ other.job.max_zones
-  pub end : end_of 0 (segments_for no_names (recording_for one true bytes).stretches)
-      ≡ end_of 0 (segments_for no_names (recording_for other true others).stretches)
+  pub end : end_of 0 (segments_for no_names (one.recording true bytes).stretches)
+      ≡ end_of 0 (segments_for no_names (other.recording true others).stretches)
   pub wanted : (traces seconds : List Timeline) → AreReadAs one bytes traces
       → AreReadAs other others seconds → (a b n : ℕ) → 0 < n → a ≤ b
       → IsWanted one.patterns traces a b n ↔ IsWanted other.patterns seconds a b n

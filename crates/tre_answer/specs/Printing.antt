@@ -5,7 +5,7 @@ use Rattle.tre_feed.specs.declared.fault.Fault.TheVariants.{Write}
 use Rattle.tre_io.specs.Faults.{count_after}
 use Rattle.tre_io.specs.Written.{AppendsPart}
 use Rattle.tre_tell.specs.Outputs.{OutputTold}
-use Rattle.tre_answer.specs.Streams.{WroteText}
+use Rattle.tre_tell.specs.Streams.{WroteText}
 
 -- A write failed, and a first part of the text was written.
 pub record IsPartlyPut (text : List ℕ) (output : OutputTold) : Type 0 where

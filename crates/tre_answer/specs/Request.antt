@@ -1,32 +1,27 @@
--- What is asked of an input: a job, the patterns that it looks for, and what names mean in them.
-use Rattle.std.specs.Prelude.{◌≡◌, ◌<◌, List, length, map, string_bytes}
-use Rattle.tre_define.specs.Signals.{SignalDefined}
-use Rattle.tre_num.specs.Defined.{Defined}
+-- The request that a job makes with its patterns and definitions.
+use Rattle.std.specs.Prelude.{◌≡◌, ℕ, ◌<◌, Bool, List, length, map, string_bytes}
+use Rattle.tre_tell.specs.Request.{Request, request_by}
 use Rattle.tre_tell.specs.Sought.{Sought, sought_by}
+use Rattle.tre_trace.specs.Reading.{Recording}
 use Rattle.tre_words.specs.declared.job.Format.TheVariants.{Csv}
 use Rattle.tre_words.specs.declared.job.Job.{Job}
+use Rattle.tre_answer.specs.Recorded.{recording_in}
 use Rattle.tre_answer.specs.declared.asked.Asked.{Asked}
 use Rattle.tre_answer.specs.declared.asked.Definitions.{Definitions}
-
--- A job, its patterns, and what names mean in them: of columns, and of the signals of a dump.
-pub record Request : Type 0 where
-  pub job : Job
-  pub patterns : List Sought
-  pub lets : List Defined
-  pub signals : List SignalDefined
 
 -- the patterns that are looked for, each behind its label
 abbrev pub sought_in : Asked → List Sought
 sought_in asked = sought_by (map string_bytes asked.labels.items) asked.patterns.items
 
+-- the request for this job and these patterns, where bytes say this
+abbrev pub request_over : Job → Asked → (Bool → List ℕ → Recording) → Request
+request_over job asked recording =
+    request_by job (map string_bytes asked.labels.items) asked.patterns.items recording
+
 -- the request for this job, these definitions and these patterns
 abbrev pub request_for : Job → Definitions → Asked → Request
-request_for job definitions asked = record {
-  job = job;
-  patterns = sought_in asked;
-  lets = definitions.columns.items;
-  signals = definitions.signals.items;
-}
+request_for job definitions asked = request_over job asked (recording_in job.format job.scale
+    (sought_in asked) definitions.columns.items definitions.signals.items)
 
 -- The patterns may be asked by the job: each has a label, there is one at least, and over columns
 -- there is just one.

@@ -9,9 +9,8 @@ use Rattle.tre_trace.specs.Reading.{no_names, segments_for}
 use Rattle.tre_trace.specs.Trace.{Timeline, end_of}
 use Rattle.tre_zone.specs.ZoneList.{IsApart, AreTight, HoldExactly}
 use Rattle.tre_zone.specs.declared.zone_bounds.ZoneBounds.{ZoneBounds}
+use Rattle.tre_tell.specs.Request.{Request, AreReadAs}
 use Rattle.tre_tell.specs.Sought.{Sought}
-use Rattle.tre_answer.specs.Recorded.{recording_for, AreReadAs}
-use Rattle.tre_answer.specs.Request.{Request}
 
 -- A match of one of the patterns, each over its own trace.
 abbrev pub MatchesSome : List Sought → List Timeline → Pairs
@@ -46,7 +45,7 @@ pub record IsOfflineAnswer (request : Request) (bytes text : List ℕ) : Type 0 
   pub right : AreZonesFor request bytes zones
   pub few : IfSome request.job.max_zones (λ most. length zones ≤ most)
   pub printed : text ≡ offline_text request.job.scale zones
-      (end_of 0 (segments_for no_names (recording_for request true bytes).stretches))
+      (end_of 0 (segments_for no_names (request.recording true bytes).stretches))
 
 -- The canonical zones for an input of these bytes are so many, and more than there may be.
 pub record AreTooMany (request : Request) (bytes : List ℕ) (count : ℕ) : Type 0 where

@@ -1,16 +1,14 @@
 // From a request to the text that answers it.
 ghost use Rattle.std.specs.Prelude.{◌≡◌, ◌≤◌, ◌<◌, ◌+◌, ◌++◌, codes, false, IsTrue, IfOk, IfSome, length, string_bytes};
-ghost use Rattle.tre_answer.specs.Answering.{EndsAnswering};
-ghost use Rattle.tre_answer.specs.Ends.{EndsOver, ReadsInput};
+ghost use Rattle.tre_answer.specs.Ends.{EndsOver};
 ghost use Rattle.tre_answer.specs.Parts.{IsInputOf};
-ghost use Rattle.tre_answer.specs.Recorded.{recording_for};
-ghost use Rattle.tre_answer.specs.Request.{FitsJob, request_for};
+ghost use Rattle.tre_answer.specs.Request.{FitsJob, request_for, request_over};
 ghost use Rattle.tre_decimal.specs.declared.TheConstants.{SCALE_MAX};
 ghost use Rattle.tre_feed.specs.Input.{TakesAtMost, input_told};
 ghost use Rattle.tre_feed.specs.Standing.{IsNew, recording_of};
-ghost use Rattle.tre_answer.specs.declared.asked.Definitions.{Definitions};
 ghost use Rattle.tre_show.specs.PatternText.{expression_text};
 ghost use Rattle.tre_syntax.specs.Pattern.{pattern_tree, names_of};
+ghost use Rattle.tre_tell.specs.Ends.{ReadsInput};
 ghost use Rattle.tre_tell.specs.Outputs.{output_told};
 ghost use Rattle.tre_words.specs.Job.{IsJob};
 
@@ -43,9 +41,8 @@ fn answer_by<S: Source, R: TraceReader + Drop, O: Sink>(
     requires fits { FitsJob job.now asked.now }
     requires input { IsInputOf R.names asked.now job.now input }
     requires new { IsNew R.terms R.represents R.names input }
-    ensures ends { (definitions : Definitions) → recording_of R.recording R.terms input
-        ≡ recording_for (request_for job.now definitions asked.now) →
-        EndsAnswering (request_for job.now definitions asked.now)
+    ensures ends { EndsOver
+        (request_over job.now asked.now (recording_of R.recording R.terms input))
         (input_told (S.told source.old) (S.told source.new))
         (output_told (O.told out.old) (O.told out.new)) result }
     ensures bounded { IsTrue (S.told source.new).opened →
@@ -61,10 +58,9 @@ fn answer_by<S: Source, R: TraceReader + Drop, O: Sink>(
         }
         _ => tell_matches(
             alloc,
-            job.input.text(),
+            job,
             &asked.patterns,
             &asked.labels,
-            job.scale,
             &mut input,
             source,
             out,
@@ -85,7 +81,7 @@ fn answer_input<S: Source, O: Sink>(
     requires job { IsJob job.now }
     requires reads { ReadsInput job.now.mode }
     requires fits { FitsJob job.now asked.now }
-    ensures ends { EndsAnswering (request_for job.now definitions asked.now)
+    ensures ends { EndsOver (request_for job.now definitions asked.now)
         (input_told (S.told source.old) (S.told source.new))
         (output_told (O.told out.old) (O.told out.new)) result }
     ensures bounded { IsTrue (S.told source.new).opened →

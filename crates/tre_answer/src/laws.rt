@@ -3,7 +3,7 @@
 
 ghost use Rattle.std.specs.Prelude.{◌≡◌, ◌∷◌, ◌<◌, ◌≤◌, ◌⊎◌, ◌↔◌, ℕ, true, List, []};
 ghost use Rattle.tre_answer.specs.Alike.{WantTheSame};
-ghost use Rattle.tre_answer.specs.Request.{Request};
+ghost use Rattle.tre_tell.specs.Request.{Request};
 ghost use Rattle.tre_answer.specs.Wanted.{IsWanted, IsOfflineAnswer, AreTooMany};
 ghost use Rattle.tre_syntax.specs.Meaning.{Matches};
 ghost use Rattle.tre_tell.specs.Sought.{Sought};

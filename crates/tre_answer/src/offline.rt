@@ -2,12 +2,10 @@
 ghost use Rattle.std.specs.Prelude.{◌≡◌, ◌≤◌, ◌<◌, ◌+◌, ℕ, List, [], ◌∷◌, false, get_or, IsTrue, IfOk, IfErr, IfSome, IsSomeAnd, OnOk, length};
 ghost use Rattle.tre_answer.specs.Listed.{AreWantedZones, listed_zones};
 ghost use Rattle.tre_answer.specs.Parts.{IsFoundFor, IsInputOf, StopsAs};
-ghost use Rattle.tre_answer.specs.Recorded.{recording_for};
-ghost use Rattle.tre_answer.specs.Request.{FitsJob, request_for};
+ghost use Rattle.tre_answer.specs.Request.{FitsJob, request_over};
 ghost use Rattle.tre_answer.specs.Wanted.{AreZonesOf, IsWanted, MatchesSome};
 ghost use Rattle.tre_feed.specs.Input.{TakesAtMost, input_told};
 ghost use Rattle.tre_feed.specs.Standing.{IsNew, recording_of};
-ghost use Rattle.tre_answer.specs.declared.asked.Definitions.{Definitions};
 ghost use Rattle.tre_pairs.specs.Except.{Except};
 ghost use Rattle.tre_show.specs.Line.{offline_text};
 ghost use Rattle.tre_tell.specs.Sought.{sought_by};
@@ -192,14 +190,12 @@ pub fn find_matches<S: Source, R: TraceReader + Drop>(
     requires fits { FitsJob job.now asked.now }
     requires input { IsInputOf R.names asked.now job.now input }
     requires new { IsNew R.terms R.represents R.names input }
-    ensures found { (definitions : Definitions) → recording_of R.recording R.terms input
-        ≡ recording_for (request_for job.now definitions asked.now) →
-        IfOk result (λ found. IsFoundFor (request_for job.now definitions asked.now)
+    ensures found { IfOk result (λ found. IsFoundFor
+        (request_over job.now asked.now (recording_of R.recording R.terms input))
         (input_told (S.told source.old) (S.told source.new))
         (offline_text job.now.scale (listed_zones found.zones) found.end)) }
-    ensures stops { (definitions : Definitions) → recording_of R.recording R.terms input
-        ≡ recording_for (request_for job.now definitions asked.now) →
-        IfErr result (StopsAs (request_for job.now definitions asked.now)
+    ensures stops { IfErr result (StopsAs
+        (request_over job.now asked.now (recording_of R.recording R.terms input))
         (input_told (S.told source.old) (S.told source.new))) }
     ensures bounded { IsTrue (S.told source.new).opened →
         TakesAtMost (job.now.max_bytes + 1) (S.told source.old).file (S.told source.new).left }

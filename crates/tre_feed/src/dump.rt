@@ -8,7 +8,7 @@ ghost use Rattle.tre_syntax.specs.Pattern.{names_of};
 ghost use Rattle.tre_trace.specs.Reading.{no_names};
 ghost use Rattle.tre_trace.specs.declared.reader.TheConstants.{FED_MAX};
 ghost use Rattle.tre_vcd.specs.Needs.{definitions_of, needs};
-ghost use Rattle.tre_vcd.specs.VcdReading.{defining, first_place, requiring, vcd_recording};
+ghost use Rattle.tre_vcd.specs.VcdReading.{vcd_recording};
 
 use crate::group::Group;
 use crate::input::Input;
@@ -17,7 +17,6 @@ use crate::shares::share;
 use std::alloc::{AllocError, Global};
 use std::rc::Rc;
 use tre_define::SignalDefinition;
-use tre_parts::PartReader;
 use tre_syntax::Pattern;
 use tre_trace::TraceReader;
 use tre_vcd::{Needed, TokenReader, VcdReader};
@@ -47,7 +46,7 @@ pub fn dump_input(
     let shares = share(alloc, patterns)?;
     let (groups, views) = shares.into_parts();
     let needed = needed_by(alloc, patterns, definitions)?;
-    let Ok(readers) = dump_readers(alloc, &groups, &needed, definitions, scale) else {
+    let Ok(readers) = dump_readers(alloc, &groups, &needed, scale) else {
         return Err(AllocError);
     };
     Input::new(alloc, readers, views, limit)
@@ -104,23 +103,21 @@ fn dump_readers(
     alloc: Global,
     groups: &[Group],
     needed: &Rc<Needed>,
-    definitions: &[SignalDefinition],
     scale: u8,
 ) -> Result<Vec<VcdReader>, AllocError>
     requires scale { scale ≤ SCALE_MAX }
-    requires needed { definitions_of needed.now.value ≡ definitions.now }
     ensures names { IfOk result (λ readers.
         map ⟦<VcdReader as TraceReader>⟧.names readers.items ≡ groups.now) }
     ensures fresh { IfOk result (λ readers. AllByRecursion
         (λ reader. (⟦<VcdReader as TraceReader>⟧.terms reader
-        ≡ dump_terms (needs needed.now.value ∷ []) scale definitions.now)
+        ≡ dump_terms (needs needed.now.value ∷ []) scale (definitions_of needed.now.value))
         × ⟦<VcdReader as TraceReader>⟧.represents reader []) readers.items) }
 {
     let mut readers = Vec::new(alloc);
     for group in groups {
         put_last(
             &mut readers,
-            dump_reader(alloc, group, needed, definitions, scale)?,
+            dump_reader(alloc, group, needed, scale)?,
         )?;
     }
     Ok(readers)
@@ -131,44 +128,17 @@ fn dump_reader(
     alloc: Global,
     group: &Group,
     needed: &Rc<Needed>,
-    definitions: &[SignalDefinition],
     scale: u8,
 ) -> Result<VcdReader, AllocError>
     requires scale { scale ≤ SCALE_MAX }
-    requires needed { definitions_of needed.now.value ≡ definitions.now }
     ensures fresh { IfOk result (λ reader. ⟦<VcdReader as TraceReader>⟧.represents reader []) }
     ensures terms { IfOk result (λ reader. ⟦<VcdReader as TraceReader>⟧.terms reader
-        ≡ dump_terms (needs needed.now.value ∷ []) scale definitions.now) }
+        ≡ dump_terms (needs needed.now.value ∷ []) scale
+        (definitions_of needed.now.value)) }
     ensures names { IfOk result (λ reader. ⟦<VcdReader as TraceReader>⟧.names reader
         ≡ group.now) }
 {
     let (names, events) = group.lists()?;
-    let mut tokens = TokenReader::new(alloc, names, events, scale);
-    let Ok(()) = ask(&mut tokens, needed, definitions) else {
-        drop(tokens);
-        return Err(AllocError);
-    };
+    let tokens = TokenReader::new(alloc, names, events, scale, needed)?;
     Ok(VcdReader::new(alloc, tokens))
-}
-
-// Has the names read by the definitions, and the dump declare what is needed.
-fn ask(
-    tokens: &mut TokenReader,
-    needed: &Rc<Needed>,
-    definitions: &[SignalDefinition],
-) -> Result<(), AllocError>
-    ensures begins { ⟦<TokenReader as PartReader>⟧.holds tokens.old first_place →
-        (⟦<TokenReader as PartReader>⟧.terms tokens.old).declared ≡ [] →
-        definitions_of needed.now.value ≡ definitions.now →
-        OnOk result (⟦<TokenReader as PartReader>⟧.holds tokens.new first_place) }
-    ensures terms { OnOk result (⟦<TokenReader as PartReader>⟧.terms tokens.new ≡ requiring
-        (defining (⟦<TokenReader as PartReader>⟧.terms tokens.old) definitions.now)
-        (needs needed.now.value)) }
-    ensures names { ⟦<TokenReader as PartReader>⟧.names tokens.new
-        ≡ ⟦<TokenReader as PartReader>⟧.names tokens.old }
-{
-    let Ok(()) = tokens.define(definitions) else {
-        return Err(AllocError);
-    };
-    tokens.must_declare(needed)
 }

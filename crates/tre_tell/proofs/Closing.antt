@@ -18,12 +18,12 @@ use Rattle.tre_trace.specs.declared.segment.Segment.{Segment}
 use Rattle.tre_zone.specs.declared.zone_bounds.ZoneBounds.{ZoneBounds}
 use Rattle.tre_tell.specs.Blocks.{AreAccounts, blocks_text, ending_text}
 use Rattle.tre_tell.specs.Printed.{IsPrinted, IsTextOf, lines_behind, time_line}
+use Rattle.tre_tell.specs.Online.{BlocksStand, fronts}
 use Rattle.tre_tell.specs.Outputs.{OutputTold, NothingWritten}
+use Rattle.tre_tell.specs.Request.{Request}
 use Rattle.tre_tell.specs.Sought.{Sought, all_names, sought_by}
-use Rattle.tre_tell.specs.Standing.{BlocksStand}
 use Rattle.tre_tell.specs.Telling.{first_row, rows_for, timelines, IsLastBlock, HasTold, HasClosed, ClosingIsCut}
 use Rattle.tre_tell.specs.Transcript.{Account, IsTranscript, IsClosing}
-use Rattle.tre_tell.specs.Watched.{Watched, fronts}
 use Rattle.tre_tell.proofs.Accounts.{accounts_closed, blocks_text-closed, ending_text-closed}
 use Rattle.tre_tell.proofs.Lists.{map-map}
 use Rattle.tre_tell.proofs.Stretches.{level_for, quiet_rows}
@@ -248,14 +248,15 @@ start_accounts patterns = record {
   told = start_told patterns;
 }
 
-pub BlocksStand-none : (watched : Watched) (output : OutputTold) → NothingWritten output
-    → BlocksStand watched [] output
-BlocksStand-none watched output none = record {
-  writes = none.writes;
-  accounts = map start_account watched.patterns;
-  are = start_accounts watched.patterns;
-  written = rw (none.unwritten, start_text watched.scale (map start_account watched.patterns))
-      (Appends-none output.before.written);
+pub BlocksStand-none : (request : Request) (output : OutputTold) → NothingWritten output
+    → BlocksStand request output []
+BlocksStand-none request output none = record {
+  accounts = map start_account request.patterns;
+  are = start_accounts request.patterns;
+  stand = record {
+    writes = none.writes;
+    written = rw none.unwritten (Appends-none output.before.written);
+  };
 }
 
 -- no row of a pattern

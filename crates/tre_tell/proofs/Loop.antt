@@ -1,5 +1,5 @@
 -- An input that is told, from before it is opened to its end.
-use Rattle.std.proofs.Common.{◌≡◌, ◌≢◌, ◌∙◌, ℕ, ◌+◌, ◌<◌, Bool, false, List, [], ◌∷◌, ◌++◌, length, take, map, Option, None, Some, IfErr, IsTrue, Result, Ok, Err, refl, sym, ap, subst, arith}
+use Rattle.std.proofs.Common.{◌≡◌, ◌≢◌, ◌∙◌, ℕ, ◌+◌, ◌<◌, Bool, true, false, List, [], ◌∷◌, ◌++◌, length, take, map, MatchBool, Option, None, Some, IfErr, IsTrue, Result, Ok, Err, refl, sym, ap, subst, arith}
 use Rattle.std.specs.Io.KnownBytes.{Keeps}
 use Rattle.std.proofs.KnownBytes.{Consumes-nil}
 use Rattle.std.proofs.lemmas.List.{length-map, take_all}
@@ -16,13 +16,13 @@ use Rattle.tre_syntax.specs.declared.pattern.Pattern.{Pattern}
 use Rattle.tre_trace.specs.Reading.{Grows, Recording, Stretch, Vocabulary, events_for, reading_for}
 use Rattle.tre_trace.specs.Trace.{IsTrace}
 use Rattle.tre_trace.specs.declared.segment.Segment.{Segment}
-use Rattle.tre_tell.specs.Ends.{EndsTelling}
+use Rattle.tre_tell.specs.Ends.{EndsTelling, ReadsInput, StandsAtMemory, as_it_comes}
 use Rattle.tre_feed.specs.Turn.{EndsTurn, HasRead, TurnIsFed, StopsTurn}
 use Rattle.tre_tell.specs.Outputs.{OutputTold, NothingWritten}
 use Rattle.tre_tell.specs.Sought.{Sought, all_names, sought_by}
-use Rattle.tre_tell.specs.Standing.{FirstBlocksStand}
+use Rattle.tre_tell.specs.Online.{BlocksStand}
+use Rattle.tre_tell.specs.Request.{Request}
 use Rattle.tre_tell.specs.Telling.{rows_for, HasTold, HasWriteCause}
-use Rattle.tre_tell.specs.Watched.{Watched, watched_by}
 use Rattle.tre_feed.specs.declared.fault.Fault.{Fault}
 use Rattle.tre_feed.specs.declared.fault.Fault.TheVariants.{Trace, TooLong, TooManyZones, Read, Write, Memory}
 use Rattle.tre_tell.proofs.Closing.{BlocksStand-none, HasTold-start}
@@ -72,14 +72,14 @@ HasWriteCause-from before before' now result same cause =
     subst (λ n. HasWriteCause n now result) same cause
 
 -- These bytes were fed, and the blocks of the stretches that they say were written.
-pub record IsTelling (watched : Watched) (were_fed : List ℕ → Type 0)
+pub record IsTelling (request : Request) (were_fed : List ℕ → Type 0)
     (file left found : Option (List ℕ)) (count : ℕ) (watch : Watch) (labels : List (List ℕ))
     (before now : Option (List ℕ)) : Type 0 where
   pub bytes : List ℕ
-  pub fed : TurnIsFed were_fed watched.limit file left found count bytes
-  pub told : HasTold watch labels watched.scale watched.patterns
-      (rows_for (all_names watched.patterns)
-      (watched.recording false (take watched.limit bytes)).stretches) before now
+  pub fed : TurnIsFed were_fed request.job.max_bytes file left found count bytes
+  pub told : HasTold watch labels request.job.scale request.patterns
+      (rows_for (all_names request.patterns)
+      (request.recording false (take request.job.max_bytes bytes)).stretches) before now
 
 -- there are as many labels as patterns
 pub labels_count : {watch : Watch} {labels : List (List ℕ)} {scale : ℕ} {patterns : List Sought}
@@ -199,67 +199,68 @@ module _ (labels : List (List ℕ)) (patterns : List Pattern)
   HasTold-nothing watch told same stands ended trees = rw (none_taken limit, nothing)
       (HasTold-start watch labels scale patterns told same stands ended trees)
 
+-- an input of which nothing was read, for a request
+module _ (request : Request) (nothing : (request.recording false []).stretches ≡ [])
+    (input : InputTold) (output : OutputTold)
+    (kept : IsTrue input.now.opened → Keeps input.before.file input.now.left)
+    (none : NothingWritten output) where
   -- no block stands there
-  pub FirstBlocksStand-unread : (input : InputTold) (output : OutputTold)
-      → (IsTrue input.now.opened → Keeps input.before.file input.now.left)
-      → (IsTrue input.now.opened → Keeps input.now.found input.before.file) → NothingWritten output
-      → FirstBlocksStand (watched_by labels patterns recording limit scale) input output
-  FirstBlocksStand-unread input output kept finds none = record {
-    recording = recording false [];
-    count = 0;
-    prompt = record {
-      bytes = [];
+  nothing_stands : (told : Bool)
+      → MatchBool told (BlocksStand request output []) (NothingWritten output)
+  nothing_stands true = BlocksStand-none request output none
+  nothing_stands false = none
+
+  none_known : (request.recording false (take request.job.max_bytes [])).stretches ≡ []
+  none_known =
+      ap (λ (bytes : List ℕ). (request.recording false bytes).stretches)
+      (none_taken request.job.max_bytes) ∙ nothing
+
+  -- none was held back
+  pub StandsAtMemory-unread
+      : (IsTrue input.now.opened → Keeps input.now.found input.before.file)
+      → StandsAtMemory request input output
+  StandsAtMemory-unread finds = (
+    [],
+    [],
+    nothing_stands (as_it_comes request.job.mode),
+    λ so. record {
+      earlier = [];
+      piece = [];
+      short = omega arith;
+      behind = λ is_open. found_behind input.before.file input.before.file input.now.found []
+          (Consumes-nil input.before.file) (finds is_open);
       read = none_read input kept;
       closed = false;
-      all_read = λ e. cc;
-      within = λ e. cc;
-      known = rw (none_taken limit) refl;
-      last = record {
-        earlier = [];
-        piece = [];
-        split = refl;
-        short = omega arith;
-        behind = λ is_open. found_behind input.before.file input.before.file input.now.found []
-            (Consumes-nil input.before.file) (finds is_open);
-      };
-      prompt = rw (none_taken limit, nothing) (omega arith);
-    };
-    few = omega arith;
-    stand = BlocksStand-none (watched_by labels patterns recording limit scale) output none;
-  }
+      ended = λ e. cc;
+      known = sym none_known;
+      prompt = omega (arith, ap length none_known);
+    },
+  )
 
   -- it couldn't be opened, or memory was wanting then
-  pub EndsTelling-unread : (name : List ℕ) (input : InputTold) (output : OutputTold)
-      (fault : Fault) → (recording false []).fault ≡ None
-      → (IsTrue input.now.opened → Keeps input.before.file input.now.left)
+  pub EndsTelling-unread : (fault : Fault) → ReadsInput request.job.mode
+      → (request.recording false []).fault ≡ None
       → (IsTrue input.now.opened → Keeps input.now.found input.before.file)
       → HasReadCause {T = Bool} input.before.faults input.now.faults (Err fault)
       → (fault ≢ Read → fault ≢ Memory → ⊥)
-      → (IsTrue input.before.sound → input.before.name ≡ Some name → fault ≢ Read) → NothingWritten
-      output
-      → EndsTelling {T = Unit {0}} (watched_by labels patterns recording limit scale) name input
-      output (Err fault)
-  EndsTelling-unread name input output Read faultless kept finds read only sound none = record {
-    cause = read;
-    unsound = λ good named. sound good named refl;
-    goes_on = record {
-      bytes = [];
-      read = none_read input kept;
-      within = omega arith;
-      faultless = faultless;
-    };
-    stands = rw nothing
-        (BlocksStand-none (watched_by labels patterns recording limit scale) output none);
+      → (IsTrue input.before.sound → input.before.name ≡ Some request.job.input → fault ≢ Read)
+      → EndsTelling {T = Unit {0}} request input output (Err fault)
+  EndsTelling-unread Read reads faultless finds read only sound = record {
+    reads_input = reads;
+    unread = record { cause = read; unsound = λ good named. sound good named refl };
+    bytes = [];
+    read = none_read input kept;
+    within = omega arith;
+    faultless = faultless;
+    stands = rw nothing (nothing_stands (as_it_comes request.job.mode));
   }
-  EndsTelling-unread name input output Memory faultless kept finds read only sound none = record {
-    reads = read;
-    stands = FirstBlocksStand-unread input output kept finds none;
-  }
-  EndsTelling-unread name input output (Trace fault) faultless kept finds read only sound none =
+  EndsTelling-unread Memory reads faultless finds read only sound =
+      (read, StandsAtMemory-unread finds)
+  EndsTelling-unread (Trace fault) reads faultless finds read only sound =
       absurd (only (λ e. cc) (λ e. cc))
-  EndsTelling-unread name input output TooLong faultless kept finds read only sound none =
+  EndsTelling-unread TooLong reads faultless finds read only sound =
       absurd (only (λ e. cc) (λ e. cc))
-  EndsTelling-unread name input output (TooManyZones zones) faultless kept finds read only sound
-      none = absurd (only (λ e. cc) (λ e. cc))
-  EndsTelling-unread name input output Write faultless kept finds read only sound none =
+  EndsTelling-unread (TooManyZones zones) reads faultless finds read only sound =
+      absurd (only (λ e. cc) (λ e. cc))
+  EndsTelling-unread Write reads faultless finds read only sound =
       absurd (only (λ e. cc) (λ e. cc))

@@ -7,10 +7,10 @@ use Rattle.tre_trace.specs.Reading.{Stretch, Vocabulary, no_names, segment_for, 
 use Rattle.tre_trace.specs.Trace.{end_of, quiet}
 use Rattle.tre_trace.specs.declared.segment.Segment.{Segment}
 use Rattle.tre_tell.specs.Blocks.{block_of, blocks_from, blocks_text, ending_text}
+use Rattle.tre_tell.specs.Online.{fronts}
 use Rattle.tre_tell.specs.Sought.{Sought, all_names}
 use Rattle.tre_tell.specs.Telling.{column_for, first_row, rows_for}
 use Rattle.tre_tell.specs.Transcript.{Account}
-use Rattle.tre_tell.specs.Watched.{fronts}
 
 -- each row has as many segments
 pub level_for : (asked : List Vocabulary) (stretches : List Stretch)
@@ -71,7 +71,7 @@ end_alike start (first ∷ one) (second ∷ other) same =
 
 module _ (scale : ℕ) (accounts : List Account) (stretches : List Stretch) where
   pub blocks_for-rows : (asked : List Vocabulary) → 0 < length asked
-      → blocks_text scale accounts (segments_for no_names stretches)
+      → blocks_from scale accounts 0 0 (segments_for no_names stretches)
       ≡ blocks_text scale accounts (first_row (rows_for asked stretches))
   unfolding blocks_text
   blocks_for-rows [] some = absurd (omega (arith, some))

@@ -1,29 +1,34 @@
 -- How the telling of an input ends.
-use Rattle.std.proofs.Common.{◌≡◌, ◌≢◌, ◌∙◌, ℕ, suc, ◌-◌, ◌<◌, ◌≤◌, Bool, true, false, All, List, [], ◌∷◌, ◌++◌, length, take, drop, map, None, IfErr, IsTrue, Result, Ok, Err, refl, sym, ap, subst, inl, inr, arith, length-append, append-nil, append_assoc, take-append-drop}
+use Rattle.std.proofs.Common.{◌≡◌, ◌≢◌, ◌∙◌, ℕ, ◌-◌, ◌<◌, ◌≤◌, Bool, true, false, All, List, [], ◌∷◌, ◌++◌, length, take, drop, map, MatchBool, Option, None, Some, IfErr, IfSome, IsTrue, Result, Ok, Err, refl, sym, ap, subst, inl, inr, arith, length-append, append-nil, append_assoc, take-append-drop}
 use Rattle.std.specs.Io.KnownBytes.{Consumes, IsAtEnd}
 use Rattle.std.proofs.KnownBytes.{Consumes-whole}
 use Rattle.std.proofs.Math.Seq.{take-append_seam}
 use Rattle.std.proofs.lemmas.List.{take-append-le, take_all, length-map}
 use Rattle.std.proofs.lemmas.List.Elements.{All-map}
-use Rattle.tre_feed.specs.Input.{HasReadCause, InputTold, AllReadsGood, WereRead, AreAllBytes}
+use Rattle.tre_feed.specs.Comes.{InputComesTo, Outcome, exceeds, outcome_of, refuses}
+use Rattle.tre_feed.specs.Input.{HasReadCause, InputTold, AllReadsGood, WereRead}
 use Rattle.tre_feed.proofs.Cuts.{take_split}
+use Rattle.tre_io.specs.Faults.{count_after}
 use Rattle.tre_online.specs.declared.watch.Watch.{Watch}
 use Rattle.tre_trace.specs.Reading.{Grows, Recording, Stretch, Vocabulary, segments_for, events_for}
 use Rattle.tre_trace.specs.Trace.{Timeline, IsTrace}
 use Rattle.tre_trace.specs.declared.segment.Segment.{Segment}
 use Rattle.tre_tell.specs.Blocks.{AreAccounts, blocks_text, ending_text}
 use Rattle.tre_tell.specs.Transcript.{Account, IsClosing}
-use Rattle.tre_tell.specs.Ends.{EndsTelling}
+use Rattle.tre_tell.specs.Ends.{EndsTelling, EndsAtInput, ReadsInput, StandsAtMemory, StandsSoFar, TellsWhole, as_it_comes}
 use Rattle.tre_feed.specs.Turn.{HasRead, StopsTurn, TakesOn, TakesRead}
 use Rattle.tre_feed.specs.Traces.{trace_for}
-use Rattle.tre_tell.specs.Outputs.{OutputTold, AllWritesGood}
+use Rattle.tre_tell.specs.Online.{BlocksStand, IsPrompt, IsOnlineAnswer, blocks_for}
+use Rattle.tre_tell.specs.Outputs.{OutputTold, AllWritesGood, NothingWritten, IsCutBehind}
+use Rattle.tre_tell.specs.Request.{Request, outcome_for, whole_recording}
 use Rattle.tre_tell.specs.Sought.{Sought, all_names}
-use Rattle.tre_tell.specs.Standing.{BlocksStand, IsPrompt, FirstBlocksStand, IsOnlineAnswer, AnswerIsCut}
+use Rattle.tre_tell.specs.Streams.{OfBytes, WroteFront}
 use Rattle.tre_tell.specs.Telling.{first_row, rows_for, timelines, BlocksWritten, CanTellAll, StopsWithin, HasWriteCause, HasClosed, ClosingIsCut, StopsAtEnd}
-use Rattle.tre_tell.specs.Watched.{Watched}
 use Rattle.tre_feed.specs.declared.fault.Fault.{Fault}
 use Rattle.tre_feed.specs.declared.fault.Fault.TheVariants.{Trace, TooLong, TooManyZones, Read, Write, Memory}
 use Rattle.tre_online.specs.Watch.{Watches}
+use Rattle.tre_words.specs.declared.job.Mode.{Mode}
+use Rattle.tre_words.specs.declared.job.Mode.TheVariants.{Offline, Online, Show, Generate, Watch as WatchMode}
 use Rattle.tre_tell.proofs.Stretches.{blocks_for-rows, ending_for-rows, pushed_for, quiet_rows}
 
 -- the bytes of an open input
@@ -34,16 +39,24 @@ were_read input bytes opened front = record {
   of_closed = λ closed. cc;
 }
 
--- of one that was read to its end
-all_bytes : (input : InputTold) (bytes : List ℕ) → input.now.opened ≡ true
-    → Consumes input.before.file input.now.left bytes → IsAtEnd input.now.left → AreAllBytes input
-    bytes
-all_bytes input bytes opened front all = record {
+-- what is so of those of one that was read to its end
+pub of_all : (input : InputTold) (bytes : List ℕ) (IsSo : List ℕ → Type 0)
+    → IsTrue input.now.opened → Consumes input.before.file input.now.left bytes → IsAtEnd input.now.left → AllReadsGood input
+    → IsSo bytes → OfBytes input IsSo
+of_all input bytes IsSo opened front all reads so = record {
   opened = opened;
-  read = were_read input bytes opened front;
-  all_read = all;
-  whole = Consumes-whole input.before.file input.now.left bytes _ front all refl;
+  reads = reads;
+  bytes = bytes;
+  front = front;
+  is_so = so;
+  whole = of_one input.before.file (λ told is. subst IsSo (sym is) so)
+      (Consumes-whole input.before.file input.now.left bytes _ front all refl);
 }
+  where
+    of_one : (o : Option (List ℕ)) {P R : List ℕ → Type 0} → ((x : List ℕ) → P x → R x)
+        → IfSome o P → IfSome o R
+    of_one None f p = tt
+    of_one (Some x) f p = f x p
 
 -- of two ways to cut a list, the shorter front is the front of the longer
 front_of : (xs ys zs ws : List ℕ) → xs ++ ys ≡ zs ++ ws → length zs ≤ length xs
@@ -78,34 +91,99 @@ front_taken : {X : Type 0} (xs front rest : List X) → xs ≡ front ++ rest
 front_taken xs front rest same =
     ap (take (length front)) same ∙ take-append_seam front rest
 
-module _ (watched : Watched) (some : 0 < length watched.patterns) where
+-- a mode in which an answer is told as its input comes reads its input
+pub told_reads : (mode : Mode) → as_it_comes mode ≡ true → ReadsInput mode
+told_reads Offline comes = tt
+told_reads Online comes = tt
+told_reads Show comes = absurd (cc)
+told_reads (Generate count) comes = absurd (cc)
+told_reads (WatchMode file) comes = tt
+
+-- what bytes come to, in the words of a request
+outcome_as : (request : Request) (bytes : List ℕ)
+    → outcome_of request.recording request.job.max_bytes bytes ≡ outcome_for request bytes
+unfolding outcome_of outcome_for
+outcome_as request bytes = refl
+
+-- what is so of both of some bytes
+of_both : (o : Option (List ℕ)) {P Q R : List ℕ → Type 0} → ((x : List ℕ) → P x → Q x → R x)
+    → IfSome o P → IfSome o Q → IfSome o R
+of_both None f p q = tt
+of_both (Some x) f p q = f x p q
+
+-- the input came to this
+pub at_input : (request : Request) (outcome : Outcome) (input : InputTold) (output : OutputTold)
+    → ReadsInput request.job.mode → IsTrue input.now.opened → AllReadsGood input
+    → (cause : InputComesTo request.recording request.job.max_bytes input.before.file
+    input.now.left outcome)
+    → StandsSoFar request output (whole_recording request cause.bytes).stretches
+    → EndsAtInput outcome request input output
+at_input request outcome input output reads_input opened reads cause stands = record {
+  reads_input = reads_input;
+  stretches = (whole_recording request cause.bytes).stretches;
+  comes = record {
+    opened = opened;
+    reads = reads;
+    bytes = cause.bytes;
+    front = cause.front;
+    is_so = (sym (outcome_as request cause.bytes) ∙ cause.comes, refl);
+    whole = of_both input.before.file
+        (λ all is same. (sym (outcome_as request all) ∙ is, same)) cause.whole cause.same;
+  };
+  stands = stands;
+}
+
+-- a text was cut behind its front
+cut_by : (output : OutputTold) (front text : List ℕ)
+    → output.now.faults ≡ count_after output.before.faults
+    → IsCutBehind front text output.before.written output.now.written
+    → WroteFront output front text
+cut_by output front text cause cut = record {
+  cause = cause;
+  count = cut.part.count;
+  behind = cut.behind;
+  short = cut.part.short;
+  written = cut.part.appends;
+}
+
+module _ (request : Request) (some : 0 < length request.patterns)
+    (comes : as_it_comes request.job.mode ≡ true) where
   -- the names of the patterns
   abbrev pub asked : List Vocabulary
-  asked = all_names watched.patterns
+  asked = all_names request.patterns
 
   -- there is one at least
   some_asked : 0 < length asked
-  some_asked = rw (length-map watched.patterns (λ pattern. pattern.names)) some
+  some_asked = rw (length-map request.patterns (λ pattern. pattern.names)) some
 
   -- the blocks of these stretches were written
   abbrev pub Written : OutputTold → List Stretch → Type 0
-  Written output stretches = BlocksWritten watched.scale watched.patterns
+  Written output stretches = BlocksWritten request.job.scale request.patterns
       (rows_for asked stretches) output.before.written output.now.written
 
   -- they stand there
   pub stand_by : (stretches : List Stretch) (output : OutputTold) → AllWritesGood output
-      → Written output stretches → BlocksStand watched stretches output
+      → Written output stretches → BlocksStand request output stretches
   stand_by stretches output writes stand = record {
-    writes = writes;
     accounts = stand.accounts;
-    are = rw (quiet_rows watched.patterns stretches) at stand.are;
-    written = rw (blocks_for-rows watched.scale stand.accounts stretches asked some_asked)
-        stand.written;
+    are = rw (quiet_rows request.patterns stretches) at stand.are;
+    stand = record {
+      writes = writes;
+      written = rw (blocks_for-rows request.job.scale stand.accounts stretches asked some_asked)
+          stand.written;
+    };
   }
+
+  -- as they do of what is told as the input comes
+  so_far : (stretches : List Stretch) (output : OutputTold) → BlocksStand request output stretches
+      → StandsSoFar request output stretches
+  so_far stretches output stands =
+      subst (λ told. MatchBool told (BlocksStand request output stretches) (NothingWritten output))
+      (sym comes) stands
 
   -- what bytes said before a turn, as far as the limit
   abbrev pub before_turn : List ℕ → Recording
-  before_turn bytes = watched.recording false (take watched.limit bytes)
+  before_turn bytes = request.recording false (take request.job.max_bytes bytes)
 
   -- how many stretches that has
   abbrev count_before : List ℕ → ℕ
@@ -115,7 +193,7 @@ module _ (watched : Watched) (some : 0 < length watched.patterns) where
     -- A turn that read on behind these bytes, where nothing waited before.
     pub record IsTurn (input : InputTold) (bytes : List ℕ) (fed : Result Bool Fault)
         : Type 0 where
-      pub has : HasRead watched.recording watched.limit input.before.file input.now.left
+      pub has : HasRead request.recording request.job.max_bytes input.before.file input.now.left
           input.now.found bytes
           waits then_waits fed
       pub none : waits []
@@ -126,14 +204,14 @@ module _ (watched : Watched) (some : 0 < length watched.patterns) where
     AllWritten output bytes = (waiting : List Stretch) → then_waits waiting
         → Written output ((before_turn bytes).stretches ++ waiting)
 
-    module _ (laws : HasLaws watched.recording) where
+    module _ (laws : HasLaws request.recording) where
       -- what is known of more bytes
       grows_on : (closed : Bool) (bytes piece : List ℕ) → Grows (before_turn bytes)
-          (watched.recording closed (take watched.limit (bytes ++ piece)))
+          (request.recording closed (take request.job.max_bytes (bytes ++ piece)))
       grows_on closed bytes piece =
-          rw (take_split watched.limit bytes piece)
-          (laws.grows closed (take watched.limit bytes)
-          (take (watched.limit - length bytes) piece))
+          rw (take_split request.job.max_bytes bytes piece)
+          (laws.grows closed (take request.job.max_bytes bytes)
+          (take (request.job.max_bytes - length bytes) piece))
 
       counts_on : (bytes piece : List ℕ) → count_before bytes ≤ count_before (bytes ++ piece)
       counts_on bytes piece =
@@ -148,7 +226,7 @@ module _ (watched : Watched) (some : 0 < length watched.patterns) where
           (turn : IsTurn input bytes fed) where
         -- what all that was read says
         abbrev pub now : Recording
-        now = watched.recording turn.has.closed (take watched.limit (bytes ++ turn.has.piece))
+        now = request.recording turn.has.closed (take request.job.max_bytes (bytes ++ turn.has.piece))
 
         waits_all : TakesOn waits then_waits (before_turn bytes) now
             → WaitsOf (before_turn bytes) now then_waits
@@ -159,11 +237,11 @@ module _ (watched : Watched) (some : 0 < length watched.patterns) where
           wait = takes.then [] turn.none;
           is_trace = λ names. subst (λ all. IsTrace (segments_for names all)) takes.beyond
               (laws.is_trace names turn.has.closed
-              (take watched.limit (bytes ++ turn.has.piece)));
+              (take request.job.max_bytes (bytes ++ turn.has.piece)));
         }
 
         waits_by : (result : Result Bool Fault)
-            → TakesRead watched.recording watched.limit bytes turn.has.piece turn.has.closed waits
+            → TakesRead request.recording request.job.max_bytes bytes turn.has.piece turn.has.closed waits
             then_waits result → WaitsOf (before_turn bytes) now then_waits
         waits_by (Ok more) takes = waits_all takes
         waits_by (Err (Trace fault)) takes = waits_all takes
@@ -179,7 +257,7 @@ module _ (watched : Watched) (some : 0 < length watched.patterns) where
               beyond = more.stretches;
               wait = keeps.same [] turn.none;
               is_trace = λ names. rw (append-nil (before_turn bytes).stretches)
-                  (laws.is_trace names false (take watched.limit bytes));
+                  (laws.is_trace names false (take request.job.max_bytes bytes));
             }
 
         -- what waits then
@@ -198,71 +276,68 @@ module _ (watched : Watched) (some : 0 < length watched.patterns) where
         }
 
         -- no stretch was complete when the last read began that wasn't told before the turn
-        prompt_with : (count : ℕ) → count_before bytes ≤ count
-            → IsPrompt watched input now count
-        prompt_with count enough =
+        prompt_with : (front rest : List Stretch) → known.added ≡ front ++ rest
+            → IsPrompt request input ((before_turn bytes).stretches ++ front) (rest ++ known.left)
+        prompt_with front rest split =
             let last = turn.has.last in
-            let rest = drop (length last.earlier) bytes in
-            let split : bytes ≡ last.earlier ++ rest =
+            let old = (before_turn bytes).stretches in
+            let behind = drop (length last.earlier) bytes in
+            let longer : bytes ≡ last.earlier ++ behind =
             front_of bytes turn.has.piece last.earlier last.piece last.split turn.has.early in
             let early : count_before last.earlier ≤ count_before bytes =
-            subst (λ all. count_before last.earlier ≤ count_before all) (sym split)
-            (counts_on last.earlier rest) in
+            subst (λ all. count_before last.earlier ≤ count_before all) (sym longer)
+            (counts_on last.earlier behind) in
             record {
-              bytes = bytes ++ turn.has.piece;
-              read = were_read input (bytes ++ turn.has.piece) turn.opened turn.has.front;
+              earlier = last.earlier;
+              piece = last.piece;
+              short = last.short;
+              behind = λ is_open. last.behind;
+              read = subst (WereRead input) last.split
+                  (were_read input (bytes ++ turn.has.piece) turn.opened turn.has.front);
               closed = turn.has.closed;
-              all_read = turn.has.all_read;
-              within = turn.has.within;
-              known = refl;
-              last = record {
-                earlier = last.earlier;
-                piece = last.piece;
-                split = last.split;
-                short = last.short;
-                behind = λ is_open. last.behind;
-              };
-              prompt = omega (arith, early, enough);
+              ended = λ closed. (
+                turn.has.all_read closed,
+                subst (λ (all : List ℕ). length all ≤ request.job.max_bytes) last.split
+                    (turn.has.within closed),
+              );
+              known = append_assoc old front (rest ++ known.left)
+                  ∙ (ap (λ more. old ++ more) (sym (append_assoc front rest known.left))
+                  ∙ (ap (λ more. old ++ (more ++ known.left)) (sym split)
+                  ∙ (sym known.beyond
+                  ∙ ap (λ (all : List ℕ). (request.recording turn.has.closed
+                  (take request.job.max_bytes all)).stretches) last.split)));
+              prompt = omega (arith, early, length-append old front);
             }
 
         -- the first blocks stand there
         first_at : (output : OutputTold) (front rest : List Stretch) → known.added ≡ front ++ rest
             → AllWritesGood output → Written output ((before_turn bytes).stretches ++ front)
-            → FirstBlocksStand watched input output
+            → StandsAtMemory request input output
         first_at output front rest split writes stand =
-            let told = (before_turn bytes).stretches ++ front in
-            let behind : now.stretches ≡ told ++ (rest ++ known.left) =
-            known.beyond ∙ (ap (λ more. (before_turn bytes).stretches ++ (more ++ known.left)) split
-            ∙ (ap (λ more. (before_turn bytes).stretches ++ more)
-            (append_assoc front rest known.left)
-            ∙ sym (append_assoc (before_turn bytes).stretches front (rest ++ known.left)))) in
-            record {
-              recording = now;
-              count = length told;
-              prompt = prompt_with (length told)
-                  (omega (arith, length-append (before_turn bytes).stretches front));
-              few = omega (arith, ap length behind, length-append told (rest ++ known.left));
-              stand = rw (front_taken now.stretches told (rest ++ known.left) behind)
-                  (stand_by told output writes stand);
-            }
+            let told = (before_turn bytes).stretches ++ front in (
+              told,
+              rest ++ known.left,
+              so_far told output (stand_by told output writes stand),
+              λ so. prompt_with front rest split,
+            )
 
         -- all blocks of the turn
         pub first_stand : (output : OutputTold) → AllWritesGood output → AllWritten output bytes
-            → FirstBlocksStand watched input output
+            → StandsAtMemory request input output
         first_stand output writes written = first_at output known.added []
             (sym (append-nil known.added)) writes (written known.added known.wait)
 
         -- It stopped at a stretch of whatever waits.
         abbrev pub StopsAtOne : OutputTold → Fault → Type 0
         StopsAtOne output fault = (waiting : List Stretch) → then_waits waiting
-            → StopsWithin watched.scale watched.patterns (before_turn bytes).stretches waiting
+            → StopsWithin request.job.scale request.patterns (before_turn bytes).stretches waiting
             output.before.written output.now.written fault
 
         -- then no read failed
         reads_good : (result : Result Bool Fault) (output : OutputTold) (fault : Fault)
             → StopsAtOne output fault
             → HasReadCause input.before.faults input.now.faults result
-            → IfErr result (StopsTurn watched.recording watched.limit input.before.file
+            → IfErr result (StopsTurn request.recording request.job.max_bytes input.before.file
             input.now.left bytes
             waits then_waits) → AllReadsGood input
         reads_good (Ok more) output fault one cause stops = cause
@@ -280,135 +355,108 @@ module _ (watched : Watched) (some : 0 < length watched.patterns) where
             ))
 
         -- the telling stopped at a stretch
-        pub EndsTelling-within : (name : List ℕ) (output : OutputTold) (fault : Fault)
+        pub EndsTelling-within : (output : OutputTold) (fault : Fault)
             → HasReadCause input.before.faults input.now.faults fed
-            → IfErr fed (StopsTurn watched.recording watched.limit input.before.file input.now.left
-            bytes
-            waits then_waits)
+            → IfErr fed (StopsTurn request.recording request.job.max_bytes input.before.file
+            input.now.left bytes waits then_waits)
             → HasWriteCause {T = Watch} output.before.faults output.now.faults (Err fault)
             → StopsAtOne output fault
-            → EndsTelling {T = Unit {0}} watched name input output (Err fault)
-        EndsTelling-within name output Write read stops write one =
+            → EndsTelling {T = Unit {0}} request input output (Err fault)
+        EndsTelling-within output Write read stops write one =
             let within = one known.added known.wait in
             let front = within.front in
             let next = within.next in
-            let rest = within.rest in
-            let old = (before_turn bytes).stretches in
-            let told = old ++ front in
+            let told = (before_turn bytes).stretches ++ front in
             let accounts = within.stops.accounts in
-            let behind : now.stretches ≡ told ++ (next ∷ rest ++ known.left) =
-            known.beyond ∙ (ap (λ more. old ++ (more ++ known.left)) within.split
-            ∙ (ap (λ more. old ++ more) (append_assoc front (next ∷ rest) known.left)
-            ∙ sym (append_assoc old front (next ∷ rest ++ known.left)))) in
-            let further : now.stretches ≡ (told ++ next ∷ []) ++ (rest ++ known.left) =
-            behind ∙ sym (append_assoc told (next ∷ []) (rest ++ known.left)) in
-            let more : length (told ++ next ∷ []) ≡ suc (length told) =
-            omega (arith, length-append told (next ∷ [])) in
             record {
-              cause = write;
               reads = reads_good fed output Write one read stops;
-              stands = inl (record {
+              front = blocks_for request accounts told;
+              text = blocks_for request accounts (told ++ next ∷ []);
+              right = inr (record {
                 opened = turn.opened;
-                recording = now;
-                count = length told;
-                prompt = prompt_with (length told) (omega (arith, length-append old front));
-                few = omega (
-                  arith,
-                  ap length behind,
-                  length-append told (next ∷ rest ++ known.left),
-                );
+                told = told;
+                next = next;
+                more = within.rest ++ known.left;
+                prompt = prompt_with front (next ∷ within.rest) within.split;
                 accounts = accounts;
-                are = rw (sym more, front_taken now.stretches (told ++ next ∷ []) _ further)
-                    (rw (
-                      pushed_for asked told next,
-                      quiet_rows watched.patterns (told ++ next ∷ []),
-                    ) at within.stops.are);
-                cut = rw (
-                  front_taken now.stretches told _ behind,
-                  sym more,
-                  front_taken now.stretches (told ++ next ∷ []) _ further,
-                  blocks_for-rows watched.scale accounts told asked some_asked,
-                  blocks_for-rows watched.scale accounts (told ++ next ∷ []) asked some_asked,
-                ) (rw (pushed_for asked told next) at within.stops.cut);
+                are = rw (
+                  pushed_for asked told next,
+                  quiet_rows request.patterns (told ++ next ∷ []),
+                ) at within.stops.are;
+                front_is = refl;
+                text_is = refl;
               });
+              cut = cut_by output _ _ write (rw (
+                blocks_for-rows request.job.scale accounts told asked some_asked,
+                blocks_for-rows request.job.scale accounts (told ++ next ∷ []) asked some_asked,
+              ) (rw (pushed_for asked told next) at within.stops.cut));
             }
-        EndsTelling-within name output Memory read stops write one =
-            let within = one known.added known.wait in
-            record {
-              reads = reads_good fed output Memory one read stops;
-              stands = first_at output within.front (within.next ∷ within.rest) within.split write
-                  within.stops;
-            }
-        EndsTelling-within name output (Trace fault) read stops write one =
+        EndsTelling-within output Memory read stops write one =
+            let within = one known.added known.wait in (
+              reads_good fed output Memory one read stops,
+              first_at output within.front (within.next ∷ within.rest) within.split write
+                  within.stops,
+            )
+        EndsTelling-within output (Trace fault) read stops write one =
             absurd (one known.added known.wait).stops
-        EndsTelling-within name output TooLong read stops write one =
+        EndsTelling-within output TooLong read stops write one =
             absurd (one known.added known.wait).stops
-        EndsTelling-within name output (TooManyZones zones) read stops write one =
+        EndsTelling-within output (TooManyZones zones) read stops write one =
             absurd (one known.added known.wait).stops
-        EndsTelling-within name output Read read stops write one =
+        EndsTelling-within output Read read stops write one =
             absurd (one known.added known.wait).stops
 
       -- all that was taken on was written
       all_stand : (output : OutputTold) (bytes : List ℕ) (decisive : Recording) → waits []
           → TakesOn waits then_waits (before_turn bytes) decisive → AllWritesGood output
-          → AllWritten output bytes → BlocksStand watched decisive.stretches output
-      all_stand output bytes decisive none takes writes written = rw takes.beyond
+          → AllWritten output bytes → StandsSoFar request output decisive.stretches
+      all_stand output bytes decisive none takes writes written =
+          so_far decisive.stretches output (rw takes.beyond
           (stand_by ((before_turn bytes).stretches ++ takes.added) output writes
-          (written takes.added (takes.then [] none)))
+          (written takes.added (takes.then [] none))))
 
       -- the input stopped, and all that it gave was told
       pub EndsTelling-stopped : (input : InputTold) (bytes : List ℕ) (fault : Fault)
-          (name : List ℕ) (output : OutputTold) → IsTurn input bytes (Err fault)
+          (output : OutputTold) → IsTurn input bytes (Err fault)
           → HasReadCause {T = Bool} input.before.faults input.now.faults (Err fault)
           → (IsTrue input.before.sound → fault ≢ Read)
-          → StopsTurn watched.recording watched.limit input.before.file input.now.left bytes waits
-          then_waits
-          fault → (before_turn bytes).fault ≡ None → AllWritesGood output
+          → StopsTurn request.recording request.job.max_bytes input.before.file input.now.left bytes
+          waits then_waits fault → (before_turn bytes).fault ≡ None → AllWritesGood output
           → AllWritten output bytes
-          → EndsTelling {T = Unit {0}} watched name input output (Err fault)
-      EndsTelling-stopped input bytes (Trace fault) name output turn read sound stops none writes
+          → EndsTelling {T = Unit {0}} request input output (Err fault)
+      EndsTelling-stopped input bytes (Trace fault) output turn read sound stops none writes
           written = (
             stops.0,
-            record {
-              opened = turn.opened;
-              cause = stops.1.cause;
-              reads = read;
-              stands = all_stand output bytes _ turn.none stops.1.all writes written;
-            },
+            at_input request (refuses fault) input output (told_reads request.job.mode comes)
+                turn.opened read stops.1.cause
+                (all_stand output bytes _ turn.none stops.1.all writes written),
           )
-      EndsTelling-stopped input bytes TooLong name output turn read sound stops none writes
-          written = record {
-            opened = turn.opened;
-            cause = stops.cause;
-            reads = read;
-            stands = all_stand output bytes _ turn.none stops.all writes written;
-          }
-      EndsTelling-stopped input bytes Read name output turn read sound stops none writes written =
+      EndsTelling-stopped input bytes TooLong output turn read sound stops none writes written =
+          at_input request exceeds input output (told_reads request.job.mode comes) turn.opened read
+          stops.cause
+          (all_stand output bytes _ turn.none stops.all writes written)
+      EndsTelling-stopped input bytes Read output turn read sound stops none writes written =
           record {
-            cause = read;
-            unsound = λ good. absurd (sound good refl);
-            goes_on = record {
-              bytes = bytes;
-              read = were_read input bytes turn.opened stops.front;
-              within = stops.within;
-              faultless = subst (λ all. (watched.recording false all).fault ≡ None)
-                  (take_all watched.limit bytes stops.within) none;
-            };
+            reads_input = told_reads request.job.mode comes;
+            unread = record { cause = read; unsound = λ good. absurd (sound good refl) };
+            bytes = bytes;
+            read = were_read input bytes turn.opened stops.front;
+            within = stops.within;
+            faultless = subst (λ all. (request.recording false all).fault ≡ None)
+                (take_all request.job.max_bytes bytes stops.within) none;
             stands = subst
-                (λ all. BlocksStand watched (watched.recording false all).stretches output)
-                (take_all watched.limit bytes stops.within)
+                (λ all. StandsSoFar request output (request.recording false all).stretches)
+                (take_all request.job.max_bytes bytes stops.within)
+                (so_far (before_turn bytes).stretches output
                 (stand_by (before_turn bytes).stretches output writes
                 (rw (append-nil (before_turn bytes).stretches) at
-                (written [] (stops.kept.same [] turn.none))));
+                (written [] (stops.kept.same [] turn.none)))));
           }
-      EndsTelling-stopped input bytes Memory name output turn read sound stops none writes
-          written = record {
-            reads = read;
-            stands = first_stand input bytes (Err Memory) turn output writes written;
-          }
-      EndsTelling-stopped input bytes (TooManyZones zones) name output turn read sound stops none
+      EndsTelling-stopped input bytes Memory output turn read sound stops none writes written =
+          (read, first_stand input bytes (Err Memory) turn output writes written)
+      EndsTelling-stopped input bytes (TooManyZones zones) output turn read sound stops none
           writes written = absurd stops
-      EndsTelling-stopped input bytes Write name output turn read sound stops none writes written =
+      EndsTelling-stopped input bytes Write output turn read sound stops none writes written =
           absurd stops
 
   -- the rows of a recording with its ends are its traces
@@ -420,13 +468,13 @@ module _ (watched : Watched) (some : 0 < length watched.patterns) where
   lines_whole said (pattern ∷ patterns) =
       ap (λ rest. trace_for said pattern.names ∷ rest) (lines_whole said patterns)
 
-  module _ (input : InputTold) (name bytes : List ℕ) (laws : HasLaws watched.recording)
+  module _ (input : InputTold) (bytes : List ℕ) (laws : HasLaws request.recording)
       (front : Consumes input.before.file input.now.left bytes) (all_read : IsAtEnd input.now.left)
-      (within : length bytes ≤ watched.limit)
-      (whole : (watched.recording true bytes).fault ≡ None) (opened : input.now.opened ≡ true) where
+      (within : length bytes ≤ request.job.max_bytes)
+      (whole : (request.recording true bytes).fault ≡ None) (opened : input.now.opened ≡ true) where
     -- what all bytes say
     abbrev pub said : Recording
-    said = watched.recording true bytes
+    said = request.recording true bytes
 
     -- its rows, and the events at their ends
     abbrev pub whole_rows : List (List Segment)
@@ -437,57 +485,51 @@ module _ (watched : Watched) (some : 0 < length watched.patterns) where
 
     -- the text of accounts that are closed is right
     right_text : (accounts : List Account)
-        → AreAccounts watched.patterns (timelines whole_rows whole_lasts) accounts
+        → AreAccounts request.patterns (timelines whole_rows whole_lasts) accounts
         → All IsClosing accounts
-        → IsOnlineAnswer watched bytes (blocks_text watched.scale accounts (first_row whole_rows)
-        ++ ending_text watched.scale accounts (first_row whole_rows))
+        → IsOnlineAnswer request bytes
+        (blocks_text request.job.scale accounts (first_row whole_rows))
+        (blocks_text request.job.scale accounts (first_row whole_rows)
+        ++ ending_text request.job.scale accounts (first_row whole_rows))
     right_text accounts are closed = record {
-      traces = map (λ pattern. trace_for said pattern.names) watched.patterns;
+      traces = map (λ pattern. trace_for said pattern.names) request.patterns;
       are = record {
         within = within;
         whole = whole;
         are = refl;
         are_traces = All-map (λ (trace : Timeline). IsTrace trace.segments)
-            (λ (pattern : Sought). trace_for said pattern.names) watched.patterns
+            (λ (pattern : Sought). trace_for said pattern.names) request.patterns
             (λ k d below. laws.is_trace _ true bytes);
       };
       accounts = accounts;
-      told = subst (λ all. AreAccounts watched.patterns all accounts)
-          (lines_whole said watched.patterns) are;
+      told = subst (λ all. AreAccounts request.patterns all accounts)
+          (lines_whole said request.patterns) are;
       closed = closed;
-      printed = rw (
-        blocks_for-rows watched.scale accounts said.stretches asked some_asked,
-        ending_for-rows watched.scale accounts said.stretches asked some_asked,
-      ) refl;
+      front_is = sym (blocks_for-rows request.job.scale accounts said.stretches asked some_asked);
+      text_is = rw (ending_for-rows request.job.scale accounts said.stretches asked some_asked) refl;
     }
+
+    -- it is so of all bytes
+    tells_whole : (accounts : List Account) → AllReadsGood input
+        → AreAccounts request.patterns (timelines whole_rows whole_lasts) accounts
+        → All IsClosing accounts → TellsWhole request input
+        (blocks_text request.job.scale accounts (first_row whole_rows))
+        (blocks_text request.job.scale accounts (first_row whole_rows)
+        ++ ending_text request.job.scale accounts (first_row whole_rows))
+    tells_whole accounts reads are closed =
+        (all_read, of_all input bytes _ opened front all_read reads (right_text accounts are closed))
 
     -- all was told, with what the end completes
     pub EndsTelling-done : (output : OutputTold) → AllReadsGood input → AllWritesGood output
-        → HasClosed watched.scale watched.patterns whole_rows (timelines whole_rows whole_lasts)
-        output.before.written output.now.written
-        → EndsTelling {T = Unit {0}} watched name input output (Ok tt)
+        → HasClosed request.job.scale request.patterns whole_rows
+        (timelines whole_rows whole_lasts) output.before.written output.now.written
+        → EndsTelling {T = Unit {0}} request input output (Ok tt)
     EndsTelling-done output reads writes told = record {
       reads = reads;
+      front = _;
       text = _;
-      right = record {
-        bytes = bytes;
-        all = all_bytes input bytes opened front all_read;
-        is_so = right_text told.accounts told.are told.closed;
-      };
-      writes = writes;
-      written = told.written;
-    }
-
-    -- all was told, and a write failed within what the end completes
-    end_is_cut : (output : OutputTold)
-        → ClosingIsCut watched.scale watched.patterns whole_rows
-        (timelines whole_rows whole_lasts) output.before.written output.now.written
-        → AnswerIsCut watched output bytes
-    unfolding right_text
-    end_is_cut output cut = record {
-      text = _;
-      right = right_text cut.accounts cut.are cut.closed;
-      cut = rw (blocks_for-rows watched.scale cut.accounts said.stretches asked some_asked) cut.cut;
+      right = tells_whole told.accounts reads told.are told.closed;
+      written = record { writes = writes; written = told.written };
     }
 
     -- all was told, and what the end completes wasn't, or not all of it
@@ -497,25 +539,24 @@ module _ (watched : Watched) (some : 0 < length watched.patterns) where
         (fault : Fault) → AllReadsGood input
         → HasWriteCause {T = Unit {0}} output.before.faults output.now.faults (Err fault)
         → ((waiting : List Stretch) → then_waits waiting
-        → StopsAtEnd watched.scale watched.patterns
+        → StopsAtEnd request.job.scale request.patterns
         (rows_for asked ((before_turn bytes).stretches ++ waiting))
         (timelines (rows_for asked ((before_turn bytes).stretches ++ waiting)) whole_lasts)
         output.before.written output.now.written fault)
-        → EndsTelling {T = Unit {0}} watched name input output (Err fault)
-    EndsTelling-cut waits then_waits fed turn takes output Write reads write stops = record {
-      cause = write;
-      reads = reads;
-      stands = inr (record {
-        bytes = bytes;
-        all = all_bytes input bytes opened front all_read;
-        is_so = end_is_cut output (rw (sym takes.beyond) at
-            (stops takes.added (takes.then [] turn.none)));
-      });
-    }
-    EndsTelling-cut waits then_waits fed turn takes output Memory reads write stops = record {
-      reads = reads;
-      stands = first_stand waits then_waits laws input bytes fed turn output write stops;
-    }
+        → EndsTelling {T = Unit {0}} request input output (Err fault)
+    EndsTelling-cut waits then_waits fed turn takes output Write reads write stops =
+        let cut : ClosingIsCut request.job.scale request.patterns whole_rows
+        (timelines whole_rows whole_lasts) output.before.written output.now.written =
+        rw (sym takes.beyond) at (stops takes.added (takes.then [] turn.none)) in
+        record {
+          reads = reads;
+          front = _;
+          text = _;
+          right = inl (tells_whole cut.accounts reads cut.are cut.closed);
+          cut = cut_by output _ _ write cut.cut;
+        }
+    EndsTelling-cut waits then_waits fed turn takes output Memory reads write stops =
+        (reads, first_stand waits then_waits laws input bytes fed turn output write stops)
     EndsTelling-cut waits then_waits fed turn takes output (Trace fault) reads write stops =
         absurd (stops takes.added (takes.then [] turn.none))
     EndsTelling-cut waits then_waits fed turn takes output TooLong reads write stops =

@@ -1,64 +1,93 @@
--- How the telling of an input ends.
-use Rattle.std.specs.Prelude.{◌≡◌, ◌≢◌, ◌⊎◌, ℕ, false, List, Some, IsTrue, Result, Ok, Err}
-use Rattle.std.specs.Io.KnownBytes.{Appends}
-use Rattle.tre_feed.specs.Input.{InputTold, AllReadsGood, OfAllBytes}
+-- How the answering of a request ends that is told as its input comes, what each end means, and what
+-- was written.
+use Rattle.std.specs.Prelude.{◌≡◌, ◌⊎◌, ℕ, ◌≤◌, Bool, true, false, List, None, IsTrue, MatchBool, length, Result, Ok, Err}
+use Rattle.std.specs.Io.KnownBytes.{IsAtEnd}
+use Rattle.tre_feed.specs.Front.{IsUnreadable}
+use Rattle.tre_feed.specs.Input.{InputTold, AllReadsGood, WereRead}
+use Rattle.tre_feed.specs.Comes.{Outcome, refuses, exceeds}
 use Rattle.tre_feed.specs.Outcome.{IsInputKind}
-use Rattle.tre_feed.specs.Comes.{InputComesTo, MayGoOn, Outcome, refuses, exceeds, recording_within}
-use Rattle.tre_io.specs.Faults.{count_after}
-use Rattle.tre_tell.specs.Outputs.{OutputTold, AllWritesGood}
-use Rattle.tre_tell.specs.Standing.{BlocksStand, FirstBlocksStand, BlockIsCut, IsOnlineAnswer, EndIsCut}
-use Rattle.tre_tell.specs.Watched.{Watched}
 use Rattle.tre_feed.specs.declared.fault.Fault.{Fault}
 use Rattle.tre_feed.specs.declared.fault.Fault.TheVariants.{Trace, TooLong, Read, Write, Memory}
+use Rattle.tre_trace.specs.Reading.{Stretch}
+use Rattle.tre_words.specs.declared.job.Mode.{Mode}
+use Rattle.tre_words.specs.declared.job.Mode.TheVariants.{Online, Show, Generate, Watch}
+use Rattle.tre_tell.specs.Online.{BlocksStand, IsPrompt, IsNextBlock, IsOnlineAnswer}
+use Rattle.tre_tell.specs.Outputs.{OutputTold, NothingWritten}
+use Rattle.tre_tell.specs.Request.{Request, whole_recording, outcome_for}
+use Rattle.tre_tell.specs.Streams.{OfBytes, WroteText, WroteFront}
+
+abbrev pub ReadsInput : Mode → Type 0
+ReadsInput Show = ⊥
+ReadsInput (Generate count) = ⊥
+ReadsInput mode = Unit {0}
+
+-- whether the text is written as the input comes, and not at once
+abbrev pub as_it_comes : Mode → Bool
+as_it_comes Online = true
+as_it_comes (Watch file) = true
+as_it_comes mode = false
+
+-- What stands of a text that isn't whole: nothing, or these blocks if it is written as it comes.
+abbrev pub StandsSoFar : Request → OutputTold → List Stretch → Type 0
+StandsSoFar request output stretches = MatchBool (as_it_comes request.job.mode)
+    (BlocksStand request output stretches) (NothingWritten output)
+
+-- The input has a first fault, or is too long. The blocks of all stretches before that stand there.
+pub record EndsAtInput (outcome : Outcome) (request : Request) (input : InputTold)
+    (output : OutputTold) : Type 0 where
+  pub reads_input : ReadsInput request.job.mode
+  pub stretches : List Stretch
+  pub comes : OfBytes input (λ bytes. (outcome_for request bytes ≡ outcome)
+      × ((whole_recording request bytes).stretches ≡ stretches))
+  pub stands : StandsSoFar request output stretches
+
+-- The job's input couldn't be read. What was read before has no fault, and is within the limit.
+pub record EndsReadFault (request : Request) (input : InputTold) (output : OutputTold) : Type 0
+  where
+    pub reads_input : ReadsInput request.job.mode
+    pub unread : IsUnreadable request.job.input input
+    pub bytes : List ℕ
+    pub read : WereRead input bytes
+    pub within : length bytes ≤ request.job.max_bytes
+    pub faultless : (request.recording false bytes).fault ≡ None
+    pub stands : StandsSoFar request output (request.recording false bytes).stretches
+
+-- Where memory was wanting there stand the blocks of some first stretches, which may be all.
+abbrev pub StandsAtMemory : Request → InputTold → OutputTold → Type 0
+StandsAtMemory request input output = (told more : List Stretch) × StandsSoFar request output told
+    × (IsTrue (as_it_comes request.job.mode) → IsPrompt request input told more)
+
+-- ---- what the telling promises
+
+-- The input was read to its end, and the text tells all of it, behind this front.
+abbrev pub TellsWhole : Request → InputTold → List ℕ → List ℕ → Type 0
+TellsWhole request input front text =
+    IsAtEnd input.now.left × OfBytes input (λ bytes. IsOnlineAnswer request bytes front text)
 
 -- The whole input was told, with what its end completes.
-pub record IsTold (watched : Watched) (input : InputTold) (output : OutputTold) : Type 0 where
+pub record IsTold (request : Request) (input : InputTold) (output : OutputTold) : Type 0 where
   pub reads : AllReadsGood input
+  pub front : List ℕ
   pub text : List ℕ
-  pub right : OfAllBytes input (λ bytes. IsOnlineAnswer watched bytes text)
-  pub writes : AllWritesGood output
-  pub written : Appends output.before.written output.now.written text
+  pub right : TellsWhole request input front text
+  pub written : WroteText output text
 
--- The bytes of the input come to this, which is no trace, and all blocks before that were told.
-pub record IsToldToFault (watched : Watched) (input : InputTold) (output : OutputTold)
-    (outcome : Outcome) : Type 0 where
-  pub opened : IsTrue input.now.opened
-  pub cause : InputComesTo watched.recording watched.limit input.before.file input.now.left outcome
+-- A write failed, within the block of a stretch or behind all blocks.
+pub record IsCut (request : Request) (input : InputTold) (output : OutputTold) : Type 0 where
   pub reads : AllReadsGood input
-  pub stands : BlocksStand watched
-      (recording_within watched.recording watched.limit cause.bytes).stretches output
+  pub front : List ℕ
+  pub text : List ℕ
+  pub right : TellsWhole request input front text ⊎ IsNextBlock request input front text
+  pub cut : WroteFront output front text
 
--- The input of this name couldn't be opened, or a read failed where it might go on: one failure was
--- counted, and a source that is sound under the name has none. All that was complete was told.
-pub record IsToldToFailedRead (watched : Watched) (name : List ℕ) (input : InputTold)
-    (output : OutputTold) : Type 0 where
-  pub cause : input.now.faults ≡ count_after input.before.faults
-  pub unsound : IsTrue input.before.sound → input.before.name ≢ Some name
-  pub goes_on : MayGoOn watched.recording watched.limit input
-  pub stands : BlocksStand watched (watched.recording false goes_on.bytes).stretches output
-
--- A write failed, within the block of a segment or behind all blocks: one failure was counted.
-pub record IsToldToFailedWrite (watched : Watched) (input : InputTold) (output : OutputTold)
-    : Type 0 where
-  pub cause : output.now.faults ≡ count_after output.before.faults
-  pub reads : AllReadsGood input
-  pub stands : BlockIsCut watched input output ⊎ EndIsCut watched input output
-
--- Memory was wanting. No failure was counted, and the blocks of some first stretches of those read
--- stand there: they may be all, and are at least those that were complete when the last read began.
-pub record IsToldToMemory (watched : Watched) (input : InputTold) (output : OutputTold) : Type 0
-  where
-    pub reads : AllReadsGood input
-    pub stands : FirstBlocksStand watched input output
-
--- How the telling of an input of this name ends: with its end, or with each of the faults.
-abbrev pub EndsTelling : {T : Type 0} → Watched → List ℕ → InputTold → OutputTold →
-    Result T Fault → Type 0
-EndsTelling watched name input output (Ok value) = IsTold watched input output
-EndsTelling watched name input output (Err (Trace fault)) =
-    IsInputKind fault.kind × IsToldToFault watched input output (refuses fault)
-EndsTelling watched name input output (Err TooLong) = IsToldToFault watched input output exceeds
-EndsTelling watched name input output (Err Read) = IsToldToFailedRead watched name input output
-EndsTelling watched name input output (Err Write) = IsToldToFailedWrite watched input output
-EndsTelling watched name input output (Err Memory) = IsToldToMemory watched input output
-EndsTelling watched name input output (Err fault) = ⊥
+-- How the telling of what is asked ends: with its end, or with each of the faults.
+abbrev pub EndsTelling : {T : Type 0} → Request → InputTold → OutputTold → Result T Fault → Type 0
+EndsTelling request input output (Ok value) = IsTold request input output
+EndsTelling request input output (Err (Trace fault)) =
+    IsInputKind fault.kind × EndsAtInput (refuses fault) request input output
+EndsTelling request input output (Err TooLong) = EndsAtInput exceeds request input output
+EndsTelling request input output (Err Read) = EndsReadFault request input output
+EndsTelling request input output (Err Write) = IsCut request input output
+EndsTelling request input output (Err Memory) =
+    AllReadsGood input × StandsAtMemory request input output
+EndsTelling request input output (Err fault) = ⊥

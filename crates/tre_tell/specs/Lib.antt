@@ -1,12 +1,13 @@
--- What a reader must believe: what is looked for and what the bytes say, what is told of it, what
--- stands in the output, and how that ends.
+-- What a reader must believe: what is asked of an input and what its bytes say, what is told of it,
+-- what was read and written, what stands in the output, and how that ends.
 pub mod Sought
-pub mod Watched
+pub mod Request
 pub mod Transcript
 pub mod Blocks
 pub mod OnlineText
 pub mod Outputs
-pub mod Standing
+pub mod Streams
+pub mod Online
 pub mod Ends
 -- What the functions inside promise each other.
 pub mod Printed

@@ -2,14 +2,12 @@
 
 ghost use Rattle.std.specs.Prelude.{◌≡◌, ◌++◌, ◌∷◌, ℕ, Bool, false, List, [], Option, None, Some, length, map};
 ghost use Rattle.tre_feed.specs.Input.{InputTold};
-ghost use Rattle.tre_syntax.specs.declared.pattern.Pattern.{Pattern};
 ghost use Rattle.tre_tell.specs.Blocks.{blocks_text, ending_text};
 ghost use Rattle.tre_tell.specs.Transcript.{Account};
+ghost use Rattle.tre_tell.specs.Ends.{StandsAtMemory};
 ghost use Rattle.tre_tell.specs.OnlineText.{AreBlocksOf, AreWatched, online_text};
 ghost use Rattle.tre_tell.specs.Outputs.{OutputTold, NothingWritten};
-ghost use Rattle.tre_tell.specs.Standing.{FirstBlocksStand};
-ghost use Rattle.tre_tell.specs.Watched.{watched_by};
-ghost use Rattle.tre_trace.specs.Reading.{Recording};
+ghost use Rattle.tre_tell.specs.Request.{Request};
 ghost use Rattle.tre_trace.specs.declared.segment.Segment.{Segment};
 ghost use Rattle.tre_zone.specs.declared.zone_bounds.ZoneBounds.{ZoneBounds};
 
@@ -90,9 +88,7 @@ pub fn one_watch_text()
 /// Of an input that wasn't opened nothing is told: where nothing was written, all its blocks stand
 /// there, which are none.
 pub fn nothing_told()
-    ensures { (labels : List (List ℕ)) (patterns : List Pattern)
-        (recording : Bool → List ℕ → Recording) (limit scale : ℕ) (input : InputTold)
-        (output : OutputTold) → (recording false []).stretches ≡ [] → input.now.opened ≡ false →
-        NothingWritten output →
-        FirstBlocksStand (watched_by labels patterns recording limit scale) input output }
+    ensures { (request : Request) (input : InputTold) (output : OutputTold) →
+        (request.recording false []).stretches ≡ [] → input.now.opened ≡ false →
+        NothingWritten output → StandsAtMemory request input output }
 {}

@@ -3,13 +3,13 @@
 //!
 //! [`tell_matches`] reads the input piece by piece, gives each stretch to a watch, for the names of
 //! each pattern, and writes its block as soon as it is read. The layer above may rely on how a
-//! telling ends (specs/Ends.antt) and on what then stands in the output (specs/Standing.antt): what
+//! telling ends (specs/Ends.antt) and on what then stands in the output (specs/Online.antt): what
 //! is told of each pattern is what would be told of it alone (specs/Transcript.antt), and no block
 //! is held back.
 //!
 //! ```text
 //! let mut input = text_input(alloc, &patterns, 0, limit)?; // read for the names of each
-//! tell_matches(alloc, "-", &patterns, &labels, 0, &mut input, &mut source, &mut out)?;
+//! tell_matches(alloc, &job, &patterns, &labels, &mut input, &mut source, &mut out)?;
 //! ```
 #![tactic(auto)]
 

@@ -1,15 +1,15 @@
 // An input that is told as it comes: a block for each stretch, and what its end completes.
-ghost use Rattle.std.specs.Prelude.{◌≡◌, ◌≤◌, ◌<◌, ◌+◌, ◌++◌, ℕ, List, Option, IsTrue, IfOk, IfErr, IfSome, false, length, map, string_bytes};
+ghost use Rattle.std.specs.Prelude.{◌≡◌, ◌≤◌, ◌<◌, ◌+◌, ◌++◌, ℕ, List, Option, IsTrue, IfOk, IfErr, IfSome, false, true, length, map, string_bytes};
 ghost use Rattle.tre_decimal.specs.declared.TheConstants.{SCALE_MAX};
 ghost use Rattle.tre_feed.specs.Input.{input_told, TakesAtMost};
 ghost use Rattle.tre_feed.specs.Standing.{Asks, IsNew, Wait, limit_of, recording_of};
 ghost use Rattle.tre_online.specs.Watch.{trees_of};
 ghost use Rattle.tre_syntax.specs.Pattern.{names_of};
-ghost use Rattle.tre_tell.specs.Ends.{EndsTelling};
+ghost use Rattle.tre_tell.specs.Ends.{EndsTelling, as_it_comes};
 ghost use Rattle.tre_tell.specs.Outputs.{output_told};
+ghost use Rattle.tre_tell.specs.Request.{request_by};
 ghost use Rattle.tre_tell.specs.Sought.{Sought, all_names};
 ghost use Rattle.tre_tell.specs.Telling.{rows_for, CanTellWaiting, HasTold, StopsWithin, HasWriteCause};
-ghost use Rattle.tre_tell.specs.Watched.{watched_by};
 ghost use Rattle.tre_trace.specs.Reading.{Stretch};
 
 use crate::block::{tell_block, tell_end};
@@ -19,6 +19,7 @@ use tre_io::{Sink, Source};
 use tre_online::Watch;
 use tre_syntax::Pattern;
 use tre_trace::{Segment, TraceReader};
+use tre_words::Job;
 
 // Room that each column and each text is made in.
 #[derive(Drop)]
@@ -71,46 +72,47 @@ fn tell_blocks<R: TraceReader + Drop, O: Sink>(
     Ok(watch)
 }
 
-/// Tells the patterns as the input comes from the source of this name: the block of each stretch,
-/// as soon as it is read, and at the end what that completes. The input is read for the names of
-/// each pattern, and each has its label, at its place.
+/// Tells the patterns of a job as its input comes from the source: the block of each stretch, as
+/// soon as it is read, and at the end what that completes. The input is read for the names of each
+/// pattern, and each has its label, at its place.
 pub fn tell_matches<S: Source, R: TraceReader + Drop, O: Sink>(
     alloc: Global,
-    name: &str,
+    job: &Job,
     patterns: &[Pattern],
     labels: &[String],
-    scale: u8,
     input: &mut Input<R>,
     source: &mut S,
     out: &mut O,
 ) -> Result<(), Fault>
     requires closed { (S.told source.old).opened ≡ false }
-    requires scale { scale ≤ SCALE_MAX }
+    requires comes { as_it_comes job.now.mode ≡ true }
+    requires scale { job.now.scale ≤ SCALE_MAX }
     requires some { 0 < length patterns.now }
     requires labels { length labels.now ≡ length patterns.now }
+    requires limit { limit_of input.old ≡ job.now.max_bytes }
     requires asks { Asks R.names input.old (map names_of patterns.now) }
     requires new { IsNew R.terms R.represents R.names input.old }
-    ensures ends { EndsTelling (watched_by (map string_bytes labels.now) patterns.now
-        (recording_of R.recording R.terms input.old) (limit_of input.old) scale) name.now
+    ensures ends { EndsTelling (request_by job.now (map string_bytes labels.now) patterns.now
+        (recording_of R.recording R.terms input.old))
         (input_told (S.told source.old) (S.told source.new))
         (output_told (O.told out.old) (O.told out.new)) result }
     ensures bounded { IsTrue (S.told source.new).opened →
-        TakesAtMost (limit_of input.old + 1) (S.told source.old).file (S.told source.new).left }
+        TakesAtMost (job.now.max_bytes + 1) (S.told source.old).file (S.told source.new).left }
     ensures by_name { IsTrue (S.told source.new).opened →
-        IfSome (S.told source.old).name (λ told. told ≡ name.now) }
+        IfSome (S.told source.old).name (λ told. told ≡ job.now.input) }
 {
     let mut watch = Watch::new(alloc, patterns)?;
     let mut room = Room::new(alloc);
-    input.open(name, source)?;
+    input.open(job.input.text(), source)?;
     loop {
         let read = input.next(source);
-        watch = tell_blocks(labels, scale, input, watch, &mut room, out)?;
+        watch = tell_blocks(labels, job.scale, input, watch, &mut room, out)?;
         input.clear();
         if !read? {
             break;
         }
     }
     let lasts = input.lasts(alloc)?;
-    tell_end(&lasts, labels, scale, watch, &mut room.text, out)?;
+    tell_end(&lasts, labels, job.scale, watch, &mut room.text, out)?;
     Ok(())
 }

@@ -1,7 +1,7 @@
 -- What a job asks for, by its mode.
 use Rattle.std.proofs.Common.{◌≡◌, ◌≢◌, ℕ, List, true, Option, None, Some, IfSome, refl, sym, ◌∙◌, subst}
 use Rattle.std.specs.Prelude.{is_some}
-use Rattle.tre_answer.specs.Ends.{ReadsInput}
+use Rattle.tre_tell.specs.Ends.{ReadsInput}
 use Rattle.tre_feed.specs.Input.{AllReadsGood, InputTold}
 use Rattle.tre_tell.specs.Sought.{Sought}
 use Rattle.tre_tool.specs.Checks.{ChecksWereRead, SayPatterns}

@@ -2,14 +2,15 @@
 use Rattle.std.proofs.Common.{◌≡◌, ◌∙◌, ℕ, Bool, true, false, List, [], All, Some, Ok, Err, ap, sym, subst, ⊎_elim, arith}
 use Rattle.std.specs.Prelude.{IsTrue, MatchBool, option_map}
 use Rattle.std.proofs.lemmas.Bool.Decides.{when_true}
-use Rattle.tre_answer.specs.Ends.{ReadsInput, as_it_comes, IsAnswerIn, EndsOver, StandsAtMemory}
-use Rattle.tre_answer.specs.Online.{BlocksStand}
-use Rattle.tre_answer.specs.Request.{Request}
+use Rattle.tre_answer.specs.Ends.{IsAnswerIn, EndsOver}
 use Rattle.tre_feed.specs.declared.fault.Fault.TheVariants.{Trace as FaultTrace, TooLong as FaultTooLong, TooManyZones as FaultTooMany, Read as FaultRead, Write as FaultWrite, Memory as FaultMemory}
 use Rattle.tre_feed.specs.Input.{InputTold}
 use Rattle.tre_generate.specs.FixedPattern.{fixed_tree, fixed_vocabulary}
 use Rattle.tre_generate.specs.Summary.{IsSummary}
+use Rattle.tre_tell.specs.Ends.{ReadsInput, as_it_comes, StandsAtMemory}
+use Rattle.tre_tell.specs.Online.{BlocksStand}
 use Rattle.tre_tell.specs.Outputs.{OutputTold, NothingWritten}
+use Rattle.tre_tell.specs.Request.{Request}
 use Rattle.tre_watch.specs.Outcome.{Outcome}
 use Rattle.tre_words.specs.Job.{GivesJob, made_count, made_job}
 use Rattle.tre_words.specs.declared.job.Job.{Job}

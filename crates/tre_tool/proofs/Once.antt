@@ -1,11 +1,13 @@
 -- What words and a file of checks ask for is one thing. `Says` and `Tells` are two ways to say what
 -- the file comes to, and `same` that they agree on it.
-use Rattle.std.proofs.Common.{◌≡◌, ℕ, List, refl, sym, ◌∙◌, subst, ⊎_elim, ap}
-use Rattle.tre_answer.specs.Request.{Request}
+use Rattle.std.proofs.Common.{◌≡◌, ℕ, Bool, List, refl, sym, ◌∙◌, subst, ⊎_elim, ap}
+use Rattle.tre_answer.specs.Recorded.{recording_in}
 use Rattle.tre_define.specs.Signals.{SignalDefined}
 use Rattle.tre_define.specs.declared.let_fault.LetFault.{LetFault}
 use Rattle.tre_num.specs.Defined.{Defined}
+use Rattle.tre_tell.specs.Request.{Request}
 use Rattle.tre_tell.specs.Sought.{Sought}
+use Rattle.tre_trace.specs.Reading.{Recording}
 use Rattle.tre_watch.specs.Outcome.{Outcome, planned, faulty}
 use Rattle.tre_watch.specs.declared.fault.WatchFault.{WatchFault}
 use Rattle.tre_words.specs.declared.job.Job.{Job}
@@ -140,9 +142,14 @@ module _ (Says Tells : Meaning) (same : Agree Says Tells) where
 -- ---- words
 
 -- a request by its parts
-request_of : Job → List Sought → List Defined → List SignalDefined → Request
-request_of job patterns lets signals =
-    record { job = job; patterns = patterns; lets = lets; signals = signals }
+request_of : Job → List Sought → (Bool → List ℕ → Recording) → Request
+request_of job patterns recording =
+    record { job = job; patterns = patterns; recording = recording }
+
+-- what bytes say for a job, by the definitions of names
+recorded_by : Job → List Sought → List Defined → List SignalDefined → Bool → List ℕ → Recording
+recorded_by job patterns lets signals =
+    recording_in job.format job.scale patterns lets signals
 
 -- They give one job.
 abbrev pub GiveOne : (Job → Type 0) → Type 0
@@ -150,24 +157,36 @@ GiveOne Gives = (job other : Job) → Gives job → Gives other → job ≡ othe
 
 module _ (Gives : Job → Type 0) (once : GiveOne Gives) (Says Tells : Meaning)
     (same : Agree Says Tells) where
+  -- their definitions are the same
+  pub definitions_same : (one other : Request) (asks : AsksFor Gives Says one)
+      (again : AsksFor Gives Tells other)
+      → (asks.lets ≡ again.lets) × (asks.signals ≡ again.signals)
+  definitions_same one other asks again =
+      definitions_once other.job asks.lets again.lets asks.signals again.signals
+      (subst (λ (j : Job). AreDefinitions j asks.lets asks.signals)
+      (once one.job other.job asks.gives again.gives) asks.definitions) again.definitions
+
   -- they ask for one thing
   pub request_once : (one other : Request) → AsksFor Gives Says one → AsksFor Gives Tells other
       → one ≡ other
-  unfolding request_of
-  request_once one other asks asks' =
-      let same_job = once one.job other.job asks.gives asks'.gives in
+  unfolding request_of recorded_by
+  request_once one other asks again =
+      let same_job = once one.job other.job asks.gives again.gives in
       let patterns = subst (λ (j : Job). ArePatterns j.mode Says j one.patterns) same_job
       asks.patterns in
       let same_patterns = patterns_once Says Tells same other.job.mode other.job one.patterns
-      other.patterns patterns asks'.patterns in
-      let definitions = subst (λ (j : Job). AreDefinitions j one.lets one.signals) same_job
-      asks.definitions in
-      let same_lets = definitions_once other.job one.lets other.lets one.signals other.signals
-      definitions asks'.definitions in
-      ap (λ j. request_of j one.patterns one.lets one.signals) same_job
-      ∙ (ap (λ p. request_of other.job p one.lets one.signals) same_patterns
-      ∙ (ap (λ l. request_of other.job other.patterns l one.signals) same_lets.0
-      ∙ ap (λ s. request_of other.job other.patterns other.lets s) same_lets.1))
+      other.patterns patterns again.patterns in
+      let defined = definitions_same one other asks again in
+      let same_recording : one.recording ≡ other.recording =
+      asks.recorded
+      ∙ (ap (λ j. recorded_by j one.patterns asks.lets asks.signals) same_job
+      ∙ (ap (λ p. recorded_by other.job p asks.lets asks.signals) same_patterns
+      ∙ (ap (λ l. recorded_by other.job other.patterns l asks.signals) defined.0
+      ∙ (ap (λ s. recorded_by other.job other.patterns again.lets s) defined.1
+      ∙ sym again.recorded)))) in
+      ap (λ j. request_of j one.patterns one.recording) same_job
+      ∙ (ap (λ p. request_of other.job p one.recording) same_patterns
+      ∙ ap (λ r. request_of other.job other.patterns r) same_recording)
 
   -- what is so of it
   pub the_request : (request other : Request) (IsSo : Request → Type 0)
@@ -181,7 +200,7 @@ module _ (Gives : Job → Type 0) (once : GiveOne Gives) (Says Tells : Meaning)
   asked_or_refused request refusal asks told =
       let same_job = once told.job request.job told.gives asks.gives in
       patterns_or_refused Says Tells same request.job.mode request.job refusal request.patterns
-      request.lets request.signals asks.patterns asks.definitions
+      asks.lets asks.signals asks.patterns asks.definitions
       (subst (λ (j : Job). IsRefusalIn j.mode Tells j refusal) same_job told.refuses)
 
   -- they are refused in one way

@@ -1,8 +1,8 @@
 -- The end of a run by the parts that it is made of.
 use Rattle.std.proofs.Common.{◌≡◌, ◌≢◌, List, ℕ, ◌≤◌, length, arith, Option, None, Some, IfSome, Result, Ok, Err, OnOk, OnErr, refl, sym, subst, inl, inr}
 use Rattle.std.specs.Io.KnownBytes.{Appends, Consumes}
-use Rattle.tre_answer.specs.Ends.{ReadsInput, EndsOver, EndsDone}
-use Rattle.tre_answer.specs.Request.{Request, request_for, sought_in}
+use Rattle.tre_answer.specs.Ends.{EndsOver, EndsDone}
+use Rattle.tre_answer.specs.Request.{request_for, sought_in}
 use Rattle.tre_answer.specs.declared.asked.Asked.{Asked}
 use Rattle.tre_answer.specs.declared.asked.Definitions.{Definitions as Meanings}
 use Rattle.tre_feed.specs.declared.fault.Fault.{Fault}
@@ -12,7 +12,9 @@ use Rattle.tre_feed.specs.Input.{InputTold, AllReadsGood, TakesAtMost}
 use Rattle.tre_io.specs.Faults.{HasCause}
 use Rattle.tre_io.specs.Written.{AppendsPart}
 use Rattle.tre_io.specs.declared.faults.Failed.{Failed}
+use Rattle.tre_tell.specs.Ends.{ReadsInput}
 use Rattle.tre_tell.specs.Outputs.{OutputTold}
+use Rattle.tre_tell.specs.Request.{Request}
 use Rattle.tre_watch.specs.Outcome.{Outcome}
 use Rattle.tre_words.specs.Job.{GivesJob}
 use Rattle.tre_words.specs.declared.job.Job.{Job}
@@ -48,7 +50,10 @@ pub AsksFor-of : (Gives : Job → Type 0) (Says : ℕ → Outcome → Type 0) (j
 AsksFor-of Gives Says job meanings asked gives patterns definitions = record {
   gives = gives;
   patterns = patterns;
+  lets = meanings.columns.items;
+  signals = meanings.signals.items;
   definitions = definitions;
+  recorded = refl;
 }
 
 -- ---- before the input is looked at

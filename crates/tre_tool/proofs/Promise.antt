@@ -1,16 +1,18 @@
 -- What the end of a run says of each part of its promise.
-use Rattle.std.proofs.Common.{◌≡◌, ℕ, List, Option, None, Some, IfSome, Ok, Err, length, refl, sym, subst, inl, inr, arith}
-use Rattle.tre_answer.specs.Ends.{ReadsInput, IsAnswerIn, EndsOver}
-use Rattle.tre_answer.specs.Recorded.{AreReadAs, outcome_for}
-use Rattle.tre_answer.specs.Request.{Request}
+use Rattle.std.specs.Prelude.{nat_le}
+use Rattle.std.proofs.Common.{◌≡◌, ◌∙◌, ℕ, Bool, true, List, Option, None, Some, IfSome, Ok, Err, length, refl, sym, ap, subst, inl, inr, arith}
+use Rattle.tre_answer.specs.Ends.{IsAnswerIn, EndsOver}
 use Rattle.tre_feed.specs.declared.fault.Fault.TheVariants.{Trace as FaultTrace, TooLong as FaultTooLong, TooManyZones as FaultTooMany, Read as FaultRead, Write as FaultWrite, Memory as FaultMemory}
 use Rattle.tre_feed.specs.Input.{InputTold}
-use Rattle.tre_feed.specs.Comes.{Outcome, completes, refuses, exceeds}
+use Rattle.tre_feed.specs.Comes.{Outcome, completes, refuses, exceeds, outcome_from}
 use Rattle.tre_feed.proofs.Cuts.{take-over}
 use Rattle.tre_feed.proofs.Outcomes.{within}
 use Rattle.tre_io.specs.Faults.{count_after, CountRises}
+use Rattle.tre_tell.specs.Ends.{ReadsInput}
 use Rattle.tre_tell.specs.Outputs.{OutputTold}
+use Rattle.tre_tell.specs.Request.{Request, AreReadAs, outcome_for, whole_recording}
 use Rattle.tre_trace.specs.Trace.{Timeline}
+use Rattle.tre_trace.specs.declared.fault.TraceFault.{TraceFault}
 use Rattle.tre_watch.specs.Outcome.{Outcome as ChecksOutcome, IsOutcome}
 use Rattle.tre_watch.proofs.Outcomes.{one_outcome}
 use Rattle.tre_words.specs.declared.job.Job.{Job}
@@ -70,11 +72,15 @@ one_more before now e = rw e (omega arith)
 traces_complete : (request : Request) (bytes : List ℕ) (traces : List Timeline)
     → AreReadAs request bytes traces → outcome_for request bytes ≡ completes
 unfolding outcome_for
-traces_complete request bytes traces are = rw (
-  within (length bytes) request.job.max_bytes are.within,
-  take-over request.job.max_bytes bytes are.within,
-  are.whole,
-) refl
+traces_complete request bytes traces are =
+    let limit = request.job.max_bytes in
+    let closed : nat_le (length bytes) limit ≡ true = within (length bytes) limit are.within in
+    let faultless : (whole_recording request bytes).fault ≡ None =
+    ap (λ (all : List ℕ). (request.recording (nat_le (length bytes) limit) all).fault)
+    (take-over limit bytes are.within)
+    ∙ (ap (λ (whole : Bool). (request.recording whole bytes).fault) closed ∙ are.whole) in
+    ap (λ (fault : Option TraceFault). outcome_from (nat_le (length bytes) limit) fault) faultless
+    ∙ ap (λ (whole : Bool). outcome_from whole None) closed
 
 done_completes : (request : Request) (bytes : List ℕ) (traces : List Timeline)
     → AreReadAs request bytes traces → IsStatusFor (outcome_for request bytes) Done

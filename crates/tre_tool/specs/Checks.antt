@@ -2,7 +2,7 @@
 -- patterns it says.
 use Rattle.std.specs.Prelude.{◌≡◌, ℕ, ◌+◌, ◌≤◌, List, [], ◌∷◌, ◌++◌, length, Some, codes}
 use Rattle.std.specs.Io.KnownBytes.{IsAtEnd}
-use Rattle.tre_answer.specs.Streams.{OfBytes}
+use Rattle.tre_tell.specs.Streams.{OfBytes}
 use Rattle.tre_feed.specs.Input.{InputTold}
 use Rattle.tre_tell.specs.Sought.{Sought}
 use Rattle.tre_watch.specs.Outcome.{Outcome, SpeltPattern, planned, IsOutcome}

@@ -1,6 +1,5 @@
 -- What the parts of a run promise each other.
 use Rattle.std.specs.Prelude.{◌≡◌, ◌≢◌, ℕ, List, [], ◌∷◌, codes, length, Option, None, Some, Result, Ok, Err}
-use Rattle.tre_answer.specs.Ends.{ReadsInput}
 use Rattle.tre_answer.specs.Request.{FitsJob, sought_in}
 use Rattle.tre_answer.specs.declared.asked.Asked.{Asked}
 use Rattle.tre_feed.specs.Front.{IsUnreadable}
@@ -13,6 +12,7 @@ use Rattle.tre_parse.specs.declared.fault.ParseFault.{ParseFault}
 use Rattle.tre_parse.specs.declared.fault.ParseFault.TheVariants.{TooLong, BadByte, Number, TooDeep, Syntax, EmptyInterval, TooManyNames, TooLarge, Memory as ParseMemory}
 use Rattle.tre_syntax.specs.Pattern.{pattern_tree, names_of}
 use Rattle.tre_syntax.specs.declared.pattern.Pattern.{Pattern}
+use Rattle.tre_tell.specs.Ends.{ReadsInput}
 use Rattle.tre_tell.specs.Sought.{Sought}
 use Rattle.tre_watch.specs.Outcome.{Outcome, faulty}
 use Rattle.tre_words.specs.declared.job.Job.{Job}

@@ -12,6 +12,7 @@ use Rattle.tre_num.specs.Definitions.{Define, LetsAreRefused as IsRefusedAt}
 use Rattle.tre_parse.specs.Outcome.{IsOutcome, spelt, refused}
 use Rattle.tre_parse.specs.declared.fault.ParseFault.{ParseFault}
 use Rattle.tre_syntax.specs.PatternTree.{PatternTree}
+use Rattle.tre_tell.specs.Request.{Request}
 use Rattle.tre_tell.specs.Sought.{Sought}
 use Rattle.tre_trace.specs.Reading.{Vocabulary}
 use Rattle.tre_watch.specs.Outcome.{Outcome, faulty}
@@ -20,7 +21,7 @@ use Rattle.tre_words.specs.declared.job.Format.TheVariants.{Text as TextFormat, 
 use Rattle.tre_words.specs.declared.job.Job.{Job}
 use Rattle.tre_words.specs.declared.job.Mode.{Mode}
 use Rattle.tre_words.specs.declared.job.Mode.TheVariants.{Show, Generate, Watch}
-use Rattle.tre_answer.specs.Request.{Request}
+use Rattle.tre_answer.specs.Recorded.{recording_in}
 use Rattle.tre_tool.specs.Checks.{SayPatterns}
 use Rattle.tre_tool.specs.declared.status.Status.{Status}
 use Rattle.tre_tool.specs.declared.status.Status.TheVariants.{Expression, Minus, Definitions, Watch as WatchStatus}
@@ -107,12 +108,16 @@ IsRefusalIn (Generate count) Says job refusal = ⊥
 IsRefusalIn (Watch file) Says job refusal = IsRefusalOfWatch Says job refusal
 IsRefusalIn mode Says job refusal = IsRefusalOf job refusal
 
--- The words give this job, and these are its patterns and definitions.
+-- The words give this job, and these are its patterns and definitions, by which bytes say this.
 pub record AsksFor (Gives : Job → Type 0) (Says : ℕ → Outcome → Type 0) (request : Request)
     : Type 0 where
   pub gives : Gives request.job
   pub patterns : ArePatterns request.job.mode Says request.job request.patterns
-  pub definitions : AreDefinitions request.job request.lets request.signals
+  pub lets : List Defined
+  pub signals : List SignalDefined
+  pub definitions : AreDefinitions request.job lets signals
+  pub recorded : request.recording ≡ recording_in request.job.format request.job.scale
+      request.patterns lets signals
 
 -- They give a job that is refused so.
 pub record JobIsRefused (Gives : Job → Type 0) (Says : ℕ → Outcome → Type 0) (refusal : Status)

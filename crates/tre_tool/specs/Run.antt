@@ -2,16 +2,16 @@
 -- job that the words give, and `checks` the source of the file of checks that a watch names.
 use Rattle.std.specs.Prelude.{◌≡◌, ◌⊎◌, ℕ, ◌≤◌, List, [], length, IfSome, IsTrue, String, false, map, string_bytes}
 use Rattle.std.specs.Io.KnownBytes.{Consumes}
-use Rattle.tre_answer.specs.Ends.{ReadsInput, StandsAtMemory, EndsDone, EndsAtInput, EndsTooMany, EndsReadFault, EndsWriteFault}
-use Rattle.tre_answer.specs.Recorded.{outcome_for}
-use Rattle.tre_answer.specs.Request.{Request}
-use Rattle.tre_answer.specs.Streams.{WroteText, WroteFront}
+use Rattle.tre_answer.specs.Ends.{EndsDone, EndsTooMany, EndsWriteFault}
 use Rattle.tre_feed.specs.Front.{IsUnreadable}
 use Rattle.tre_feed.specs.Input.{InputTold, AllReadsGood}
 use Rattle.tre_feed.specs.Comes.{Outcome, completes, refuses, exceeds}
 use Rattle.tre_feed.specs.Outcome.{IsInputKind}
 use Rattle.tre_io.specs.Faults.{CountRises}
+use Rattle.tre_tell.specs.Ends.{ReadsInput, StandsAtMemory, EndsAtInput, EndsReadFault}
 use Rattle.tre_tell.specs.Outputs.{OutputTold, NothingWritten}
+use Rattle.tre_tell.specs.Request.{Request, outcome_for}
+use Rattle.tre_tell.specs.Streams.{WroteText, WroteFront}
 use Rattle.tre_words.specs.Job.{GivesJob}
 use Rattle.tre_words.specs.declared.job.Job.{Job}
 use Rattle.tre_words.specs.declared.job.Mode.{Mode}

@@ -1,7 +1,7 @@
 //! Laws of what words ask for, each as a function whose contract it is.
 
 ghost use Rattle.std.specs.Prelude.{◌≡◌, ◌≢◌, ℕ, List};
-ghost use Rattle.tre_answer.specs.Request.{Request};
+ghost use Rattle.tre_tell.specs.Request.{Request};
 ghost use Rattle.tre_feed.specs.Input.{InputTold};
 ghost use Rattle.tre_tell.specs.Outputs.{OutputTold};
 ghost use Rattle.tre_tool.specs.Checks.{ChecksAreTold};
@@ -15,9 +15,13 @@ ghost use Rattle.tre_words.specs.declared.job.Job.{Job};
 /// Words and a file of checks ask for one thing at most: one job, one list of patterns with their
 /// labels and names, and one list of definitions.
 pub fn one_request()
-    ensures { (words : List (List ℕ)) (checks : InputTold) (one other : Request) →
+    ensures request { (words : List (List ℕ)) (checks : InputTold) (one other : Request) →
         AsksFor (GivesJob words) (ChecksAreTold checks) one →
         AsksFor (GivesJob words) (ChecksAreTold checks) other → one ≡ other }
+    ensures definitions { (words : List (List ℕ)) (checks : InputTold) (one other : Request)
+        (asks : AsksFor (GivesJob words) (ChecksAreTold checks) one)
+        (again : AsksFor (GivesJob words) (ChecksAreTold checks) other) →
+        (asks.lets ≡ again.lets) × (asks.signals ≡ again.signals) }
 {}
 
 /// Every end but `Usage` and `Memory` is that of words that give a job. Of such words `clap` has no

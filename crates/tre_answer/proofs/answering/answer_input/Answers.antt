@@ -2,7 +2,7 @@ use Rattle.std.proofs.Common.{refl}
 use Rattle.std.proofs.lemmas.List.{get_or_read}
 use Rattle.std.proofs.lemmas.Result.{err_from_is_err_and}
 use Rattle.tre_answer.proofs.Recorded.{alone_names, dump_says, rows_says, text_says}
-use Rattle.tre_answer.proofs.Unread.{EndsAnswering-early}
+use Rattle.tre_answer.proofs.Unread.{EndsOver-early, EndsOver-said}
 use Rattle.tre_answer.proofs.answering.answer_input.Goals as goal
 
 -- ---- text
@@ -11,7 +11,7 @@ pub returns-in_err-input-in-Text-clause-ends : goal.returns-in_err-input-in-Text
 returns-in_err-input-in-Text-clause-ends g c =
     let p = err_from_is_err_and c.from_residual.result
     c.from_residual.ensures.1 in
-    rw (p.1, p.2) (EndsAnswering-early c.args.job.now c.args.definitions c.args.asked.now
+    rw (p.1, p.2) (EndsOver-early c.args.job.now c.args.definitions c.args.asked.now
     _ _ c.requires.closed refl (record { unwritten = refl; writes = refl }))
 
 pub answer_by-requires-clause-input : goal.answer_by-requires-clause-input
@@ -22,9 +22,10 @@ answer_by-requires-clause-input g c = record {
 
 pub returns-in_ok-input-in-Text-clause-ends : goal.returns-in_ok-input-in-Text-clause-ends
 returns-in_ok-input-in-Text-clause-ends g c =
-    c.answer_by.ensures.ends c.args.definitions (text_says c.args.job.now
-    c.args.definitions c.args.asked.now c.requires.fits c.in-Text.is
-    c.in_ok-input-in-Text.ensures.recording)
+    EndsOver-said c.args.job.now c.args.asked.now _ _ c.answer_by.result _ _
+    (text_says c.args.job.now c.args.definitions c.args.asked.now
+    c.requires.fits c.in-Text.is c.in_ok-input-in-Text.ensures.recording)
+    c.answer_by.ensures.ends
 
 -- ---- dumps
 
@@ -32,7 +33,7 @@ pub returns-in_err-input-in-Vcd-clause-ends : goal.returns-in_err-input-in-Vcd-c
 returns-in_err-input-in-Vcd-clause-ends g c =
     let p = err_from_is_err_and c.from_residual-in_err-input-in-Vcd.result
     c.from_residual-in_err-input-in-Vcd.ensures.1 in
-    rw (p.1, p.2) (EndsAnswering-early c.args.job.now c.args.definitions c.args.asked.now
+    rw (p.1, p.2) (EndsOver-early c.args.job.now c.args.definitions c.args.asked.now
     _ _ c.requires.closed refl (record { unwritten = refl; writes = refl }))
 
 pub answer_by-requires-in-Vcd-clause-input : goal.answer_by-requires-in-Vcd-clause-input
@@ -43,9 +44,10 @@ answer_by-requires-in-Vcd-clause-input g c = record {
 
 pub returns-in_ok-input-in-Vcd-clause-ends : goal.returns-in_ok-input-in-Vcd-clause-ends
 returns-in_ok-input-in-Vcd-clause-ends g c =
-    c.answer_by-in-Vcd.ensures.ends c.args.definitions (dump_says c.args.job.now
-    c.args.definitions c.args.asked.now c.requires.fits _ _ c.deref-in-Vcd.ensures.value
-    c.deref-in-Vcd-2.ensures.value c.in-Vcd.is c.in_ok-input-in-Vcd.ensures.recording)
+    EndsOver-said c.args.job.now c.args.asked.now _ _ c.answer_by-in-Vcd.result _ _
+    (dump_says c.args.job.now c.args.definitions c.args.asked.now
+    c.requires.fits _ _ c.deref-in-Vcd.ensures.value c.deref-in-Vcd-2.ensures.value c.in-Vcd.is
+    c.in_ok-input-in-Vcd.ensures.recording) c.answer_by-in-Vcd.ensures.ends
 
 -- ---- columns
 
@@ -53,7 +55,7 @@ pub returns-in_err-input-in-Csv-clause-ends : goal.returns-in_err-input-in-Csv-c
 returns-in_err-input-in-Csv-clause-ends g c =
     let p = err_from_is_err_and c.from_residual-in_err-input-in-Csv.result
     c.from_residual-in_err-input-in-Csv.ensures.1 in
-    rw (p.1, p.2) (EndsAnswering-early c.args.job.now c.args.definitions c.args.asked.now
+    rw (p.1, p.2) (EndsOver-early c.args.job.now c.args.definitions c.args.asked.now
     _ _ c.requires.closed refl (record { unwritten = refl; writes = refl }))
 
 pub answer_by-requires-in-Csv-clause-input : goal.answer_by-requires-in-Csv-clause-input
@@ -70,6 +72,7 @@ pub returns-in_ok-input-in-Csv-clause-ends : goal.returns-in_ok-input-in-Csv-cla
 returns-in_ok-input-in-Csv-clause-ends g c =
     let first = get_or_read c.args.asked.now.patterns.items 0 c.index-pattern.result.now
     c.requires.fits.some c.index-pattern.ensures c.index-pattern.result.now in
-    c.answer_by-in-Csv.ensures.ends c.args.definitions (rows_says c.args.job.now
-    c.args.definitions c.args.asked.now c.requires.fits c.index-pattern.result.now first c.in-Csv.is
-    c.in_ok-input-in-Csv.ensures.recording)
+    EndsOver-said c.args.job.now c.args.asked.now _ _ c.answer_by-in-Csv.result _ _
+    (rows_says c.args.job.now c.args.definitions c.args.asked.now
+    c.requires.fits c.index-pattern.result.now first c.in-Csv.is
+    c.in_ok-input-in-Csv.ensures.recording) c.answer_by-in-Csv.ensures.ends

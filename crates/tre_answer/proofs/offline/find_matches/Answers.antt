@@ -11,8 +11,8 @@ use Rattle.tre_answer.proofs.offline.find_matches.Goals as goal
 pub returns-in_err-traces-clause-stops : goal.returns-in_err-traces-clause-stops
 returns-in_err-traces-clause-stops g c =
     let p = err_from_is_err_and c.from_residual.result c.from_residual.ensures.1 in
-    λ definitions same. rw (p.1, p.2) (StopsAs-input _ _ c.requires.offline _ _ _
-    c.in_err-traces.field-0.0 same c.requires.input.limit c.text.ensures
+    rw (p.1, p.2) (StopsAs-input _ _ c.requires.offline _ _
+    c.in_err-traces.field-0.0 c.requires.input.limit c.text.ensures
     c.in_err-traces.ensures.stops)
 
 pub printed_matches-requires-clause-count : goal.printed_matches-requires-clause-count
@@ -24,7 +24,7 @@ pub returns-in_err-found-clause-stops : goal.returns-in_err-found-clause-stops
 returns-in_err-found-clause-stops g c =
     let p = err_from_is_err_and c.from_residual-in_err-found.result
     c.from_residual-in_err-found.ensures.1 in
-    λ definitions same. rw (p.1, p.2)
+    rw (p.1, p.2)
     (StopsAs-wanting _ _ c.requires.offline (c.in_ok-traces.ensures.read _ c.requires.input.asks).reads)
 
 pub returns-in_err-check_count-clause-stops : goal.returns-in_err-check_count-clause-stops
@@ -45,9 +45,9 @@ returns-in_err-check_count-clause-stops g c =
     let over = c.in_err-check_count.ensures.over in
     let found = c.in_ok-found.found in
     let listed = rw c.deref.ensures.value at c.in_ok-found.ensures.zones in
-    λ definitions same. rw (p.1, p.2, c.in_err-check_count.ensures.fault)
+    rw (p.1, p.2, c.in_err-check_count.ensures.fault)
     (StopsAs-over _ _ listed.set (listed_zones found.zones) found.end
-    (IsFound-whole _ _ _ _ c.in_ok-traces.traces.items _ _ _ same c.requires.input.limit read some
+    (IsFound-whole _ _ _ c.in_ok-traces.traces.items _ _ _ c.requires.input.limit read some
     (listed.exact labels labelled) c.in_ok-found.ensures.end) listed.is_set listed.asked
     c.requires.offline (normal_limit c.args.job.now c.requires.job _ over) over)
 
@@ -66,7 +66,7 @@ returns-clause-found g c =
     ) in
     let found = c.in_ok-found.found in
     let listed = rw c.deref.ensures.value at c.in_ok-found.ensures.zones in
-    λ definitions same. IsFoundFor-text _ _ listed.set (listed_zones found.zones) found.end
-    (IsFound-whole _ _ _ _ c.in_ok-traces.traces.items _ _ _ same c.requires.input.limit read some
+    IsFoundFor-text _ _ listed.set (listed_zones found.zones) found.end
+    (IsFound-whole _ _ _ c.in_ok-traces.traces.items _ _ _ c.requires.input.limit read some
     (listed.exact labels labelled) c.in_ok-found.ensures.end) listed.is_set listed.asked
     c.requires.offline _ c.in_ok-check_count.ensures.few refl

@@ -1,7 +1,7 @@
 use Rattle.std.proofs.Common.{◌-◌, ◌≤◌, length, take}
 use Rattle.tre_show.specs.Line.{lines_of}
 use Rattle.tre_tell.specs.Outputs.{output_told}
-use Rattle.tre_answer.specs.Streams.{WroteText}
+use Rattle.tre_tell.specs.Streams.{WroteText}
 use Rattle.tre_answer.proofs.printing.write_matches.Given as goal
 
 -- the lines of the zones so far were written

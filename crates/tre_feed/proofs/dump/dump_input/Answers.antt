@@ -1,7 +1,8 @@
-use Rattle.std.proofs.Common.{◌∙◌, [], ◌∷◌, map, rules}
+use Rattle.std.proofs.Common.{◌∙◌, [], ◌∷◌, ap, map, rules}
 use Rattle.std.proofs.lemmas.List.{length-map}
 use Rattle.tre_syntax.specs.Pattern.{names_of}
-use Rattle.tre_vcd.specs.Needs.{needs}
+use Rattle.tre_vcd.specs.Needs.{definitions_of, needs}
+use Rattle.tre_vcd.specs.VcdReading.{vcd_recording}
 use Rattle.tre_feed.specs.Dump.{dump_terms}
 use Rattle.tre_feed.proofs.Inputs.{if_ok_then}
 use Rattle.tre_feed.proofs.Needing.{needs-alike}
@@ -28,15 +29,18 @@ returns-clause-asks c = c.new.ensures.asks (map names_of c.args.patterns.now)
 
 pub returns-clause-new : goal.returns-clause-new
 returns-clause-new c = c.new.ensures.new
-    (dump_terms (needs c.in_ok-needed.needed.value ∷ []) c.args.scale c.args.definitions.now)
-    c.in-Ok.ensures.fresh
+    (dump_terms (needs c.in_ok-needed.needed.value ∷ []) c.args.scale
+    (definitions_of c.in_ok-needed.needed.value)) c.in-Ok.ensures.fresh
 
 pub returns-clause-recording : goal.returns-clause-recording
 returns-clause-recording c =
     if_ok_then c.new.result _ _
-    (λ input is. is ∙ needs-alike (needs c.in_ok-needed.needed.value)
+    (λ input is. is
+    ∙ ap (λ defined. vcd_recording (dump_terms (needs c.in_ok-needed.needed.value ∷ [])
+    c.args.scale defined)) c.in_ok-needed.ensures.definitions
+    ∙ needs-alike (needs c.in_ok-needed.needed.value)
     (map names_of c.args.patterns.now) c.args.scale c.args.definitions.now
     c.in_ok-needed.ensures.needs)
     (c.new.ensures.recording
-    (dump_terms (needs c.in_ok-needed.needed.value ∷ []) c.args.scale c.args.definitions.now)
-    c.in-Ok.ensures.fresh)
+    (dump_terms (needs c.in_ok-needed.needed.value ∷ []) c.args.scale
+    (definitions_of c.in_ok-needed.needed.value)) c.in-Ok.ensures.fresh)

@@ -1,6 +1,6 @@
 use Rattle.std.proofs.Common.{◌≡◌, ◌+◌, ◌-◌, [], map, string_bytes, true}
 use Rattle.tre_feed.specs.Standing.{IsAsked, Wait, WereFed, limit_of, recording_of, taken_of}
-use Rattle.tre_tell.specs.Watched.{watched_by}
+use Rattle.tre_tell.specs.Request.{request_by}
 use Rattle.tre_tell.proofs.Loop.{IsTelling}
 use Rattle.tre_tell.proofs.telling.tell_matches.Given as goal
 
@@ -12,8 +12,8 @@ invariant-loop-room g l =
     let reader = g.R.TraceReader in
     let sink = g.O.Sink in
     record {
-      telling : IsTelling (watched_by (map string_bytes l.labels) l.patterns
-          (recording_of reader.recording reader.terms l.fn.input) (limit_of l.fn.input) l.scale)
+      telling : IsTelling (request_by l.job (map string_bytes l.labels) l.patterns
+          (recording_of reader.recording reader.terms l.fn.input))
           (WereFed reader.terms reader.represents l.input) (source.told l.fn.source).file
           (source.told l.source).left (source.told l.source).found (taken_of l.input) l.watch
           (map string_bytes l.labels) (sink.told l.fn.out).written (sink.told l.out).written;

@@ -1,17 +1,20 @@
 -- What is told of an input as it comes, and what of that stands in the output.
-use Rattle.std.specs.Prelude.{◌≡◌, ℕ, ◌≤◌, Bool, true, false, All, List, [], ◌∷◌, ◌++◌, length, IfSome, IsTrue}
+use Rattle.std.specs.Prelude.{◌≡◌, ℕ, ◌≤◌, Bool, true, false, All, List, [], ◌∷◌, ◌++◌, length, map, take, IfSome, IsTrue}
 use Rattle.std.specs.Io.KnownBytes.{IsAtEnd}
 use Rattle.tre_feed.specs.Input.{InputTold, WereRead}
 use Rattle.tre_feed.specs.declared.TheConstants.{PIECE}
+use Rattle.tre_trace.specs.Reading.{Stretch, no_names, segments_for}
+use Rattle.tre_trace.specs.Trace.{Timeline, quiet}
 use Rattle.tre_tell.specs.Blocks.{AreAccounts, blocks_from, ending_text}
 use Rattle.tre_tell.specs.Outputs.{OutputTold}
+use Rattle.tre_tell.specs.Request.{Request, AreReadAs}
+use Rattle.tre_tell.specs.Sought.{Sought}
+use Rattle.tre_tell.specs.Streams.{WroteText}
 use Rattle.tre_tell.specs.Transcript.{Account, IsClosing}
-use Rattle.tre_tell.specs.Watched.{fronts}
-use Rattle.tre_trace.specs.Reading.{Stretch, no_names, segments_for}
-use Rattle.tre_trace.specs.Trace.{Timeline}
-use Rattle.tre_answer.specs.Recorded.{recording_for, known_for, AreReadAs}
-use Rattle.tre_answer.specs.Request.{Request}
-use Rattle.tre_answer.specs.Streams.{WroteText}
+
+abbrev pub fronts : List Sought → List Stretch → List Timeline
+fronts patterns stretches =
+    map (λ pattern. quiet (segments_for pattern.names stretches)) patterns
 
 -- The text of the blocks of stretches, which tells when each ends.
 abbrev pub blocks_for : Request → List Account → List Stretch → List ℕ
@@ -39,8 +42,10 @@ pub record IsPrompt (request : Request) (input : InputTold) (told more : List St
     pub closed : Bool
     pub ended : closed ≡ true →
         IsAtEnd input.now.left × (length (earlier ++ piece) ≤ request.job.max_bytes)
-    pub known : told ++ more ≡ (known_for request closed (earlier ++ piece)).stretches
-    pub prompt : length (known_for request false earlier).stretches ≤ length told
+    pub known : told ++ more
+        ≡ (request.recording closed (take request.job.max_bytes (earlier ++ piece))).stretches
+    pub prompt : length (request.recording false (take request.job.max_bytes earlier)).stretches
+        ≤ length told
 
 -- The text is the blocks of the stretches that are told and of one more; the front lacks that one.
 pub record IsNextBlock (request : Request) (input : InputTold) (front text : List ℕ) : Type 0 where
@@ -61,6 +66,6 @@ pub record IsOnlineAnswer (request : Request) (bytes front text : List ℕ) : Ty
   pub accounts : List Account
   pub told : AreAccounts request.patterns traces accounts
   pub closed : All IsClosing accounts
-  pub front_is : front ≡ blocks_for request accounts (recording_for request true bytes).stretches
+  pub front_is : front ≡ blocks_for request accounts (request.recording true bytes).stretches
   pub text_is : text ≡ front ++ ending_text request.job.scale accounts
-      (segments_for no_names (recording_for request true bytes).stretches)
+      (segments_for no_names (request.recording true bytes).stretches)
