@@ -1,24 +1,13 @@
--- A job by what `clap` finds, which is the job that words give.
-use Rattle.std.proofs.Common.{◌≡◌, ◌≢◌, ◌∙◌, cond, Bool, true, false, List, [], None, Some, refl, sym, subst, codes, true≢false}
+-- The job that words give is what `clap` promises of them.
+use Rattle.std.proofs.Common.{rules, ◌≡◌, ◌≢◌, ◌∙◌, cond, Bool, true, false, List, None, Some, refl, sym, subst, codes, true≢false}
 use Rattle.std.proofs.lemmas.Slice.Eq.{bytes_eq-Decides}
 use Rattle.std.specs.Str.{bytes_eq}
-use Rattle.clap.specs.Words.{Row, fault_of, first_of, matches_of}
-use Rattle.tre_words.specs.CommandLine.{command_line, found_in}
+use Rattle.tre_words.specs.CommandLine.{ByClap, found_in, rows_in}
 use Rattle.tre_words.specs.Job.{GivesPlain, MayStand, SaysJob, Says}
 use Rattle.tre_words.specs.Settings.{Text, Types, said}
 use Rattle.tre_words.specs.declared.job.Job.{Job}
 use Rattle.tre_words.proofs.Ending.{settings_faultless, settings_text, settings_values}
 use Rattle.tre_words.proofs.Taken.{AreUtf8, taken}
-
--- what `clap` finds in words
-abbrev pub rows_in : List Text → List Row
-rows_in words = matches_of command_line words
-
-pub record ByClap (words : List Text) (job : Job) : Type 0 where
-  pub faultless : fault_of command_line words ≡ []
-  pub says : SaysJob (found_in (rows_in words)) job
-  pub expr : first_of (codes "EXPR") (rows_in words) ≡ Some job.expr
-  pub stands : MayStand (found_in (rows_in words)) job
 
 -- ---- two that say the same but of the text
 
@@ -38,30 +27,10 @@ same_beside one other same = λ i. λ (name : Text). at name (bytes_eq name (cod
         (sym ((bytes_eq-Decides name (codes "EXPR")).1 is) ∙ e)))
 
 says_beside : (says : Says) (job : Job) → SaysJob says job → SaysJob (beside says) job
-says_beside says job it = record {
-  mode = it.mode;
-  format = it.format;
-  input = it.input;
-  max_bytes = it.max_bytes;
-  scale = it.scale;
-  normal = it.normal;
-  max_zones = it.max_zones;
-  minus = it.minus;
-  lets = it.lets;
-}
+says_beside says job it = search rules
 
 beside_says : (says : Says) (job : Job) → SaysJob (beside says) job → SaysJob says job
-beside_says says job it = record {
-  mode = it.mode;
-  format = it.format;
-  input = it.input;
-  max_bytes = it.max_bytes;
-  scale = it.scale;
-  normal = it.normal;
-  max_zones = it.max_zones;
-  minus = it.minus;
-  lets = it.lets;
-}
+beside_says says job it = search rules
 
 says_same : (one other : Says) (job : Job) → Same one other → SaysJob one job → SaysJob other job
 says_same one other job same says = beside_says other job
@@ -83,8 +52,10 @@ by_clap words job gives =
     λ name other. sym (settings_values words gives.settings job.expr gives.typed gives.types name other) in
     record {
       faultless = settings_faultless words gives.settings job.expr gives.typed gives.types;
-      says = says_same (said gives.settings) (found_in (rows_in words)) job same gives.says;
-      expr = settings_text words gives.settings job.expr gives.typed gives.types;
+      finds = record {
+        says = says_same (said gives.settings) (found_in (rows_in words)) job same gives.says;
+        expr = settings_text words gives.settings job.expr gives.typed gives.types;
+      };
       stands = stands_same (said gives.settings) (found_in (rows_in words)) job same gives.stands;
     }
 
@@ -96,12 +67,12 @@ from_clap words job utf8 by =
     let same : Same (found_in (rows_in words)) (said types.settings) =
     settings_values words types.settings types.text typed types.types in
     let text : types.text ≡ job.expr =
-    one_value (sym (settings_text words types.settings types.text typed types.types) ∙ by.expr) in
+    one_value (sym (settings_text words types.settings types.text typed types.types) ∙ by.finds.expr) in
     record {
       settings = types.settings;
       typed = typed;
       types = subst (Types words types.settings) text types.types;
-      says = says_same (found_in (rows_in words)) (said types.settings) job same by.says;
+      says = says_same (found_in (rows_in words)) (said types.settings) job same by.finds.says;
       stands = stands_same (found_in (rows_in words)) (said types.settings) job same by.stands;
     }
   where

@@ -1,19 +1,18 @@
 -- Words give one job at most, and what is true of it.
-use Rattle.std.proofs.Common.{◌≡◌, ◌≢◌, ◌∙◌, ◌↔◌, ℕ, ◌≤◌, Bool, true, false, MatchBool, ◌&&◌, List, [], ◌∷◌, Option, Some, None, IfSome, if◌then◌else◌, codes, drop, ap, refl, sym, subst, arith}
+use Rattle.std.proofs.Common.{◌≡◌, ◌∙◌, ◌↔◌, ℕ, ◌≤◌, Bool, true, false, MatchBool, ◌&&◌, List, [], ◌∷◌, Option, Some, None, IfSome, if◌then◌else◌, codes, drop, ap, refl, sym, subst, arith}
 use Rattle.std.specs.Prelude.{option_and_then, option_map, is_some, nat_le}
 use Rattle.std.specs.Str.Parse.{digits_value}
 use Rattle.std.proofs.lemmas.Bool.Decides.{nat_tests}
-use Rattle.clap.specs.Words.{Row, fault_of, first_of}
+use Rattle.clap.specs.Words.{Row, fault_of}
 use Rattle.tre_decimal.specs.Decimal.{is_numeral}
 use Rattle.tre_decimal.specs.declared.TheConstants.{SCALE_MAX}
-use Rattle.tre_words.specs.CommandLine.{FindsJob, command_line, found_in}
-use Rattle.tre_words.specs.Job.{GivesJob, GivesPlain, GivesWatch, IsCount, IsJob, MayStand, MayWatch, Says, SaysJob, begins_with, format_named, is_given, made_count, made_job, mode_in, number_written, watch_job}
+use Rattle.tre_words.specs.CommandLine.{FindsJob, command_line, found_in, rows_in}
+use Rattle.tre_words.specs.Job.{GivesJob, GivesPlain, GivesWatch, IsCount, IsJob, MayStand, MayWatch, Says, SaysJob, begins_with, is_given, made_count, made_job, number_written, watch_job}
 use Rattle.tre_words.specs.Settings.{Text, said}
-use Rattle.tre_words.proofs.ByClap.{ByClap, by_clap, from_clap, rows_in}
+use Rattle.tre_words.proofs.ByClap.{by_clap, from_clap}
 use Rattle.tre_words.proofs.Taken.{AreUtf8}
 use Rattle.tre_words.specs.declared.job.TheConstants.{COUNT_MAX, LIMIT_MAX}
 use Rattle.tre_words.specs.declared.job.Format.{Format}
-use Rattle.tre_words.specs.declared.job.Format.TheVariants.{Csv, Vcd}
 use Rattle.tre_words.specs.declared.job.Job.{Job}
 use Rattle.tre_words.specs.declared.job.Mode.{Mode}
 use Rattle.tre_words.specs.declared.job.Mode.TheVariants.{Offline, Online, Show, Generate, Watch}
@@ -78,10 +77,8 @@ found_once rows job other finds finds' =
 pub plain_once : (words : List Text) (job other : Job) → GivesPlain words job → GivesPlain words other
     → job ≡ other
 plain_once words job other gives gives' =
-    let one = by_clap words job gives in
-    let two = by_clap words other gives' in
-    found_once (rows_in words) job other (record { says = one.says; expr = one.expr })
-    (record { says = two.says; expr = two.expr })
+    found_once (rows_in words) job other (by_clap words job gives).finds
+    (by_clap words other gives').finds
 
 watched_once : (words : List Text) (job other : Job) → GivesWatch words job
     → GivesWatch words other → job ≡ other
@@ -173,17 +170,15 @@ pub plain_from : (words : List Text) (rows : List Row) (job : Job) → AreUtf8 w
     → MayStand (found_in rows) job → GivesPlain words job
 plain_from words rows job utf8 same faultless finds stands = from_clap words job utf8 (record {
   faultless = faultless;
-  says = subst (λ (rows : List Row). SaysJob (found_in rows) job) same finds.says;
-  expr = ap (first_of (codes "EXPR")) (sym same) ∙ finds.expr;
+  finds = subst (λ (rows : List Row). FindsJob rows job) same finds;
   stands = subst (λ (rows : List Row). MayStand (found_in rows) job) same stands;
 })
 
 -- and their job is what it finds
 pub plain_finds : (words : List Text) (rows : List Row) (job : Job) → rows ≡ rows_in words
     → GivesPlain words job → FindsJob rows job
-plain_finds words rows job same gives = let by = by_clap words job gives in
-    subst (λ (rows : List Row). FindsJob rows job) (sym same)
-    (record { says = by.says; expr = by.expr })
+plain_finds words rows job same gives =
+    subst (λ (rows : List Row). FindsJob rows job) (sym same) (by_clap words job gives).finds
 
 pub plain_stands : (words : List Text) (rows : List Row) (job : Job) → rows ≡ rows_in words
     → GivesPlain words job → MayStand (found_in rows) job
@@ -331,77 +326,3 @@ first_plain words job other plain = (
       subst (λ (b : Bool). GivesWhere false b words job) plain
       (subst (λ (b : Bool). GivesWhere b (watch_first words) words job) other given.gives)),
 )
-
--- ---- options that stand apart
-
-pub apart-normal : (words : List Text) (job : Job) → ByClap words job
-    → is_given (codes "normal") (found_in (rows_in words)) ≡ true → mode_in (found_in (rows_in words)) ≢ Offline → ⊥
-apart-normal words job gives given other =
-    other (gives.says.mode ∙ gives.stands.0.normal (sym gives.says.normal ∙ given))
-
-pub apart-minus : (words : List Text) (job : Job) → ByClap words job
-    → is_some (first_of (codes "minus") (rows_in words)) ≡ true → mode_in (found_in (rows_in words)) ≢ Offline → ⊥
-apart-minus words job gives given other =
-    other (gives.says.mode ∙ gives.stands.0.minus (ap is_some (sym gives.says.minus) ∙ given))
-
-some_told : (told : Option (Option ℕ)) (limit : Option ℕ) → told ≡ option_map Some limit
-    → is_some told ≡ is_some limit
-some_told told None e = ap is_some e
-some_told told (Some number) e = ap is_some e
-
-pub apart-max_zones : (words : List Text) (job : Job) → ByClap words job
-    → is_some (option_map (number_written 0 LIMIT_MAX) (first_of (codes "max-zones") (rows_in words))) ≡ true
-    → is_given (codes "normal") (found_in (rows_in words)) ≡ false → ⊥
-apart-max_zones words job gives given without =
-    let some = some_told (option_map (number_written 0 LIMIT_MAX)
-    (first_of (codes "max-zones") (rows_in words))) job.max_zones gives.says.max_zones in
-    let normal = gives.stands.0.max_zones (sym some ∙ given) in
-    let false_true : false ≡ true = sym without ∙ (gives.says.normal ∙ normal) in
-    cc
-
-pub apart-lets : (words : List Text) (job : Job) (format : Format) → ByClap words job
-    → is_some (first_of (codes "let") (rows_in words)) ≡ true → Some format ≡ Some job.format
-    → format ≢ Csv → ⊥
-apart-lets words job format gives given told other =
-    let none = gives.stands.2.columns (λ csv. other (one_value told ∙ csv)) in
-    let false_true : true ≡ false = sym given ∙ ap is_some none in
-    cc
-
-pub apart-define : (words : List Text) (job : Job) (format : Format) → ByClap words job
-    → is_some (first_of (codes "define") (rows_in words)) ≡ true → Some format ≡ Some job.format
-    → format ≢ Vcd → ⊥
-apart-define words job format gives given told other =
-    let none = gives.stands.2.signals (λ dump. other (one_value told ∙ dump)) in
-    let false_true : true ≡ false = sym given ∙ ap is_some none in
-    cc
-
-pub apart-columns : (words : List Text) (job : Job) → ByClap words job
-    → is_given (codes "online") (found_in (rows_in words)) ≡ true → Some Csv ≡ Some job.format → ⊥
-apart-columns words job gives given told =
-    let false_true : true ≡ false = sym given ∙ gives.stands.1 (sym (one_value told)) in
-    cc
-
--- ---- what stands behind `--watch`
-
-pub watch-mode : (words : List Text) (job : Job) → GivesWatch words job → mode_in (found_in (rows_in words)) ≡ Offline
-watch-mode words job gives = (by_clap words gives.plain gives.gives).says.mode ∙ gives.may.mode
-
-pub watch-normal : (words : List Text) (job : Job) → GivesWatch words job
-    → is_given (codes "normal") (found_in (rows_in words)) ≡ false
-watch-normal words job gives = (by_clap words gives.plain gives.gives).says.normal ∙ gives.may.normal
-
-pub watch-format : (words : List Text) (job : Job) → GivesWatch words job
-    → option_and_then format_named (first_of (codes "format") (rows_in words)) ≢ Some Csv
-watch-format words job gives told =
-    gives.may.format (one_value (sym (by_clap words gives.plain gives.gives).says.format ∙ told))
-
-pub watch-apart : (words : List Text) (job : Job) → GivesWatch words job
-    → first_of (codes "EXPR") (rows_in words) ≡ Some (codes "-")
-    → first_of (codes "input") (rows_in words) ≢ Some (codes "-")
-watch-apart words job gives file input =
-    gives.may.apart (one_value (sym (by_clap words gives.plain gives.gives).expr ∙ file))
-    (one_value (sym (by_clap words gives.plain gives.gives).says.input ∙ input))
-
-pub faulty : {words : List Text} {job : Job} → fault_of command_line words ≢ []
-    → GivesWatch words job → ⊥
-faulty fault gives = fault (by_clap _ gives.plain gives.gives).faultless

@@ -19,7 +19,7 @@ use Rattle.clap.proofs.OnLiterals.{clap_on_literals}
 use Rattle.tre_words.specs.CommandLine.{command_line}
 use Rattle.tre_words.specs.Settings.{Setting, Text, flag, joined, apart, name_of_setting, value_of, words_of_setting, value_in, IsPlain, IsTyped, Types, among, behind, flags, is_among, options}
 use Rattle.tre_words.proofs.Settings.{Pending, held, standing, state, shape, rules, names, flag_of, option_of, at_none, again, adds, text_adds, never_twice, never_settles, option_settles, option_pending, text_settles, used_behind, flag_walks, flag_faults, joined_walks, joined_faults, apart_walks, apart_faults, value_walks, text_walks, text_faults, no_second, no_second_behind, end_walks, trail_walks, trail_faults}
-use Rattle.tre_words.proofs.Typing.{row_of, text_row, AreLeft, Fresh, flipped, setting_not}
+use Rattle.tre_words.proofs.Typing.{row_of, text_row, AreLeft, Fresh, flipped, or_none, setting_not}
 use Rattle.tre_words.proofs.Ending.{fault_behind, fault_is, found_behind}
 use Rattle.tre_words.proofs.Seen.{Seen, seen, seen_flag, seen_joined, seen_apart, seen_plain, seen_end, wrong}
 
@@ -64,24 +64,21 @@ used_well name rows pending clean =
 
 -- ---- behind the last word
 
+abbrev default_row : Text → Reading → List Text → Row
+default_row id how values = record {
+  id = id;
+  values = values;
+  count = None;
+  source = Some DefaultValue;
+  reading = how;
+}
+
 not_default : (rows : List Row) (id name : Text) (how : Reading) (values : List Text)
-    → is_given name rows ≡ false → is_given name (rows ++ record {
-      id = id;
-      values = values;
-      count = None;
-      source = Some DefaultValue;
-      reading = how;
-    } ∷ []) ≡ false
+    → is_given name rows ≡ false → is_given name (rows ++ default_row id how values ∷ []) ≡ false
 not_default [] id name how values none = go (bytes_eq id name)
   where
     go : (b : Bool) → option_map_or (λ (row : Row). explicit_source row.source)
-        (cond b (Some (record {
-          id = id;
-          values = values;
-          count = None;
-          source = Some DefaultValue;
-          reading = how;
-        })) None) false ≡ false
+        (cond b (Some (default_row id how values)) None) false ≡ false
     go true = refl
     go false = refl
 not_default (row ∷ rows) id name how values none =
@@ -89,21 +86,9 @@ not_default (row ∷ rows) id name how values none =
   where
     go : (b : Bool) → option_map_or (λ (row : Row). explicit_source row.source)
         (cond b (Some row) (find (λ (row : Row). bytes_eq row.id name) rows)) false ≡ false
-        → (is_given name rows ≡ false → is_given name (rows ++ record {
-          id = id;
-          values = values;
-          count = None;
-          source = Some DefaultValue;
-          reading = how;
-        } ∷ []) ≡ false)
+        → (is_given name rows ≡ false → is_given name (rows ++ default_row id how values ∷ []) ≡ false)
         → option_map_or (λ (row : Row). explicit_source row.source)
-        (cond b (Some row) (find (λ (row : Row). bytes_eq row.id name) (rows ++ record {
-          id = id;
-          values = values;
-          count = None;
-          source = Some DefaultValue;
-          reading = how;
-        } ∷ []))) false ≡ false
+        (cond b (Some row) (find (λ (row : Row). bytes_eq row.id name) (rows ++ default_row id how values ∷ []))) false ≡ false
     go true none rest = none
     go false none rest = rest none
 
@@ -222,9 +207,6 @@ either_false true b e = absurd (true≢false e)
 either_false false true e = absurd (true≢false e)
 either_false false false e = (refl, refl)
 
-neither : (a b : Bool) → a ≡ false → b ≡ false → (a || (b || false)) ≡ false
-neither a b none none' = rw (none, none') refl
-
 fresh_less : (found : List Row) (row : Row) (settings : List Setting)
     → Fresh (found ++ row ∷ []) settings → Fresh found settings × (value_in row.id settings ≡ None)
 fresh_less found row [] fresh = (tt, refl)
@@ -313,7 +295,7 @@ no_text_with : (setting : Setting) (told : Bool) (found : List Row) → IsTyped 
     → NoText told found → NoText told (found ++ row_of setting ∷ [])
 no_text_with setting told found typed none is =
     list_any-append (λ (row : Row). bytes_eq row.id (codes "EXPR")) found (row_of setting ∷ [])
-    ∙ neither (has_row (codes "EXPR") found) (bytes_eq (name_of_setting setting) (codes "EXPR"))
+    ∙ or_none (has_row (codes "EXPR") found) (bytes_eq (name_of_setting setting) (codes "EXPR"))
     (none is) (setting_not setting typed)
 
 -- a setting that is used at once

@@ -156,7 +156,7 @@ flipped text other differ = go (bytes_eq other text) refl
         (sym ((bytes_eq-Decides text other).1 (sym ((bytes_eq-Decides other text).0 e)))
         ∙ differ))
 
-or_none : (a b : Bool) → a ≡ false → b ≡ false → (a || (b || false)) ≡ false
+pub or_none : (a b : Bool) → a ≡ false → b ≡ false → (a || (b || false)) ≡ false
 or_none a b none none' = rw (none, none') refl
 
 fresh_more : (found : List Row) (row : Row) (settings : List Setting) → Fresh found settings

@@ -2,9 +2,9 @@
 use Rattle.std.specs.Prelude.{◌≡◌, true, List, [], ◌∷◌, Option, Some, codes}
 use Rattle.std.specs.List.{fold}
 use Rattle.clap.specs.Simple.{on_top}
-use Rattle.clap.specs.Words.{App, Row, Rule, Text, first_of, new_app, new_rule, with_rule}
+use Rattle.clap.specs.Words.{App, Row, Rule, Text, fault_of, first_of, matches_of, new_app, new_rule, with_rule}
 use Rattle.clap.specs.declared.builder.action.ArgAction.TheVariants.{Set, SetTrue}
-use Rattle.tre_words.specs.Job.{SaysJob}
+use Rattle.tre_words.specs.Job.{MayStand, SaysJob}
 use Rattle.tre_words.specs.declared.job.Job.{Job}
 
 -- a flag, as `--show`
@@ -55,3 +55,14 @@ found_in rows name = first_of name rows
 pub record FindsJob (rows : List Row) (job : Job) : Type 0 where
   pub says : SaysJob (found_in rows) job
   pub expr : first_of (codes "EXPR") rows ≡ Some job.expr
+
+-- what `clap` finds in words
+abbrev pub rows_in : List Text → List Row
+rows_in words = matches_of command_line words
+
+-- What `clap` promises of words is this job: it has no fault of them, what it finds is the job, and
+-- may stand so.
+pub record ByClap (words : List Text) (job : Job) : Type 0 where
+  pub faultless : fault_of command_line words ≡ []
+  pub finds : FindsJob (rows_in words) job
+  pub stands : MayStand (found_in (rows_in words)) job
