@@ -162,7 +162,7 @@ class Statement:
                 "%d of them comments" % self.comments, "%d words" % len(self.kit)]
         if shutil.which("rt"):
             said += ["%d words of %s (%d lines)" % (words, crate, lines) for crate in FOLLOWED
-                     for words, lines in [self.followed(crate)]]
+                     for words, lines in [self.followed(crate)] if words]
         return said
 
 
