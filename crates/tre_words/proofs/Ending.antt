@@ -254,29 +254,31 @@ default_is name = refl
 
 -- ---- no fault
 
-abbrev AreClean : List Rule → Type 0
-AreClean [] = Unit {0}
-AreClean (rule ∷ rest) = (given_default_fault rule rule.defaults ≡ []) × AreClean rest
+pub parts : (one other : Kinds) → or_else one other ≡ [] → (one ≡ []) × (other ≡ [])
+parts [] other e = (refl, e)
+parts (kind ∷ kinds) other e = cc
 
-defaults_clean : (rest : List Rule) (rows : List Row) → AreClean rest
+abbrev faults_of : List Rule → Kinds
+faults_of [] = []
+faults_of (rule ∷ rest) = or_else (given_default_fault rule rule.defaults) (faults_of rest)
+
+defaults_clean : (rest : List Rule) (rows : List Row) → faults_of rest ≡ []
     → defaults_fault rows rest ≡ []
 unfolding defaults_fault
 defaults_clean [] rows clean = refl
 defaults_clean (rule ∷ rest) rows clean =
-    go (has_row rule.id rows || is_empty rule.defaults) _ _ clean.0
-    (defaults_clean rest (with_default rows rule) clean.1)
+    let both = parts (given_default_fault rule rule.defaults) (faults_of rest) clean in
+    go (has_row rule.id rows || is_empty rule.defaults) _ _ both.0
+    (defaults_clean rest (with_default rows rule) both.1)
   where
     go : (b : Bool) (kinds more : Kinds) → kinds ≡ [] → more ≡ []
         → or_else (cond b [] kinds) more ≡ []
     go true kinds more none none' = none'
     go false kinds more none none' = ap (λ (k : Kinds). or_else k more) none ∙ none'
 
-rules_clean : AreClean rules
+rules_clean : faults_of rules ≡ []
 unfolding command_line clap_on_literals
-rules_clean = (
-  refl,
-  (refl, (refl, (refl, (refl, (refl, (refl, (refl, (refl, (refl, (refl, (refl, tt))))))))))),
-)
+rules_clean = refl
 
 check_clean : (rows : List Row) → is_given (codes "EXPR") rows ≡ true
     → check_fault shape rows false ≡ []

@@ -20,12 +20,8 @@ use Rattle.tre_words.specs.CommandLine.{command_line}
 use Rattle.tre_words.specs.Settings.{Setting, Text, flag, joined, apart, name_of_setting, value_of, words_of_setting, value_in, IsPlain, IsTyped, Types, among, behind, flags, is_among, options}
 use Rattle.tre_words.proofs.Settings.{Pending, held, standing, state, shape, rules, names, flag_of, option_of, at_none, again, adds, text_adds, never_twice, never_settles, option_settles, option_pending, text_settles, used_behind, flag_walks, flag_faults, joined_walks, joined_faults, apart_walks, apart_faults, value_walks, text_walks, text_faults, no_second, no_second_behind, end_walks, trail_walks, trail_faults}
 use Rattle.tre_words.proofs.Typing.{row_of, text_row, AreLeft, Fresh, flipped, or_none, setting_not}
-use Rattle.tre_words.proofs.Ending.{fault_behind, fault_is, found_behind}
+use Rattle.tre_words.proofs.Ending.{fault_behind, fault_is, found_behind, parts}
 use Rattle.tre_words.proofs.Seen.{Seen, seen, seen_flag, seen_joined, seen_apart, seen_plain, seen_end, wrong}
-
-parts : (one other : Kinds) → or_else one other ≡ [] → (one ≡ []) × (other ≡ [])
-parts [] other e = (refl, e)
-parts (kind ∷ kinds) other e = cc
 
 -- The walk goes on over the words, and nothing is wrong, also behind the last.
 record Runs (walk : Walk) (words : List Text) : Type 0 where
