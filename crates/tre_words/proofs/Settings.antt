@@ -1,5 +1,5 @@
 -- One word in the walk of `clap` over the words.
-use Rattle.std.proofs.Common.{◌≡◌, arith, ◌∙◌, inl, inr, ◌++◌, ◌==◌, ◌&&◌, ◌||◌, cond, not, ℕ, Bool, true, false, List, ◌∷◌, [], Option, None, Some, refl, sym, ap, subst, codes, get_or, true≢false}
+use Rattle.std.proofs.Common.{◌≡◌, arith, ◌∙◌, inl, inr, ◌++◌, ◌==◌, ◌&&◌, ◌||◌, cond, not, ℕ, Bool, true, false, List, ◌∷◌, [], Option, None, Some, refl, sym, ap, subst, codes, get_or, length, true≢false}
 use Rattle.std.proofs.lemmas.Bool.Decides.{nat_tests}
 use Rattle.std.proofs.lemmas.List.{append-nil}
 use Rattle.std.proofs.lemmas.Slice.Eq.{bytes_eq-Decides}
@@ -55,7 +55,7 @@ abbrev pub option_of : Text → List Text → Rule
 option_of name defaults = filled (record (option_rule name) { defaults = defaults })
 
 abbrev pub text_rule : Rule
-text_rule = get_or rules 11 (new_rule [])
+text_rule = get_or rules (length (flags ++ options)) (new_rule [])
 
 -- ---- the options
 
