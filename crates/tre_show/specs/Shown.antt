@@ -1,5 +1,6 @@
 -- Zones as they are printed.
-use Rattle.std.specs.Prelude.{ℕ, ◌-◌, ◌<◌, ◌≤◌, IsTrue, is_some}
+use Rattle.std.specs.Prelude.{◌⊎◌, ℕ, ◌-◌, ◌<◌, ◌≤◌, List, [], ◌∷◌, IsTrue, is_some}
+use Rattle.tre_pairs.specs.Pairs.{Pairs}
 use Rattle.tre_zone.specs.Interval.{IntervalEnds, LastsWithin}
 use Rattle.tre_zone.specs.Ranges.{begin_range, end_range, duration_range}
 use Rattle.tre_zone.specs.declared.zone_bounds.ZoneBounds.{ZoneBounds}
@@ -16,6 +17,11 @@ pub record ShownHolds (zone : Shown) (a b n : ℕ) : Type 0 where
   pub begin : LastsWithin zone.begin a n
   pub end : LastsWithin zone.end b n
   pub duration : LastsWithin zone.duration (b - a) n
+
+-- One of the zones holds the pair: it lies in the three ranges of a line.
+unfoldable pub LinesHold : List Shown → Pairs
+LinesHold [] a b n = ⊥
+LinesHold (line ∷ lines) a b n = ShownHolds line a b n ⊎ LinesHold lines a b n
 
 -- The range ends, and each range that has the time of every pair of the zone takes it in.
 pub record IsSmallest (zone : Shown) (range : IntervalEnds) (time : ℕ → ℕ → ℕ) : Type 0 where

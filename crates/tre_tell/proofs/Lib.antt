@@ -1,9 +1,12 @@
 pub mod Accounts
+pub mod CanonicalBlocks
 pub mod Closing
+pub mod ForGood
 pub mod Lists
 pub mod Loop
 pub mod OnePattern
 pub mod OnlineTexts
+pub mod PrintedLines
 pub mod Printing
 pub mod Rows
 pub mod Tellings

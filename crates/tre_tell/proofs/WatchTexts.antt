@@ -1,5 +1,5 @@
 -- A text that is told of patterns with labels is that of one list of blocks for each.
-use Rattle.std.proofs.Common.{◌≡◌, ◌≢◌, ◌∙◌, ℕ, zero, suc, ◌+◌, ◌<◌, ◌≤◌, ◌^◌, Bool, true, false, Some, List, [], ◌∷◌, ◌++◌, length, map, flat_map, get_or, IsTrue, refl, sym, subst, arith, ap, append_assoc}
+use Rattle.std.proofs.Common.{◌≡◌, ◌≢◌, ◌∙◌, ℕ, zero, suc, ◌+◌, ◌<◌, ◌≤◌, ◌^◌, Bool, true, false, None, Some, List, [], ◌∷◌, ◌++◌, length, map, flat_map, get_or, IsTrue, refl, sym, subst, arith, ap, append_assoc}
 use Rattle.std.specs.Char.{is_ascii_digit}
 use Rattle.std.specs.List.{AllPairs, AllByRecursion}
 use Rattle.std.specs.Prelude.{codes, if◌then◌else◌}
@@ -18,7 +18,7 @@ use Rattle.tre_zone.specs.Zone.{IsCanonical}
 use Rattle.tre_zone.specs.ZoneList.{AreCanonical}
 use Rattle.tre_zone.specs.declared.zone_bounds.ZoneBounds.{ZoneBounds}
 use Rattle.tre_tell.specs.Blocks.{lines_with, block_of, blocks_from, blocks_text, ending_text}
-use Rattle.tre_tell.specs.OnlineText.{AreCanonicalBlocks, AreBlocksOf, IsLabel, AreWatched}
+use Rattle.tre_tell.specs.OnlineText.{AreCanonicalBlocks, AreBlocksOf, IsLabel, AreWatched, AreWatchedSoFar}
 use Rattle.tre_tell.specs.Transcript.{Account}
 use Rattle.tre_tell.proofs.Stretches.{lengths_of}
 
@@ -412,6 +412,19 @@ module _ (scale : ℕ) where
   closing_each [] all = tt
   closing_each (account ∷ accounts) all = (all.0.closing, closing_each accounts all.1)
 
+  -- The first block, and the others.
+  here_or_later : (accounts others : List Account) (i k : ℕ) (trace : List Segment)
+      → map (told_at i) accounts ≡ map (told_at i) others → k < suc (length trace)
+      → ((k : ℕ) → k < length trace
+      → map (told_at (suc i + k)) accounts ≡ map (told_at (suc i + k)) others)
+      → map (told_at (i + k)) accounts ≡ map (told_at (i + k)) others
+  here_or_later accounts others i zero trace here less rest =
+      let none : i + 0 ≡ i = omega arith in
+      rw none here
+  here_or_later accounts others i (suc k) trace here less rest =
+      let next : i + suc k ≡ suc i + k = omega arith in
+      rw next (rest k (omega (arith, less)))
+
   -- A block is not what closes a text.
   not_both : RowTells → (accounts others : List Account)
       → AllByRecursion (λ account. IsLabel account.pattern.label) accounts
@@ -456,19 +469,6 @@ module _ (scale : ℕ) where
         rows_once tells (rows_of told accounts) (rows_of told others) word last number other xs ys
         (rows_are told accounts named p) (rows_are told others named' q) u v
         (omega (arith, small)) (omega (arith, small')) e
-
-    -- The first block, and the others.
-    block_here : (i k : ℕ) (trace : List Segment)
-        → map (told_at i) accounts ≡ map (told_at i) others → k < suc (length trace)
-        → ((k : ℕ) → k < length trace
-        → map (told_at (suc i + k)) accounts ≡ map (told_at (suc i + k)) others)
-        → map (told_at (i + k)) accounts ≡ map (told_at (i + k)) others
-    block_here i zero trace here less rest =
-        let none : i + 0 ≡ i = omega arith in
-        rw none here
-    block_here i (suc k) trace here less rest =
-        let next : i + suc k ≡ suc i + k = omega arith in
-        rw next (rest k (omega (arith, less)))
 
     walk : (i start at at' : ℕ) (trace other : List Segment) → end_of start trace ≤ TIME_MAX
         → end_of start other ≤ TIME_MAX → at ≤ TIME_MAX → at' ≤ TIME_MAX
@@ -528,8 +528,76 @@ module _ (scale : ℕ) where
         told_once (told_at i) accounts others labels distinct distinct' same.rows_same in
         record {
           lengths_same = cc;
-          blocks_same = λ k less. block_here i k trace here less rest.blocks_same;
+          blocks_same = λ k less. here_or_later accounts others i k trace here less
+              rest.blocks_same;
           closings_same = rest.closings_same;
+        }
+
+  -- ---- blocks that no end follows
+
+  module _ (accounts others : List Account)
+      (labels : map (λ account. account.pattern.label) accounts
+      ≡ map (λ account. account.pattern.label) others)
+      (named : AllByRecursion (λ account. IsLabel account.pattern.label) accounts)
+      (named' : AllByRecursion (λ account. IsLabel account.pattern.label) others)
+      (distinct : AreDistinct accounts) (distinct' : AreDistinct others)
+      (canonical : (i : ℕ) → AllByRecursion (λ account. AreCanonical (told_at i account)) accounts)
+      (canonical' : (i : ℕ) → AllByRecursion (λ account. AreCanonical (told_at i account)) others)
+      (tells : RowTells) where
+    record IsOneFront (i : ℕ) (trace other : List Segment) : Type 0 where
+      pub lengths_same : lengths_of trace ≡ lengths_of other
+      pub blocks_same : (k : ℕ) → k < length trace
+          → map (told_at (i + k)) accounts ≡ map (told_at (i + k)) others
+
+    -- a block has a text
+    no_block : {X : Type 0} (lines xs number line ys : List ℕ)
+        → [] ≡ (((lines ++ (97 ∷ xs)) ++ number) ++ line) ++ ys → X
+    no_block [] xs number line ys e = cc
+    no_block (byte ∷ lines) xs number line ys e = cc
+
+    walk_front : (i start : ℕ) (trace other : List Segment) → end_of start trace ≤ TIME_MAX
+        → end_of start other ≤ TIME_MAX
+        → blocks_from scale accounts i start trace ≡ blocks_from scale others i start other
+        → IsOneFront i trace other
+    walk_front i start [] [] small small' e = record {
+      lengths_same = refl;
+      blocks_same = λ k less. absurd (omega (arith, less));
+    }
+    walk_front i start [] (next ∷ other) small small' e =
+        let m' = start + next.len in
+        no_block
+        (flat_map (λ account. lines_with scale account.pattern.label (get_or account.blocks i []))
+        others) (116 ∷ 32 ∷ []) (number_text scale m') (10 ∷ [])
+        (blocks_from scale others (suc i) m' other) e
+    walk_front i start (segment ∷ trace) [] small small' e =
+        let m = start + segment.len in
+        no_block
+        (flat_map (λ account. lines_with scale account.pattern.label (get_or account.blocks i []))
+        accounts) (116 ∷ 32 ∷ []) (number_text scale m) (10 ∷ [])
+        (blocks_from scale accounts (suc i) m trace) (sym e)
+    walk_front i start (segment ∷ trace) (next ∷ other) small small' e =
+        let m = start + segment.len in
+        let m' = start + next.len in
+        let xs = blocks_from scale accounts (suc i) m trace in
+        let ys = blocks_from scale others (suc i) m' other in
+        let same = rows_once tells (rows_of (told_at i) accounts) (rows_of (told_at i) others)
+        at_word at_word m m' xs ys (rows_are (told_at i) accounts named (canonical i))
+        (rows_are (told_at i) others named' (canonical' i)) at_spaceless at_spaceless
+        (omega (arith, small, end_of-le m trace)) (omega (arith, small', end_of-le m' other))
+        (sym (block_bytes accounts i m xs) ∙ e ∙ block_bytes others i m' ys) in
+        let ends : m ≡ m' = same.number_same in
+        let rest = walk_front (suc i) m trace other small
+        (subst (λ (t : ℕ). end_of t other ≤ TIME_MAX) (sym ends) small')
+        (subst (λ (t : ℕ). xs ≡ blocks_from scale others (suc i) t other) (sym ends)
+        same.rest_same) in
+        let length_same : segment.len ≡ next.len = omega (arith, ends) in
+        let lengths : lengths_of trace ≡ lengths_of other = rest.lengths_same in
+        let here : map (told_at i) accounts ≡ map (told_at i) others =
+        told_once (told_at i) accounts others labels distinct distinct' same.rows_same in
+        record {
+          lengths_same = cc;
+          blocks_same = λ k less. here_or_later accounts others i k trace here less
+              rest.blocks_same;
         }
 
 -- Lists of blocks that are alike at each place are the same.
@@ -634,5 +702,56 @@ watch_once scale tells accounts others segments seconds are are' labels e =
           subst (λ (i : ℕ). map (λ account. get_or account.blocks i []) accounts
           ≡ map (λ account. get_or account.blocks i []) others) place (is.blocks_same k less));
       closings_same = is.closings_same;
+      lengths_same = is.lengths_same;
+    }
+
+pub record IsOneFrontText (accounts others : List Account) (segments seconds : List Segment)
+    : Type 0 where
+  pub blocks_same : map (λ account. account.blocks) accounts
+      ≡ map (λ account. account.blocks) others
+  pub lengths_same : lengths_of segments ≡ lengths_of seconds
+
+-- each block has canonical bounds, at each place
+fronts_canonical : (scale : ℕ) (segments : List Segment) (accounts : List Account) (i : ℕ)
+    → AllByRecursion (λ account. AreBlocksOf account.blocks None segments) accounts
+    → AllByRecursion (λ account. AreCanonical (get_or account.blocks i [])) accounts
+fronts_canonical scale segments [] i all = tt
+fronts_canonical scale segments (account ∷ accounts) i all = (
+  canonical_at scale account.blocks i all.0.canonical,
+  fronts_canonical scale segments accounts i all.1,
+)
+
+pub front_once : (scale : ℕ) → RowTells scale → (accounts others : List Account)
+    (segments seconds : List Segment) → AreWatchedSoFar accounts segments
+    → AreWatchedSoFar others seconds
+    → map (λ account. account.pattern.label) accounts
+    ≡ map (λ account. account.pattern.label) others
+    → blocks_text scale accounts segments ≡ blocks_text scale others seconds
+    → IsOneFrontText accounts others segments seconds
+unfolding blocks_text
+front_once scale tells accounts others segments seconds are are' labels e =
+    let P : List Segment → Account → Type 0 =
+    λ trace account. AreBlocksOf account.blocks None trace in
+    let known = recursion_from_All (P segments) accounts are.blocks in
+    let known' = recursion_from_All (P seconds) others are'.blocks in
+    let named = recursion_from_All (λ account. IsLabel account.pattern.label) accounts are.labels in
+    let named' = recursion_from_All (λ account. IsLabel account.pattern.label) others are'.labels in
+    let is = walk_front scale accounts others labels named named'
+    (distinct_of accounts are.distinct) (distinct_of others are'.distinct)
+    (λ i. fronts_canonical scale segments accounts i known)
+    (λ i. fronts_canonical scale seconds others i known') tells 0 0 segments seconds
+    are.is_trace.in_time are'.is_trace.in_time e in
+    let count : length segments ≡ length seconds = length_same segments seconds is.lengths_same in
+    let many : length accounts ≡ length others = labels_many accounts others labels in
+    record {
+      blocks_same = blocks_same (length segments) (length seconds) accounts others count
+          (each_of (P segments) (λ account. length account.blocks ≡ length segments)
+          (λ account is. is.count) accounts known)
+          (each_of (P seconds) (λ account. length account.blocks ≡ length seconds)
+          (λ account is. is.count) others known')
+          many (λ k less.
+          let place : 0 + k ≡ k = omega arith in
+          subst (λ (i : ℕ). map (λ account. get_or account.blocks i []) accounts
+          ≡ map (λ account. get_or account.blocks i []) others) place (is.blocks_same k less));
       lengths_same = is.lengths_same;
     }

@@ -4,6 +4,7 @@ pub mod Sought
 pub mod Request
 pub mod Transcript
 pub mod Blocks
+pub mod Lines
 pub mod OnlineText
 pub mod Outputs
 pub mod Streams

@@ -63,3 +63,10 @@ pub record AreWatched (accounts : List Account) (segments : List Segment) : Type
   pub labels : All (λ account. IsLabel account.pattern.label) accounts
   pub distinct : AllPairs (λ one other. one.pattern.label ≢ other.pattern.label) accounts
   pub blocks : All (λ account. AreBlocksOf account.blocks (Some account.closing) segments) accounts
+
+-- The same before they are closed: whatever closes them isn't looked at.
+pub record AreWatchedSoFar (accounts : List Account) (segments : List Segment) : Type 0 where
+  pub is_trace : IsTrace segments
+  pub labels : All (λ account. IsLabel account.pattern.label) accounts
+  pub distinct : AllPairs (λ one other. one.pattern.label ≢ other.pattern.label) accounts
+  pub blocks : All (λ account. AreBlocksOf account.blocks None segments) accounts

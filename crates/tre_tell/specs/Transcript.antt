@@ -44,7 +44,8 @@ pub record IsBlock (account : Account) (i : ℕ) : Type 0 where
   pub told : AreTold (block_before i account.blocks) (end_of 0 (take i account.trace.segments))
       (end_of 0 (take (suc i) account.trace.segments)) (get_or account.blocks i [])
 
--- One block for each segment. So all together tell exactly the matches over the trace.
+-- One block for each segment. So all together tell exactly the matches over the trace, if it has a
+-- segment and no event at its end.
 pub record IsTranscript (account : Account) : Type 0 where
   pub count : length account.blocks ≡ length account.trace.segments
   pub each : (i : ℕ) → i < length account.trace.segments → IsBlock account i
