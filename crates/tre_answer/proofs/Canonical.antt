@@ -46,6 +46,19 @@ one_strips normal second wanted sought zones others is is' same one other =
       (λ has. (strips zone).1 ((strips' zone).0 has)),
     ))
 
+-- so they are where what is wanted of any traces is the same
+pub same_zones : (patterns others : List Sought) (traces seconds : List Timeline)
+    (zones strips : List ZoneBounds) → AreZonesOf true (IsWanted patterns traces) zones
+    → AreZonesOf true (IsWanted others seconds) strips
+    → ((a b n : ℕ) → 0 < n → a ≤ b
+    → IsWanted patterns traces a b n ↔ IsWanted others seconds a b n) → zones ≡ strips
+same_zones patterns others traces seconds zones strips one other same =
+    one_strips true true (IsWanted patterns traces) (IsWanted others seconds) zones strips refl refl
+    (λ a b n some. (
+      (λ h. (same a b n some (some_rising patterns traces a b n h)).0 h),
+      (λ h. (same a b n some (some_rising others seconds a b n h)).1 h),
+    )) one other
+
 -- the zones for inputs of which the same is wanted are the same
 zones_once : (one other : Request) (bytes others : List ℕ) (zones seconds : List ZoneBounds)
     → WantTheSame one other bytes others → AreZonesFor one bytes zones

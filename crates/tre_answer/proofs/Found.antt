@@ -15,7 +15,7 @@ use Rattle.tre_words.specs.declared.job.Mode.TheVariants.{Offline}
 use Rattle.tre_zone.specs.ZoneList.{SetHolds, HoldExactly}
 use Rattle.tre_zone.specs.declared.zone_bounds.ZoneBounds.{ZoneBounds}
 use Rattle.tre_zoneset.specs.ZoneSet.{IsZoneSet}
-use Rattle.tre_tell.specs.Ends.{EndsAtInput, ReadsInput, StandsAtMemory, StandsSoFar, as_it_comes}
+use Rattle.tre_tell.specs.Ends.{EndsAtInput, ReadsInput, StandsSoFar, as_it_comes}
 use Rattle.tre_tell.specs.Outputs.{OutputTold, NothingWritten}
 use Rattle.tre_tell.specs.Request.{Request}
 use Rattle.tre_tell.specs.Streams.{OfBytes}

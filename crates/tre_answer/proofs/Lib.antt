@@ -2,6 +2,7 @@ pub mod Canonical
 pub mod Differences
 pub mod Found
 pub mod Recorded
+pub mod Said
 pub mod Stops
 pub mod Strips
 pub mod TextPieces

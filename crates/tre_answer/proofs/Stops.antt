@@ -1,5 +1,5 @@
 -- How an answer ends that is written at once, and one that is told as its input comes.
-use Rattle.std.proofs.Common.{◌≡◌, ⊎_elim, ℕ, ◌≤◌, true, List, [], Result, Ok, Err, OnOk, OnErr, IfErr, refl, sym, subst, inl, inr, arith}
+use Rattle.std.proofs.Common.{◌≡◌, ⊎_elim, ℕ, true, List, [], Result, Ok, Err, OnOk, OnErr, IfErr, refl, sym, subst, inl, inr, arith}
 use Rattle.std.specs.Io.KnownBytes.{Appends}
 use Rattle.tre_feed.specs.Input.{InputTold}
 use Rattle.tre_feed.specs.declared.fault.Fault.{Fault}

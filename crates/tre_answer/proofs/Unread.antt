@@ -1,5 +1,5 @@
 -- The answer to what is asked, before the input is opened and where none is read.
-use Rattle.std.proofs.Common.{◌≡◌, ◌∙◌, ℕ, zero, suc, List, [], ◌∷◌, ◌++◌, All, length, get_or, flat_map, map, codes, Bool, true, false, MatchBool, string_bytes, Result, Err, sym, ap, subst, append-nil, arith}
+use Rattle.std.proofs.Common.{◌≡◌, ◌∙◌, ℕ, zero, suc, List, [], ◌∷◌, ◌++◌, All, length, get_or, flat_map, map, codes, Bool, false, string_bytes, Result, Err, sym, ap, subst, append-nil, arith}
 use Rattle.tre_feed.specs.Input.{InputTold, AllReadsGood}
 use Rattle.tre_feed.specs.declared.fault.Fault.{Fault}
 use Rattle.tre_feed.specs.declared.fault.Fault.TheVariants.{Memory}

@@ -1,4 +1,4 @@
-use Rattle.tre_answer.proofs.Canonical.{canonical_text, canonical_count, never_both, same_itself}
+use Rattle.tre_answer.proofs.Canonical.{canonical_text, canonical_count, never_both, same_itself, same_zones}
 use Rattle.tre_answer.proofs.laws.one_canonical_answer.Goals as goal
 
 pub returns : goal.returns
@@ -7,4 +7,5 @@ returns c = record {
   count = canonical_count;
   apart = never_both;
   itself = same_itself;
+  zones = same_zones;
 }
