@@ -1,13 +1,12 @@
 //! The program `montre`: one run over the system's streams.
 //!
-//! `main` hands the words, two sources and the two outputs to `tre_tool::run_all`, and ends with
-//! the run's code. Nothing is decided here.
+//! `main` hands the words and the system's streams to `tre_tool::exit_code`, and ends with that
+//! code. Nothing is decided here.
 #![tactic(auto)]
 
 use std::env;
 use std::process::ExitCode;
-use tre_io::{FileSource, StdSink};
-use tre_tool::run_all;
+use tre_tool::exit_code;
 
 /// Where the system doesn't hand over the words; no run ends with this code.
 const NO_WORDS: u8 = 1;
@@ -20,10 +19,5 @@ fn main(rt: HostRuntime) -> ExitCode {
     let Ok(words) = all.skip(1).collect::<Vec<String>>(alloc) else {
         return ExitCode::from(NO_WORDS);
     };
-    let mut checks = FileSource::new(&rt);
-    let mut input = FileSource::new(&rt);
-    let mut out = StdSink::out(rt.stdout());
-    let mut err = StdSink::err(rt.stderr());
-    let status = run_all(alloc, &words, &mut checks, &mut input, &mut out, &mut err);
-    ExitCode::from(status.code())
+    ExitCode::from(exit_code(&rt, alloc, &words, rt.stdout(), rt.stderr()))
 }

@@ -1,6 +1,7 @@
 -- What a reader must believe: what words and a file of checks ask for, how a run ends, and how that
 -- is told.
 pub mod Checks
+pub mod Program
 pub mod Request
 pub mod Run
 pub mod Status
