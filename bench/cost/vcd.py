@@ -1,7 +1,7 @@
 #!/usr/bin/env python3
 """What reading a long value change dump takes, beside `wc -w` on the same file: one markdown table.
 
-    python3 bench/vcd.py PATH_OF_MONTRE [MEGABYTES]
+    python3 bench/cost/vcd.py PATH_OF_MONTRE [MEGABYTES]
 
 For Linux. Standard library alone.
 """
@@ -122,7 +122,7 @@ def report(montre, folder, name, block, megabytes, patterns=(ALL.pattern(),)):
 
 def main():
     if len(sys.argv) not in (2, 3):
-        sys.exit("usage: python3 bench/vcd.py PATH_OF_MONTRE [MEGABYTES]")
+        sys.exit("usage: python3 bench/cost/vcd.py PATH_OF_MONTRE [MEGABYTES]")
     montre = os.path.abspath(sys.argv[1])
     most = int(sys.argv[2]) if len(sys.argv) == 3 else MEGABYTES
     adopt_orphans()

@@ -1,7 +1,7 @@
 #!/usr/bin/env python3
 """What a watch of several patterns takes beside runs of one pattern each: three markdown tables.
 
-    python3 bench/watch.py PATH_OF_MONTRE [SEGMENTS]
+    python3 bench/cost/watch.py PATH_OF_MONTRE [SEGMENTS]
 
 For Linux, with valgrind.
 """
@@ -124,7 +124,7 @@ def print_wide(montre, folder):
 
 def main():
     if len(sys.argv) not in (2, 3):
-        sys.exit("usage: python3 bench/watch.py PATH_OF_MONTRE [SEGMENTS]")
+        sys.exit("usage: python3 bench/cost/watch.py PATH_OF_MONTRE [SEGMENTS]")
     montre = os.path.abspath(sys.argv[1])
     segments = int(sys.argv[2]) if len(sys.argv) == 3 else SEGMENTS
     with tempfile.TemporaryDirectory() as folder:

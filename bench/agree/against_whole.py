@@ -1,7 +1,7 @@
 #!/usr/bin/env python3
 """examples/pieces.py against one run over the whole trace: the same pairs at each quarter of a tick.
 
-    python3 bench/against_whole.py PATH_OF_MONTRE
+    python3 bench/agree/against_whole.py PATH_OF_MONTRE
 
 200 traces and patterns by a fixed seed, over text and dump, with scales, cut at many places.
 """
@@ -18,7 +18,7 @@ from cases import ALL, dump_of, events_at, lines_of, scaled
 from meaning import Segment, Trace
 
 CASES = 200
-PIECES = os.path.join(os.path.dirname(os.path.abspath(__file__)), "..", "examples", "pieces.py")
+PIECES = os.path.join(os.path.dirname(os.path.abspath(__file__)), "..", "..", "examples", "pieces.py")
 RANGE = re.compile(r"([\[(])([\d.]+),([\d.]+)([\])])")
 ENDLESS = ("true", "<:p:>", "p;p", "(p;q)*", "rise(p);true;rise(q)", "event(a);true;event(b)")
 
@@ -85,7 +85,7 @@ def differs(program, chance):
 
 def main():
     if len(sys.argv) != 2:
-        sys.exit("usage: python3 bench/against_whole.py PATH_OF_MONTRE")
+        sys.exit("usage: python3 bench/agree/against_whole.py PATH_OF_MONTRE")
     program, chance = os.path.abspath(sys.argv[1]), random.Random(7)
     wrong = pairs = 0
     for _ in range(CASES):

@@ -3,7 +3,7 @@
 stays true, over segments by chance and in turn, and how deep repetitions may go: four markdown
 tables.
 
-    python3 bench/online.py PATH_OF_MONTRE [MOST_SEGMENTS]
+    python3 bench/cost/online.py PATH_OF_MONTRE [MOST_SEGMENTS]
 
 For Linux. Standard library alone, and valgrind for all tables but the first.
 """
@@ -184,7 +184,7 @@ def print_rows(montre, folder, sizes, pattern, of_p):
 
 def main():
     if len(sys.argv) not in (2, 3):
-        sys.exit("usage: python3 bench/online.py PATH_OF_MONTRE [MOST_SEGMENTS]")
+        sys.exit("usage: python3 bench/cost/online.py PATH_OF_MONTRE [MOST_SEGMENTS]")
     montre = os.path.abspath(sys.argv[1])
     most = int(sys.argv[2]) if len(sys.argv) == 3 else SIZES[-1]
     adopt_orphans()

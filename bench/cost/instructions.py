@@ -1,7 +1,7 @@
 #!/usr/bin/env python3
 """The instructions that matching and reading take, by valgrind: two markdown tables.
 
-    python3 bench/instructions.py PATH_OF_MONTRE [PATH_OF_ANOTHER]
+    python3 bench/cost/instructions.py PATH_OF_MONTRE [PATH_OF_ANOTHER]
 
 With another program each row has the ratio to it. For Linux, with valgrind.
 """
@@ -136,7 +136,7 @@ def reading(programs, folder):
 
 def main():
     if len(sys.argv) not in (2, 3):
-        sys.exit("usage: python3 bench/instructions.py PATH_OF_MONTRE [PATH_OF_ANOTHER]")
+        sys.exit("usage: python3 bench/cost/instructions.py PATH_OF_MONTRE [PATH_OF_ANOTHER]")
     programs = [os.path.abspath(path) for path in sys.argv[1:]]
     with tempfile.TemporaryDirectory() as folder:
         matching(programs, folder)

@@ -1,7 +1,7 @@
 #!/usr/bin/env python3
 """Compares the patterns of docs/clocked.md with a plain reading of the assertions beside them.
 
-    python3 bench/assertions.py PROGRAM [TRACES]
+    python3 bench/agree/assertions.py PROGRAM [TRACES]
 
 An assertion is read over cycles alone: of each edge of the clock the set of the signals that are
 true in the tick before it. Its matches are pairs of edges, each tried by the words of the
@@ -16,7 +16,7 @@ import subprocess
 import sys
 import tempfile
 
-PAGE = os.path.join(os.path.dirname(os.path.abspath(__file__)), "..", "docs", "clocked.md")
+PAGE = os.path.join(os.path.dirname(os.path.abspath(__file__)), "..", "..", "docs", "clocked.md")
 ROW = re.compile(r"\| `([^`]*)` \| `([^`]*)` \|$")
 SEED = 2014
 

@@ -1,7 +1,7 @@
 #!/usr/bin/env python3
 """What the promise of a run stands on: each definition that its words reach, by file, with its lines.
 
-    python3 bench/statement.py [--words] [PAGE]
+    python3 bench/house/statement.py [--words] [PAGE]
 
 It begins with the contract of `run_all` (tre_tool, src/whole_run.rt), with the code of a status
 that `main` ends with, and with what a source and a sink are (tre_io), and follows each word to its
@@ -19,7 +19,7 @@ import shutil
 import subprocess
 import sys
 
-CRATES = os.path.join(os.path.dirname(os.path.abspath(__file__)), "..", "crates")
+CRATES = os.path.join(os.path.dirname(os.path.abspath(__file__)), "..", "..", "crates")
 FIRST = [("tre_tool/src/whole_run.rt", "fn run_all"), ("tre_tool/src/status.rt", "fn code"),
          ("tre_io/src/source.rt", "trait Source"), ("tre_io/src/sink.rt", "trait Sink")]
 FOLLOWED = ("clap", "csv")

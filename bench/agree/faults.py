@@ -1,7 +1,7 @@
 #!/usr/bin/env python3
 """montre while the system fails: each allocation and each call in turn, over all modes.
 
-    python3 bench/faults.py PATH_OF_MONTRE
+    python3 bench/agree/faults.py PATH_OF_MONTRE
 
 A small C library, faults.c, stands between the program and the C library. For Linux, with `cc`.
 """
@@ -162,7 +162,7 @@ def try_closed(runs, words):
 
 def main():
     if len(sys.argv) != 2:
-        sys.exit("usage: python3 bench/faults.py PATH_OF_MONTRE")
+        sys.exit("usage: python3 bench/agree/faults.py PATH_OF_MONTRE")
     with tempfile.TemporaryDirectory() as folder:
         write_files(folder)
         runs = Runs(os.path.abspath(sys.argv[1]), folder)

@@ -1,7 +1,7 @@
 #!/usr/bin/env python3
 """Names defined by the signals of a dump, against a plain reading of what docs/vcd.md says of them.
 
-    python3 bench/definitions.py PATH_OF_MONTRE
+    python3 bench/agree/definitions.py PATH_OF_MONTRE
 
 2,000 dumps with declarations of every shape, and a definition for each, by a fixed seed.
 """
@@ -232,7 +232,7 @@ def is_right(montre, chance):
 
 def main():
     if len(sys.argv) != 2:
-        sys.exit("usage: python3 bench/definitions.py PATH_OF_MONTRE")
+        sys.exit("usage: python3 bench/agree/definitions.py PATH_OF_MONTRE")
     chance = random.Random(21)
     results = [is_right(sys.argv[1], chance) for _ in range(CASES)]
     wrong = sum(not right for right, _ in results)

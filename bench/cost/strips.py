@@ -1,7 +1,7 @@
 #!/usr/bin/env python3
 """What --normal and --minus take beside the same runs without them: two markdown tables.
 
-    python3 bench/strips.py PATH_OF_MONTRE [MOST_SEGMENTS]
+    python3 bench/cost/strips.py PATH_OF_MONTRE [MOST_SEGMENTS]
 
 For Linux, with valgrind.
 """
@@ -61,7 +61,7 @@ def print_rows(label, words, beside, folder, sizes):
 
 def main():
     if len(sys.argv) not in (2, 3):
-        sys.exit("usage: python3 bench/strips.py PATH_OF_MONTRE [MOST_SEGMENTS]")
+        sys.exit("usage: python3 bench/cost/strips.py PATH_OF_MONTRE [MOST_SEGMENTS]")
     montre = os.path.abspath(sys.argv[1])
     most = int(sys.argv[2]) if len(sys.argv) == 3 else SIZES[-1]
     adopt_orphans()

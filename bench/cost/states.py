@@ -1,7 +1,7 @@
 #!/usr/bin/env python3
 """What the state of a literal takes, beside reading the trace: one markdown table.
 
-    python3 bench/states.py PATH_OF_MONTRE [PATH_OF_ANOTHER]
+    python3 bench/cost/states.py PATH_OF_MONTRE [PATH_OF_ANOTHER]
 
 With a second program each row has its time too. For Linux. Standard library alone.
 """
@@ -49,7 +49,7 @@ def print_rows(programs, folder, name, names):
 
 def main():
     if len(sys.argv) not in (2, 3):
-        sys.exit("usage: python3 bench/states.py PATH_OF_MONTRE [PATH_OF_ANOTHER]")
+        sys.exit("usage: python3 bench/cost/states.py PATH_OF_MONTRE [PATH_OF_ANOTHER]")
     programs = [os.path.abspath(path) for path in sys.argv[1:]]
     adopt_orphans()
     with tempfile.TemporaryDirectory() as folder:

@@ -1,6 +1,6 @@
 """Processor time of a run of the gate, by crate and by what it is spent on. For Linux.
 
-usage: python3 bench/gate.py [WORD..]        the command to run: `rt ci --anew` where none is given
+usage: python3 bench/house/gate.py [WORD..]        the command to run: `rt ci --anew` where none is given
 
 It runs the command, looks at the processes below it ten times a second, and prints a table at the
 end, and whenever it is sent the signal USR1. What a process used after the last look at it is in

@@ -1,6 +1,6 @@
 """Which functions of a crate cost the most to prove, and on what.
 
-usage: python3 bench/proofs.py CRATE [ROWS]
+usage: python3 bench/house/proofs.py CRATE [ROWS]
 
 CRATE is a crate that was checked from nothing by one process: remove crates/CRATE/out, and call
 `rt check --jobs 1` in the crate, with nothing else going on. The times are those between the files
@@ -11,7 +11,7 @@ import os
 import re
 import sys
 
-ROOT = os.path.join(os.path.dirname(os.path.abspath(__file__)), "..", "crates")
+ROOT = os.path.join(os.path.dirname(os.path.abspath(__file__)), "..", "..", "crates")
 KINDS = {"Lts": "body", "Proof": "open", "Answers": "answers"}
 PARTS = ("Lts Tie Proof Answers Goals Invariants Statement Met Code Kinds Layout Symbol TheLink "
          "Reads Given Named").split()

@@ -1,7 +1,7 @@
 #!/usr/bin/env python3
 """What matching takes over traces of several shapes: one markdown table.
 
-    python3 bench/shapes.py PATH_OF_MONTRE [PATH_OF_ANOTHER]
+    python3 bench/cost/shapes.py PATH_OF_MONTRE [PATH_OF_ANOTHER]
 
 Instructions over 30,000 segments, by valgrind, and the peak of memory over 10^6, in MB. With
 another program the ratio to its instructions, and its peak. For Linux, with valgrind.
@@ -84,7 +84,7 @@ def peak(words, trace):
 
 def main():
     if len(sys.argv) not in (2, 3):
-        sys.exit("usage: python3 bench/shapes.py PATH_OF_MONTRE [PATH_OF_ANOTHER]")
+        sys.exit("usage: python3 bench/cost/shapes.py PATH_OF_MONTRE [PATH_OF_ANOTHER]")
     programs = [os.path.abspath(path) for path in sys.argv[1:]]
     adopt_orphans()
     print_head(["trace", "pattern", "millions of instructions"] + ["ratio"] * (len(programs) - 1)

@@ -1,7 +1,7 @@
 #!/usr/bin/env python3
 """What reading columns takes beside the same trace in lines of text: one markdown table.
 
-    python3 bench/columns.py PATH_OF_MONTRE [ROWS]
+    python3 bench/cost/columns.py PATH_OF_MONTRE [ROWS]
 
 For Linux. Standard library alone.
 """
@@ -36,7 +36,7 @@ def line(place):
 
 def main():
     if len(sys.argv) not in (2, 3):
-        sys.exit("usage: python3 bench/columns.py PATH_OF_MONTRE [ROWS]")
+        sys.exit("usage: python3 bench/cost/columns.py PATH_OF_MONTRE [ROWS]")
     montre = os.path.abspath(sys.argv[1])
     rows = int(sys.argv[2]) if len(sys.argv) == 3 else ROWS
     adopt_orphans()

@@ -1,18 +1,20 @@
 #!/usr/bin/env python3
 """Random patterns both ways: the blocks of `--online` against the zones that are found at the end.
 
-    python3 bench/both_ways.py PATH_OF_MONTRE [COUNT]
+    python3 bench/agree/both_ways.py PATH_OF_MONTRE [COUNT]
 
 The patterns, each with a short trace of its own, are the same in each run.
 """
 
 import math
+import os
 import random
 import re
 import subprocess
 import sys
 from dataclasses import dataclass
 
+sys.path.append(os.path.join(os.path.dirname(os.path.abspath(__file__)), "..", "cost"))
 from random_growth import SIZE, pattern
 
 COUNT = 3000

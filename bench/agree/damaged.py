@@ -1,7 +1,7 @@
 #!/usr/bin/env python3
 """Damaged inputs, given whole and a byte at a time: the run is the same.
 
-    python3 bench/damaged.py PATH_OF_MONTRE
+    python3 bench/agree/damaged.py PATH_OF_MONTRE
 
 2,000 inputs of each form by a fixed seed. For Linux, with a C compiler `cc`.
 """
@@ -47,7 +47,7 @@ def input_of(chance, place):
 
 def main():
     if len(sys.argv) != 2:
-        sys.exit("usage: python3 bench/damaged.py PATH_OF_MONTRE")
+        sys.exit("usage: python3 bench/agree/damaged.py PATH_OF_MONTRE")
     chance, faults, wrong = random.Random(66), 0, 0
     with tempfile.TemporaryDirectory() as folder:
         runs = Runs(os.path.abspath(sys.argv[1]), folder)

@@ -1,7 +1,7 @@
 #!/usr/bin/env python3
 """montre over pipes, folders and devices, and with streams that nobody reads or writes.
 
-    python3 bench/streams.py PATH_OF_MONTRE
+    python3 bench/agree/streams.py PATH_OF_MONTRE
 
 Each run has to end as docs/output.md says: it never hangs, and what was told before stands there.
 For Linux.
@@ -198,7 +198,7 @@ def try_devices(runs):
 
 def main():
     if len(sys.argv) != 2:
-        sys.exit("usage: python3 bench/streams.py PATH_OF_MONTRE")
+        sys.exit("usage: python3 bench/agree/streams.py PATH_OF_MONTRE")
     with tempfile.TemporaryDirectory() as folder:
         write_files(folder)
         runs = Runs(os.path.abspath(sys.argv[1]), folder)

@@ -1,7 +1,7 @@
 #!/usr/bin/env python3
 """montre at each limit of the pages and one past it, and with patterns as large as they may be.
 
-    python3 bench/limits.py PATH_OF_MONTRE
+    python3 bench/agree/limits.py PATH_OF_MONTRE
 
 Each pattern is run at the end, online, as the one to take away, by --show and as a check of a
 file, on a stack of 8 MB. At last runs of each form and mode have more and more memory. For Linux.
@@ -288,7 +288,7 @@ class Runs:
 
 def main():
     if len(sys.argv) != 2:
-        sys.exit("usage: python3 bench/limits.py PATH_OF_MONTRE")
+        sys.exit("usage: python3 bench/agree/limits.py PATH_OF_MONTRE")
     resource.setrlimit(resource.RLIMIT_STACK, (STACK, STACK))
     with tempfile.TemporaryDirectory() as folder:
         runs = Runs(os.path.abspath(sys.argv[1]), folder)

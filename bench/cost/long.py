@@ -1,7 +1,7 @@
 #!/usr/bin/env python3
 """montre over 10^7 segments, at the end and online: one markdown table, and whether all is right.
 
-    python3 bench/long.py PATH_OF_MONTRE [SEGMENTS]
+    python3 bench/cost/long.py PATH_OF_MONTRE [SEGMENTS]
 
 For Linux. Standard library alone.
 """
@@ -55,7 +55,7 @@ def is_right(output, options, pattern, segments):
 
 def main():
     if len(sys.argv) not in (2, 3):
-        sys.exit("usage: python3 bench/long.py PATH_OF_MONTRE [SEGMENTS]")
+        sys.exit("usage: python3 bench/cost/long.py PATH_OF_MONTRE [SEGMENTS]")
     montre = os.path.abspath(sys.argv[1])
     segments = int(sys.argv[2]) if len(sys.argv) == 3 else SEGMENTS
     adopt_orphans()

@@ -1,7 +1,7 @@
 #!/usr/bin/env python3
 """Patterns of which one part matches far more than the whole can use: one markdown table.
 
-    python3 bench/cliffs.py PATH_OF_MONTRE
+    python3 bench/cost/cliffs.py PATH_OF_MONTRE
 
 Each is run over a short and a long trace, and its instructions are counted. For Linux, with
 valgrind.
@@ -57,7 +57,7 @@ def count(montre, words, text, path):
 
 def main():
     if len(sys.argv) != 2:
-        sys.exit("usage: python3 bench/cliffs.py PATH_OF_MONTRE")
+        sys.exit("usage: python3 bench/cost/cliffs.py PATH_OF_MONTRE")
     montre = os.path.abspath(sys.argv[1])
     print_head(["arguments", "trace", "millions of instructions", "growth"])
     with tempfile.TemporaryDirectory() as folder:

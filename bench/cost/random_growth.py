@@ -1,7 +1,7 @@
 #!/usr/bin/env python3
 """How the time of random patterns grows with the trace: those whose time a segment grows.
 
-    python3 bench/random_growth.py PATH_OF_MONTRE [COUNT]
+    python3 bench/cost/random_growth.py PATH_OF_MONTRE [COUNT]
 
 A pattern whose time a segment grows past 1.5 times from 1,000 to 4,000 segments is printed, unless
 its zones explain it. The patterns are the same in each run. For Linux. Standard library alone.
@@ -108,7 +108,7 @@ def grows(montre, words, paths):
 
 def main():
     if len(sys.argv) not in (2, 3):
-        sys.exit("usage: python3 bench/random_growth.py PATH_OF_MONTRE [COUNT]")
+        sys.exit("usage: python3 bench/cost/random_growth.py PATH_OF_MONTRE [COUNT]")
     montre = os.path.abspath(sys.argv[1])
     count = int(sys.argv[2]) if len(sys.argv) == 3 else COUNT
     pick = random.Random(1)

@@ -1,7 +1,7 @@
 #!/usr/bin/env python3
 """How time and memory of montre grow with the trace: one markdown table.
 
-    python3 bench/growth.py PATH_OF_MONTRE [MOST_SEGMENTS]
+    python3 bench/cost/growth.py PATH_OF_MONTRE [MOST_SEGMENTS]
 
 For Linux. Standard library alone.
 """
@@ -85,7 +85,7 @@ def print_rows(montre, folder, sizes, pattern):
 
 def main():
     if len(sys.argv) not in (2, 3):
-        sys.exit("usage: python3 bench/growth.py PATH_OF_MONTRE [MOST_SEGMENTS]")
+        sys.exit("usage: python3 bench/cost/growth.py PATH_OF_MONTRE [MOST_SEGMENTS]")
     montre = os.path.abspath(sys.argv[1])
     most = int(sys.argv[2]) if len(sys.argv) == 3 else SIZES[-1]
     adopt_orphans()

@@ -1,7 +1,7 @@
 #!/usr/bin/env python3
 """montre beside a plain slow reading of docs/meaning.md.
 
-    python3 bench/against_meaning.py PATH_OF_MONTRE
+    python3 bench/agree/against_meaning.py PATH_OF_MONTRE
 
 Each pattern stands in cases.py as a tree beside its spelling. Over each small trace
 the tree is read by the definitions (meaning.py), and each pair of half ticks is
@@ -233,7 +233,7 @@ def compare_long(montre):
 
 def main():
     if len(sys.argv) != 2:
-        sys.exit("usage: python3 bench/against_meaning.py PATH_OF_MONTRE")
+        sys.exit("usage: python3 bench/agree/against_meaning.py PATH_OF_MONTRE")
     montre = os.path.abspath(sys.argv[1])
     results = []
     with tempfile.TemporaryDirectory() as folder:
