@@ -14,7 +14,7 @@ import sys
 from decimal import Decimal
 from math import ceil, floor
 
-from cases import ALL, dump_of, events_at, lines_of, scaled
+from cases import ALL, dump_form, events_at, lines_of, scaled
 from meaning import Segment, Trace
 
 CASES = 200
@@ -63,11 +63,12 @@ def differs(program, chance):
     """One case: what is different, if anything, and how many pairs there are."""
     trace = random_trace(chance)
     form, scale = chance.choice((("text", 0), ("text", 1), ("vcd", 0), ("vcd", 2)))
+    dump = dump_form(trace, chance.randrange(2), scale)     # of every other one names are defined
     whole = "(%s) %% [0,%d]" % (chance.choice(ALL)[0], chance.randrange(9))
     inside = "(%s) & (true | eps) %% (0,%d]" % (chance.choice(ALL)[0], chance.randrange(1, 9))
     pattern = chance.choice((whole, inside, whole + " ; (" + inside + ")"))
-    text = dump_of(trace) if form == "vcd" else lines_of(trace, scale)
-    words = ["--format", form, "--scale", str(scale)]
+    text = dump.text if form == "vcd" else lines_of(trace, scale)
+    words = list(dump.options) if form == "vcd" else ["--format", form, "--scale", str(scale)]
     pattern = pattern if form == "vcd" else scaled(pattern, scale)
     every = Decimal(chance.randrange(1, 25)).scaleb(0 if form == "vcd" else -scale)
     cut = words + ["--every", str(every), "--jobs", "2", pattern]
