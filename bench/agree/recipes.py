@@ -5,7 +5,7 @@
 
 The commands are taken from the pages, and run over random dumps by the names of their own: words
 with valid and ready, right behind one another and dropped, with data that moves; pushes into a FIFO,
-that are held and as it fills; bytes of a UART, back to back and apart. What they print is compared
+that are held and as it fills; requests that rise with the clock; bytes of a UART, back to back and apart. What they print is compared
 with what the recipe says, read off the values that were put into the dump. The dumps are the same in
 each run. A command that the page hasn't any more is a fault of this script.
 """
@@ -187,6 +187,32 @@ def fifos(pick, folder, ask):
                                   if now["push"] and now["full"]])
 
 
+# ---- a request and its answer, from registers
+
+def requests(pick, folder, ask):
+    """Requests that rise with the clock: answered within three cycles, or not."""
+    cycles, req, ack = [], 0, 0
+    for _ in range(50):
+        req = 1 - req if pick.random() < 0.3 else req
+        ack = 1 - ack if pick.random() < (0.5 if ack else 0.25) else ack
+        cycles.append(dict(req=req, ack=ack))
+    edge = clocked(folder, "stream.vcd", {"clk": 1, "req": 1, "ack": 1}, cycles, pick.randint(2, 6))
+    cycles.append(cycles[-1])       # at the last edge nothing changes; before the first all are low
+    before, in_time, late = 0, [], []
+    for at, now in enumerate(cycles):
+        rises, before = now["req"] and not before, now["req"]
+        if not rises or now["ack"]:
+            continue
+        answers = [later for later in range(at, min(at + 4, len(cycles))) if cycles[later]["ack"]]
+        if answers:
+            in_time.append((edge[at], edge[answers[0]]))
+        elif at + 3 < len(cycles):
+            late.append((edge[at], edge[at + 3] + 1))
+    page = Page("clocked", [], "Within n clock cycles")
+    ask(page.command("stream.vcd \"(rise(tb.req) ; !tb.ack ; rise(tb.ack)) & (rise"), in_time)
+    ask(page.command("stream.vcd \"((rise"), late)
+
+
 # ---- a UART
 
 def line_of(byte):
@@ -220,7 +246,8 @@ def main():
     program = os.path.abspath(sys.argv[1])
     count = int(sys.argv[2]) if len(sys.argv) > 2 else COUNT
     total = wrong = 0
-    for name, check in (("valid and ready", streams), ("FIFO", fifos), ("UART", uarts)):
+    checks = {"valid and ready": streams, "FIFO": fifos, "cycles": requests, "UART": uarts}
+    for name, check in checks.items():
         found = 0
         pick = random.Random(name)
         for place in range(count):
