@@ -1,24 +1,26 @@
 """Draws signals and events of a trace or a dump, and the matches of patterns below them.
 
-usage: draw.py [options] TRACE [NAME=]PATTERN..
+usage: draw.py [options] TRACE [[NAME=]PATTERN..]
 
   --text              a timeline in characters, instead of an SVG picture
   --vcd               TRACE is a value change dump, and not lines of text
   --let TEXT          TRACE is columns of numbers, with these names, as for montre
+  --define TEXT       names for values, bits and changes of a dump's signals, as for montre
   --scale K           times have K decimals, as for montre
   --checks FILE       the patterns of such a file too
   --around NAME:N     of the checks this one alone, and only around its Nth match, from 1
   --margin T          so much before and after that match; as much as it takes itself without it
   --from T, --to T    the times to be drawn; the whole trace without them
-  --signals A,B       the signals to be drawn; those of the patterns without it
+  --signals A,B       the signals to be drawn, also vectors, bits as tb.q[3], and names of --define;
+                      those of the patterns without it
   --width N           how wide the waves of a picture are, 900 without it
   --columns N         how wide a timeline may be, 80 without it
 
-A pattern is drawn with its name, if it has one. It runs `montre`, or the program that MONTRE names,
+A pattern is drawn with its name, if it has one, and with 0 if it has no match. It runs `montre`, or the program that MONTRE names,
 once for each pattern, and reads the trace once for all signals. A zone is drawn from its earliest
 start to its latest end. A signal has an edge where montre has one: none at the start of the trace,
 and none at its end. What a dump has as z is a line in the middle, and what is neither 0, 1 nor z is
-a box.
+a box. A vector has its value, in hexadecimal digits, from each change on.
 """
 import argparse
 import csv
@@ -36,6 +38,8 @@ RESERVED = {"eps", "rise", "fall", "inf", "true", "event"}
 EVENT = re.compile(r"\bevent\s*\(\s*([A-Za-z0-9_.]+)\s*\)")
 COLOURS = ["#1f77b4", "#d62728", "#2ca02c", "#9467bd", "#ff7f0e", "#8c564b"]
 LET = re.compile(r"\s*([A-Za-z_][\w.]*) *= *([A-Za-z_][\w.]*) *([<>=!]=|[<>]) *(-?\d+)\s*")
+DEFINE = re.compile(r"\s*([A-Za-z_][\w.]*)\s*=\s*([^\s<>=!]+)\s*"
+                    r"(?:([<>=!]=|[<>])\s*(0x[0-9a-fA-F]+|0b[01]+|\d+)|(changes))?\s*")
 SIGNS = {"<": operator.lt, "<=": operator.le, ">": operator.gt, ">=": operator.ge,
          "==": operator.eq, "!=": operator.ne}
 LETTERS = {"0": "_", "1": "#", "x": "x", "z": "z"}
@@ -82,6 +86,53 @@ def read_columns(name, signals, let, scale):
     return waves
 
 
+def definitions(text):
+    """What --define says of each name: the signal, a sign and a number, and whether it changes."""
+    found = [DEFINE.fullmatch(part) for part in text.split(";") if part.strip()]
+    if None in found:
+        sys.exit("draw.py: a definition can't be read: " + text)
+    return {part[1]: (part[2], part[3], part[4] and int(part[4], 0), part[5]) for part in found}
+
+
+def compared(wave, sign, number):
+    """Where a signal's number compares so; while a bit is unknown it doesn't."""
+    made = [(0, "0")]
+    for time, value in wave:
+        known = value and set(value) <= {"0", "1"}
+        dumps.put(made, time, "1" if known and SIGNS[sign](int(value, 2), number) else "0")
+    return made
+
+
+def read_dump(name, signals, events, defined):
+    """The waves and the moments of a dump, in its ticks, with those of defined names, and its unit."""
+    paths = [defined[signal][0] if signal in defined else signal for signal in [*signals, *events]
+             if signal in defined or signal in signals]
+    plain = [event for event in events if event not in defined]
+    read, happened, unit = dumps.read(name, dict.fromkeys(paths), plain)
+    waves, moments = {}, {}
+    for signal in signals:
+        path, sign, number, _ = defined.get(signal, (signal, None, None, None))
+        waves[signal] = compared(read[path], sign, number) if sign else read[path]
+    for event in events:
+        if event in defined:
+            wave = read[defined[event][0]]
+            moments[event] = [time for (_, before), (time, _) in zip(wave, wave[1:]) if before]
+        else:
+            moments[event] = happened[event]
+    return waves, moments, unit
+
+
+def digits(value):
+    """The value of a vector in hexadecimal digits; x and z where its bits are, and X for a mix."""
+    groups = [value[max(0, end - 4):end] for end in range(len(value), 0, -4)][::-1]
+    return "".join("%X" % int(group, 2) if set(group) <= {"0", "1"}
+                   else group[0] if len(set(group)) == 1 else "X" for group in groups)
+
+
+def is_vector(wave):
+    return any(len(value) > 1 for _, value in wave)
+
+
 def units(text, scale):
     return int(Decimal(text).scaleb(scale))
 
@@ -95,9 +146,10 @@ def ticks(time, scale):
 class Window:
     """The times to be drawn, in units."""
 
-    def __init__(self, start, end, scale):
+    def __init__(self, start, end, scale, unit):
         self.start, self.end, self.scale = start, max(end, start + 1), scale
         self.length = self.end - self.start
+        self.unit = unit[1:] if re.fullmatch("1[a-z]+", unit) else unit or "ticks"
 
     def clip(self, stretches):
         inside = [(max(a, self.start), min(b, self.end)) for a, b in stretches]
@@ -145,9 +197,19 @@ def signal_line(wave, window, columns):
     for begin, end, value in window.pieces(wave):
         last = -((window.start - end) * columns // window.length)
         for place in range(window.column(begin, columns), min(last, columns)):
-            letter = LETTERS[value]
+            letter = LETTERS[value or "0"]
             line[place] = letter if line[place] in ("", letter) else "|"
     return "".join(line)
+
+
+def vector_line(wave, window, columns):
+    """The values of a vector, each behind a `|`, and cut where the next one comes."""
+    line = [" "] * columns
+    for begin, end, value in window.pieces(wave):
+        first, last = window.column(begin, columns), -((window.start - end) * columns // window.length)
+        text = "|" + digits(value) if value else "|"
+        line[first:last] = text[:last - first].ljust(last - first)
+    return "".join(line[:columns])
 
 
 def event_line(moments, window, columns):
@@ -177,14 +239,17 @@ def scale_line(window, columns):
 
 def timeline(waves, moments, found, window, columns):
     columns = columns // window.length * window.length if window.length <= columns else columns
-    width = max(len(name) for name in ["ticks", "match", *waves, *moments]) + 2
-    lines = ["ticks".ljust(width) + scale_line(window, columns)]
+    width = max(len(name) for name in [window.unit, "match", *waves, *moments]) + 2
+    lines = [window.unit.ljust(width) + scale_line(window, columns)]
     for name, wave in waves.items():
-        lines.append(name.ljust(width) + signal_line(wave, window, columns))
+        draw = vector_line if is_vector(wave) else signal_line
+        lines.append(name.ljust(width) + draw(wave, window, columns))
     for name, times in moments.items():
         lines.append(name.ljust(width) + event_line(times, window, columns))
     for label, stretches in found:
-        for row in rows_of(window.clip(stretches)) or [[]]:
+        rows = rows_of(window.clip(stretches))
+        label += "" if rows else ": 0 here" if stretches else ": 0"
+        for row in rows or [[]]:
             lines.append("match".ljust(width) + match_line(row, window, columns) + "  " + label)
     return "\n".join(line.rstrip() for line in lines)
 
@@ -196,11 +261,11 @@ class Picture:
 
     STYLE = ("text{font:13px monospace}path{fill:none;stroke:#222;stroke-width:1.5}"
              ".scale{stroke:#ddd}.z{stroke:#d60;stroke-width:2.5;stroke-dasharray:4 2}"
-             ".busy{fill:#222}.x{fill:#f6c9c9;stroke:#b22;stroke-width:1}.match{fill-opacity:.7}")
+             ".vector{fill:#fff}.busy{fill:#222}.x{fill:#f6c9c9;stroke:#b22;stroke-width:1}.match{fill-opacity:.7}")
 
     def __init__(self, window, wide, names):
         self.window, self.wide, self.top, self.rows = window, wide, 30, []
-        self.left = 12 + 8 * max(len(name) for name in ["ticks", *names])
+        self.left = 18 + 8 * max(len(name) for name in [window.unit, *names])
 
     def at(self, time):
         return self.left + (time - self.window.start) * self.wide / self.window.length
@@ -228,11 +293,35 @@ class Picture:
         if many:
             yield (*many, "busy")
 
+    def vector(self, name, wave):
+        """A hexagon for each value, with the value where there is room."""
+        self.name(name)
+        low, middle, high = self.top + 20, self.top + 12, self.top + 4
+        for begin, end, value in self.thinned(wave):
+            if value == "busy":
+                self.box(value, begin, end)
+                continue
+            slope = min(3, (end - begin) / 2)
+            kind = "vector" if set(value) <= {"0", "1"} else "x"
+            corners = [(begin, middle), (begin + slope, high), (end - slope, high), (end, middle),
+                       (end - slope, low), (begin + slope, low)]
+            path = "M%sZ" % " L".join("%.1f,%d" % corner for corner in corners)
+            self.rows.append('<path class="%s" d="%s" style="fill:%s"/>'
+                             % (kind, path, "#fff" if kind == "vector" else "#f6c9c9"))
+            if value and 8 * len(digits(value)) + 6 <= end - begin:
+                self.rows.append('<text x="%.1f" y="%d" text-anchor="middle">%s</text>'
+                                 % ((begin + end) / 2, self.top + 17, digits(value)))
+        self.top += 28
+
     def signal(self, name, wave):
+        if is_vector(wave):
+            self.vector(name, wave)
+            return
         self.name(name)
         levels = {"1": self.top + 4, "0": self.top + 20, "z": self.top + 12}
         line, before = "", None
         for begin, end, value in self.thinned(wave):
+            value = value or "0"
             if value in levels:
                 line += "%s%.1f,%d" % ("L" if before in levels else "M", begin, levels[value])
                 line += "%s%.1f,%d" % ("M" if value == "z" else "L", end, levels[value])
@@ -253,11 +342,13 @@ class Picture:
         self.top += 28
 
     def matches(self, label, stretches, colour):
+        rows = rows_of(self.window.clip(stretches))
+        label += "" if rows else ": 0 here" if stretches else ": 0"
         for part in textwrap.wrap(label, max(20, self.wide // 8)):
             self.name(part, colour, self.left)
             self.top += 16
         self.top += 4
-        for row in rows_of(self.window.clip(stretches)):
+        for row in rows:
             # of those that would be drawn at one place, one
             for begin, end in {(round(self.at(start) - 1, 1), round(self.at(end) + 1, 1)): 1
                                for start, end in row}:
@@ -266,7 +357,7 @@ class Picture:
         self.top += 4
 
     def text(self):
-        scale = []
+        scale = ['<text x="4" y="16">%s</text>' % escape(self.window.unit)]
         widest = 8 * len(ticks(self.window.end, self.window.scale)) + 20
         for mark in self.window.marks(max(2, self.wide // max(75, widest))):
             scale.append('<path class="scale" d="M%.1f,22 V%d"/>' % (self.at(mark), self.top))
@@ -303,6 +394,7 @@ def read_words():
     arguments.add_argument("--text", action="store_true")
     arguments.add_argument("--vcd", action="store_true")
     arguments.add_argument("--let")
+    arguments.add_argument("--define")
     arguments.add_argument("--scale", type=int, default=0)
     arguments.add_argument("--checks", type=checks_of, default=[])
     arguments.add_argument("--around", type=around)
@@ -317,7 +409,7 @@ def read_words():
     return options
 
 
-def window_of(options, end, found):
+def window_of(options, end, found, unit):
     """The window that the options ask for, in a trace that ends there."""
     times = vars(options)
     start = 0 if times["from"] is None else units(times["from"], options.scale)
@@ -332,19 +424,28 @@ def window_of(options, end, found):
         if options.margin is not None:
             margin = units(options.margin, options.scale)
         start, end = max(start, first - margin), min(end, last + margin)
-    return Window(start, end, options.scale)
+    return Window(start, end, options.scale, unit)
 
 
 def read(options, signals, events):
-    """The waves of the signals and the moments of the events, in units."""
+    """The waves of the signals and the moments of the events, in units, and what a tick is."""
     if options.let:
-        return read_columns(options.trace, signals, options.let, options.scale), {}
+        return read_columns(options.trace, signals, options.let, options.scale), {}, ""
     if not options.vcd:
-        return read_text(options.trace, signals, events, options.scale)
-    waves, moments = dumps.read(options.trace, signals, events)
+        return *read_text(options.trace, signals, events, options.scale), ""
+    defined = definitions(options.define or "")
+    waves, moments, unit = read_dump(options.trace, signals, events, defined)
     factor = 10 ** options.scale
     waves = {name: [(time * factor, value) for time, value in wave] for name, wave in waves.items()}
-    return waves, {name: [time * factor for time in times] for name, times in moments.items()}
+    return waves, {name: [time * factor for time in times] for name, times in moments.items()}, unit
+
+
+def asked_by(options):
+    """The arguments of montre but for the pattern."""
+    asked = ["--input", options.trace, "--scale", str(options.scale)]
+    asked += ["--format", "vcd"] if options.vcd else []
+    asked += ["--define", options.define] if options.define else []
+    return asked + (["--format", "csv", "--let", options.let] if options.let else [])
 
 
 def main():
@@ -353,19 +454,18 @@ def main():
     if options.around:
         checks = [check for check in checks if check[0] == options.around[0]]
     patterns = checks + options.patterns
-    if not patterns:
+    if not patterns and (options.around or not options.signals):
         sys.exit("draw.py: no pattern" + (" of that name" if options.around else ""))
-    asked = ["--input", options.trace, "--scale", str(options.scale)]
-    asked += ["--format", "vcd"] if options.vcd else []
-    asked += ["--format", "csv", "--let", options.let] if options.let else []
-    answers = [matches(asked, pattern) for _, pattern, _ in patterns]
+    answers = [matches(asked_by(options), pattern) for _, pattern, _ in patterns]
     found = [[(units(a, options.scale), units(b, options.scale)) for a, b in stretches]
              for stretches, _ in answers]
     signals, events = names_in(pattern for _, pattern, _ in patterns)
     signals = options.signals or signals
-    waves, moments = read(options, signals, events)
-    window = window_of(options, units(answers[0][1], options.scale),
-                       dict(zip([name for name, _, _ in patterns], found)))
+    waves, moments, unit = read(options, signals, events)
+    # where no pattern is asked, one that never matches says when the trace ends
+    _, end = answers[0] if answers else matches(asked_by(options), "eps & true")
+    window = window_of(options, units(end, options.scale),
+                       dict(zip([name for name, _, _ in patterns], found)), unit)
     labels = [name if has_name else pattern for name, pattern, has_name in patterns]
     if options.text:
         print(timeline(waves, moments, list(zip(labels, found)), window, options.columns))

@@ -1,6 +1,7 @@
 """Matches a pattern over a trace in pieces, for a trace that is too long for one run.
 
-usage: pieces.py [--format text|vcd] [--scale K] [--jobs N] --every TICKS PATTERN < TRACE
+usage: pieces.py [--format text|vcd] [--define TEXT] [--scale K] [--jobs N]
+                 --every TICKS PATTERN < TRACE
 
 The trace is cut about every TICKS, between two segments. Behind its end a piece has as much more
 as a match may take, and one segment; before its start it has one segment. `montre`, or the program
@@ -8,7 +9,7 @@ that MONTRE names, matches the pieces, N at a time. Of the zones of a piece the 
 starts in it, at the times of the whole trace: so the zones printed hold the matches that one run
 over all of it would find. A zone that starts on both sides of a cut is printed as two.
 
-A pattern without a longest duration is refused. The whole trace may be longer than a run allows.
+--define and --scale are those of montre. A pattern without a longest duration is refused. The whole trace may be longer than a run allows.
 """
 import argparse
 import collections
@@ -287,8 +288,9 @@ def answers(pieces, jobs, scale, options):
 
 
 def main():
-    parser = argparse.ArgumentParser(usage=__doc__.partition("usage: ")[2].partition("\n")[0])
+    parser = argparse.ArgumentParser(usage=__doc__.partition("usage: ")[2].partition("\n\n")[0])
     parser.add_argument("--format", choices=("text", "vcd"), default="text")
+    parser.add_argument("--define")
     parser.add_argument("--scale", type=int, default=0)
     parser.add_argument("--jobs", type=int, default=1)
     parser.add_argument("--every", required=True)
@@ -304,7 +306,8 @@ def main():
         raise Refused("--every takes a number of ticks, of at least one unit")
     trace = (Dump if given.format == "vcd" else Lines)(sys.stdin.buffer, scale)
     pieces = cut(trace, every, longest)
-    for zones in answers(pieces, given.jobs, scale, ["--format", given.format, *options]):
+    reads = ["--format", given.format] + (["--define", given.define] if given.define else [])
+    for zones in answers(pieces, given.jobs, scale, [*reads, *options]):
         for zone in zones:
             print(line_of(zone, scale))
     print("end " + number(trace.end, scale))

@@ -1,10 +1,19 @@
 #!/bin/sh
 # Runs each example of the pages with the program in $MONTRE, and compares:
-#   MONTRE=/path/to/montre sh examples/run.sh
-# examples/README.md says what an example is. It fails at any difference, and where a page of PAGES has no example.
+#   MONTRE=/path/to/montre sh examples/run.sh [--unproved]
+# examples/README.md says what an example is. It fails at any difference, and where a page of PAGES has no example. A
+# program that bench/house/unproved.sh built is taken with --unproved alone, and no other one with it.
 : "${MONTRE:?the path of the program}"
 case $MONTRE in /*) ;; *) MONTRE=$PWD/$MONTRE ;; esac
 [ -x "$MONTRE" ] || { echo "run.sh: $MONTRE isn't a program"; exit 1; }
+kind=proved
+[ "$(basename "$(readlink -f "$MONTRE")")" != montre-unproved ] || kind=unproved
+! grep -qa 'montre-unproved: built without proof' "$MONTRE" || kind=unproved
+case $kind-$* in
+    proved- | unproved---unproved) ;;
+    unproved-) echo "run.sh: $MONTRE isn't proved; --unproved takes it"; exit 1 ;;
+    *) echo 'run.sh: MONTRE=/path/to/montre sh examples/run.sh [--unproved], and --unproved for such a program alone'; exit 1 ;;
+esac
 cd "$(dirname "$0")/.." || exit 1
 PAGES='README.md docs/clocked.md docs/cookbook.md docs/many.md docs/montre.1 docs/output.md docs/patterns.md docs/scripts.md docs/traces.md docs/vcd.md examples/README.md examples/shapes.md'
 room=$(mktemp -d) || exit 1
@@ -63,7 +72,7 @@ split() {
 
 # session FOLDER: runs the examples in their order in one shell, in a copy of examples/.
 session() (
-    mkdir "$room/files" && cp examples/* "$room/files" && cd "$room/files" || exit 1
+    mkdir "$room/files" && cp -r examples/* "$room/files" && cd "$room/files" || exit 1
     place=1
     while [ -f "$1/$place.command" ]; do
         . "$1/$place.command" > "$1/$place.printed" 2>&1

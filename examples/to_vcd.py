@@ -1,21 +1,31 @@
 """Writes a copy of a dump with signals for the matches of patterns, for a waveform viewer.
 
-usage: to_vcd.py [--checks FILE] DUMP [NAME=]PATTERN.. > COPY
+usage: to_vcd.py [--checks FILE] [--define TEXT] [--scale K] DUMP [NAME=]PATTERN.. > COPY
+       to_vcd.py .. --out COPY DUMP [NAME=]PATTERN..
 
 The signal montre.NAME is high from the start of a match to its end, and at each match that is a
 single moment the event montre.NAME_moment happens. Without a name it is montre.match. A zone counts
 from its earliest start to its latest end, and matches that touch as one. --checks takes the
-patterns of such a file. It runs `montre`, or the program that MONTRE names, once for each pattern.
+patterns of such a file, and --define and --scale are those of montre. It runs `montre`, or the
+program that MONTRE names, once for each pattern.
 
-Refused: two patterns of one name, and a name that the dump has already.
+With --out it writes a file for GTKWave beside the copy too, COPY with .gtkw for .vcd, in which the
+signals of the patterns and the matches are shown, with a marker at the first match of each.
+
+Refused: two patterns of one name, a name that the dump has already, and a match that begins or ends
+between two ticks of the dump.
 """
 import argparse
 import itertools
+import math
+import os
 import re
 import sys
 
 import dumps
+from draw import definitions, names_in
 from matches import checks_of, matches, named
+
 
 def joined(stretches):
     """The stretches that take time, those that touch made one."""
@@ -108,27 +118,75 @@ class Copy:
         return len(words) == 2 and words[0][:1] in b"bBrRsS"
 
 
+def in_ticks(stretches, name):
+    """The stretches in ticks of the dump, each of which has to be whole."""
+    if any(time != int(time) for stretch in stretches for time in stretch):
+        sys.exit("to_vcd.py: a match of %s isn't at ticks of the dump" % name)
+    return [(int(start), int(end)) for start, end in stretches]
+
+
+def shown(header, patterns, define):
+    """The signals and events of the patterns, as GTKWave names them, each with how it is drawn."""
+    signals, events = names_in(pattern for _, pattern in patterns)
+    defined = definitions(define or "")
+    for name in dict.fromkeys(defined[name][0] if name in defined else name
+                              for name in [*signals, *events]):
+        identifier = header.events.get(name) or header.part(name)[0]
+        sizes = {found.size: full for full, found in header.vectors.items()
+                 if found.identifier == identifier and (found.size == 1 or full.endswith("]"))}
+        size, full = max(sizes.items(), default=(1, name))
+        yield ("@22" if size > 1 else "@28"), full if size > 1 else name
+
+
+def save_file(copy, header, patterns, found, end, define):
+    """What GTKWave is to show of the copy: all of it, its signals, and a marker at each first match."""
+    zoom = 1.4 - math.log2(max(1, end))     # at 0 a tick has 200 points
+    marks = [stretches[0][0] for stretches in found if stretches][:26]
+    lines = ['[dumpfile] "%s"' % os.path.abspath(copy), "[timestart] 0"]
+    lines.append("*%.6f -1 %s" % (zoom, " ".join(str(mark) for mark in marks + [-1] * (26 - len(marks)))))
+    for kind, name in shown(header, patterns, define):
+        lines += [kind, name]
+    for (name, _), stretches in zip(patterns, found):
+        lines += ["@28", "montre." + name] if any(a < b for a, b in stretches) or not stretches else []
+        lines += ["@28", "montre.%s_moment" % name] if any(a == b for a, b in stretches) else []
+    return "\n".join(lines) + "\n"
+
+
 def main():
     arguments = argparse.ArgumentParser(usage=__doc__, add_help=False)
     arguments.add_argument("--checks", default=[], type=checks_of)
+    arguments.add_argument("--define")
+    arguments.add_argument("--scale", default="0")
+    arguments.add_argument("--out")
     arguments.add_argument("dump")
     arguments.add_argument("patterns", nargs="*", type=named)
     options = arguments.parse_intermixed_args()
     patterns = options.checks + options.patterns
+    asked = ["--format", "vcd", "--input", options.dump, "--scale", options.scale]
+    asked += ["--define", options.define] if options.define else []
+    answers = [matches(asked, pattern) for _, pattern in patterns]
+    found = [in_ticks(stretches, name) for (name, _), (stretches, _) in zip(patterns, answers)]
     with open(options.dump, "rb") as file:
         header, rest = dumps.header_of(file)
-        line, identifiers = with_signals(header, [name for name, _ in patterns])
-        sys.stdout.buffer.write(line)
+        head, identifiers = with_signals(header, [name for name, _ in patterns])
         at = {}
-        for place, (_, pattern) in enumerate(patterns):
-            found, _ = matches(["--format", "vcd", "--input", options.dump], pattern)
-            for time, new in changes(found, *identifiers[2 * place:2 * place + 2]).items():
+        for place, stretches in enumerate(found):
+            for time, new in changes(stretches, *identifiers[2 * place:2 * place + 2]).items():
                 at.setdefault(time, []).extend(new)
-        copy = Copy(at)
-        for line in itertools.chain([rest], file):
-            sys.stdout.buffer.write(copy.line(line))
-        rest = copy.changes_before(None)
-        sys.stdout.buffer.write(rest if line.endswith(b"\n") else b"\n" + rest)
+        with open(options.out, "wb") if options.out else sys.stdout.buffer as out:
+            write(out, head, Copy(at), itertools.chain([rest], file))
+    if options.out:
+        with open(os.path.splitext(options.out)[0] + ".gtkw", "w") as beside:
+            end = int(answers[0][1]) if answers else 0
+            beside.write(save_file(options.out, header, patterns, found, end, options.define))
+
+
+def write(out, head, copy, lines):
+    out.write(head)
+    for line in lines:
+        out.write(copy.line(line))
+    rest = copy.changes_before(None)
+    out.write(rest if line.endswith(b"\n") else b"\n" + rest)
 
 
 if __name__ == "__main__":
