@@ -3,12 +3,12 @@
 
     python3 bench/house/statement.py [--words] [PAGE]
 
-It begins with the contract of `run_all` (tre_tool, src/whole_run.rt), with the code of a status
-that `main` ends with, and with what a source and a sink are (tre_io), and follows each word to its
-definition, through the imports of the file that it stands in: to specs/ of the project's crates,
-and to the types and constants that src/ declares. A line counts where it belongs to a definition
-that is reached, with the comment above it. Words of the kit's library are named, and those of its
-crates `clap` and `csv` followed in the same way, with a count of their own.
+It begins with the contracts of `exit_code`, which `main` ends with, and of `run_all` (tre_tool,
+src/program.rt and src/whole_run.rt), and with what a source and a sink are (tre_io), and follows
+each word to its definition, through the imports of the file that it stands in: to specs/ of the
+project's crates, and to the types and constants that src/ declares. A line counts where it belongs
+to a definition that is reached, with the comment above it. Words of the kit's library are named,
+and those of its crates `clap` and `csv` followed in the same way, with a count of their own.
 
 With a page, as docs/proof.md, it tells each number that the page has otherwise.
 """
@@ -20,7 +20,7 @@ import subprocess
 import sys
 
 CRATES = os.path.join(os.path.dirname(os.path.abspath(__file__)), "..", "..", "crates")
-FIRST = [("tre_tool/src/whole_run.rt", "fn run_all"), ("tre_tool/src/status.rt", "fn code"),
+FIRST = [("tre_tool/src/program.rt", "fn exit_code"), ("tre_tool/src/whole_run.rt", "fn run_all"),
          ("tre_io/src/source.rt", "trait Source"), ("tre_io/src/sink.rt", "trait Sink")]
 FOLLOWED = ("clap", "csv")
 COMMENT = re.compile(r"\s*(--|//)")
