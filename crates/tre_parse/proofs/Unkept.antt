@@ -13,8 +13,7 @@ use Rattle.tre_parse.specs.Grammar.{Words, StateRule, state, conj, unary, Spells
 use Rattle.tre_parse.specs.Begins.{BeginsInterval}
 use Rattle.tre_parse.specs.Parts.{IsFineInterval, IsMadeOf}
 use Rattle.tre_parse.specs.Operands.{Formula, RepresentsState}
-use Rattle.tre_parse.specs.Outcome.{is_big, HasEmptyAt}
-use Rattle.tre_parse.specs.ScannedOutcome.{IsFirstEmpty}
+use Rattle.tre_parse.specs.Outcome.{is_big, HasEmptyAt, IsFirstEmpty}
 use Rattle.tre_parse.specs.Words.{Word, sign}
 use Rattle.tre_parse.specs.TokenWords.{word_of, words_for}
 use Rattle.tre_parse.specs.Reader.{Reading, got, StateTask, of_state, of_interval, read, read_state}

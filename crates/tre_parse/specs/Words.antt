@@ -71,7 +71,6 @@ with_events one two (name text ∷ rest) =
     else name text) ∷ with_events two (name text) rest
 with_events one two (word ∷ rest) = word ∷ with_events two word rest
 
--- The words of a text, before the first of which nothing stands.
 abbrev pub words_among : List (ℕ × Word (List ℕ)) → List (Word (List ℕ))
 words_among placed = with_events (sign []) (sign []) (map (λ one. one.1) placed)
 
@@ -88,7 +87,6 @@ abbrev pub first_uses : List (List ℕ) → List (List ℕ)
 first_uses [] = []
 first_uses (bytes ∷ rest) = bytes ∷ filter (λ other. not (bytes_eq other bytes)) (first_uses rest)
 
--- The first NAMES_MAX names of each kind, by first use.
 abbrev pub names_among : List (ℕ × Word (List ℕ)) → Vocabulary
 names_among placed =
     record {
