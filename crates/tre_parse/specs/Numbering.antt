@@ -30,4 +30,5 @@ past_of words = option_map (offset_of words) (position is_past (words_for words.
 abbrev pub IsNumberedByUse : TextTokens → Type 0
 IsNumberedByUse words =
     position is_past (words_for words.tokens) ≡ None → (kind : NameKind) →
-    seen_after 0 (numbers_in kind (words_for words.tokens)) ≡ Some (length (names_of_kind kind words.names))
+    seen_after 0 (numbers_in kind (words_for words.tokens))
+    ≡ Some (length (names_of_kind kind words.names))

@@ -58,10 +58,10 @@ pub fn longest_word()
 
 /// Tokens begin a rule exactly where some further tokens complete them to what it spells.
 pub fn beginnings()
-    ensures expression { (rule : Rule) (tokens : List Token) → Begins rule (words_for tokens) ↔
-        IsCompletable (Spells rule) (words_for tokens) }
-    ensures state { (rule : StateRule) (tokens : List Token) → BeginsState rule (words_for tokens) ↔
-        IsCompletable (SpellsState rule) (words_for tokens) }
+    ensures expression { (rule : Rule) (tokens : List Token) →
+        Begins rule (words_for tokens) ↔ IsCompletable (Spells rule) (words_for tokens) }
+    ensures state { (rule : StateRule) (tokens : List Token) →
+        BeginsState rule (words_for tokens) ↔ IsCompletable (SpellsState rule) (words_for tokens) }
 {}
 
 /// Every text has an outcome at each scale.
@@ -83,26 +83,33 @@ pub fn outcome_is_spelt()
 
 /// `;` binds more than `&`, and `&` more than `|`. Each of them groups to the left.
 pub fn strength()
-    ensures bars { Groups (sign (codes "|")) (sign (codes "|")) (λ e f g. alternation (alternation e f) g) }
-    ensures ampersands { Groups (sign (codes "&")) (sign (codes "&")) (λ e f g. intersection (intersection e f) g) }
-    ensures semicolons { Groups (sign (codes ";")) (sign (codes ";")) (λ e f g. sequence (sequence e f) g) }
-    ensures bar_ampersand { Groups (sign (codes "|")) (sign (codes "&")) (λ e f g. alternation e (intersection f g)) }
-    ensures ampersand_bar { Groups (sign (codes "&")) (sign (codes "|")) (λ e f g. alternation (intersection e f) g) }
-    ensures bar_semicolon { Groups (sign (codes "|")) (sign (codes ";")) (λ e f g. alternation e (sequence f g)) }
-    ensures semicolon_bar { Groups (sign (codes ";")) (sign (codes "|")) (λ e f g. alternation (sequence e f) g) }
-    ensures ampersand_semicolon { Groups (sign (codes "&")) (sign (codes ";")) (λ e f g. intersection e
-        (sequence f g)) }
-    ensures semicolon_ampersand { Groups (sign (codes ";")) (sign (codes "&")) (λ e f g. intersection
-        (sequence e f) g) }
+    ensures bars { Groups (sign (codes "|")) (sign (codes "|"))
+        (λ e f g. alternation (alternation e f) g) }
+    ensures ampersands { Groups (sign (codes "&")) (sign (codes "&"))
+        (λ e f g. intersection (intersection e f) g) }
+    ensures semicolons { Groups (sign (codes ";")) (sign (codes ";"))
+        (λ e f g. sequence (sequence e f) g) }
+    ensures bar_ampersand { Groups (sign (codes "|")) (sign (codes "&"))
+        (λ e f g. alternation e (intersection f g)) }
+    ensures ampersand_bar { Groups (sign (codes "&")) (sign (codes "|"))
+        (λ e f g. alternation (intersection e f) g) }
+    ensures bar_semicolon { Groups (sign (codes "|")) (sign (codes ";"))
+        (λ e f g. alternation e (sequence f g)) }
+    ensures semicolon_bar { Groups (sign (codes ";")) (sign (codes "|"))
+        (λ e f g. alternation (sequence e f) g) }
+    ensures ampersand_semicolon { Groups (sign (codes "&")) (sign (codes ";"))
+        (λ e f g. intersection e (sequence f g)) }
+    ensures semicolon_ampersand { Groups (sign (codes ";")) (sign (codes "&"))
+        (λ e f g. intersection (sequence e f) g) }
 {}
 
 /// Inside a state `&&` binds more than `||`. Each of them groups to the left.
 pub fn state_strength()
-    ensures bars { StateGroups (sign (codes "||")) (sign (codes "||")) (λ s t u. disjunction (disjunction s t) u) }
-    ensures ampersands { StateGroups (sign (codes "&&")) (sign (codes "&&")) (λ s t u. conjunction
-        (conjunction s t) u) }
-    ensures bar_ampersand { StateGroups (sign (codes "||")) (sign (codes "&&")) (λ s t u. disjunction s
-        (conjunction t u)) }
-    ensures ampersand_bar { StateGroups (sign (codes "&&")) (sign (codes "||")) (λ s t u. disjunction
-        (conjunction s t) u) }
+    ensures bars { StateGroups (sign (codes "||")) (sign (codes "||"))
+        (λ s t u. disjunction (disjunction s t) u) }
+    ensures ampersands { StateGroups (sign (codes "&&")) (sign (codes "&&")) (λ s t u. conjunction (conjunction s t) u) }
+    ensures bar_ampersand { StateGroups (sign (codes "||")) (sign (codes "&&"))
+        (λ s t u. disjunction s (conjunction t u)) }
+    ensures ampersand_bar { StateGroups (sign (codes "&&")) (sign (codes "||"))
+        (λ s t u. disjunction (conjunction s t) u) }
 {}
