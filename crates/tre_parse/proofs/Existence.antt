@@ -11,9 +11,11 @@ use Rattle.tre_parse.specs.declared.fault.ParseFault.TheVariants.{TooLong, BadBy
 use Rattle.tre_parse.specs.declared.limits.TheConstants.{TEXT_MAX, COUNT_MAX}
 use Rattle.tre_syntax.specs.declared.pattern.TheConstants.{NODES_MAX}
 use Rattle.tre_parse.specs.Reader.{Reading, got, stop}
-use Rattle.tre_parse.specs.Outcome.{is_big, is_past, deep_place, HasEmptyAt, IsFirstEmpty, Outcome, spelt, refused, ComesFirst, IsOutcome}
+use Rattle.tre_parse.specs.Outcome.{is_big, is_past, HasEmptyAt, IsFirst, Outcome, spelt, refused, ComesFirst, IsOutcome}
 use Rattle.tre_parse.specs.Grammar.{Words, expr, Spells}
 use Rattle.tre_parse.specs.Scanned.{bad_byte}
+use Rattle.tre_parse.specs.Limits.{deep_place}
+use Rattle.tre_parse.proofs.Depth.{deep_first}
 use Rattle.tre_parse.specs.TokenWords.{word_of, words_for}
 use Rattle.std.proofs.lemmas.List.{length-map}
 use Rattle.tre_parse.specs.ScannedOutcome.{TextTokens, offset_of, read_by, NoneBelow, text_tokens_of}
@@ -109,7 +111,7 @@ here_or tokens place lt = after (percent_or (get_or tokens place Percent))
 
 -- The first empty interval that stands no further than a place, or that there is none.
 abbrev FirstOr : Words → ℕ → Type 0
-FirstOr tokens n = ((place : ℕ) × IsFirstEmpty tokens place) ⊎ NoneEmptyBefore tokens (n + 1)
+FirstOr tokens n = ((place : ℕ) × IsFirst (HasEmptyAt tokens) place) ⊎ NoneEmptyBefore tokens (n + 1)
 
 further : (tokens : Words) (n : ℕ) → n < length tokens → FirstOr tokens n
     → Decided (HasEmptyAt tokens (n + 1)) → FirstOr tokens (suc n)
@@ -180,7 +182,8 @@ read_as words bad below (got tree []) e =
 shallow_or : (words : TextTokens) (bad : Option ℕ) → NoneBelow 3 (read_by words bad)
     → (deep : Option ℕ) → deep_place 0 0 (words_for words.tokens) ≡ deep → First words bad
 shallow_or words bad below (Some place) e =
-    (refused (TooDeep (offset_of words place)), ((place, e, refl), below))
+    let is = deep_first (words_for words.tokens) place e in
+    (refused (TooDeep (offset_of words place)), ((place, is, refl), below))
 shallow_or words bad below None e =
     read_as words bad (past_brackets (read_by words bad) below e) _ refl
 

@@ -32,7 +32,7 @@ use Rattle.tre_parse.specs.Joins.{Keeps}
 use Rattle.tre_parse.specs.Scan.{placed_from, IsBadByte, IsScan}
 use Rattle.tre_parse.specs.Front.{tokens_in, offsets_in}
 use Rattle.tre_parse.specs.Numbering.{IsNumberedByUse}
-use Rattle.tre_parse.specs.Outcome.{Read, is_big, is_past, deep_place, IsFirstEmpty, HasCause, rank, Outcome, spelt, refused, ComesFirst}
+use Rattle.tre_parse.specs.Outcome.{Read, is_big, is_past, HasEmptyAt, IsFirst, HasCause, rank, Outcome, spelt, refused, ComesFirst}
 use Rattle.tre_parse.specs.TokenWords.{word_of, words_for}
 use Rattle.std.proofs.lemmas.List.{length-map}
 use Rattle.tre_parse.specs.ScannedOutcome.{TextTokens, offset_of, read_by, NoneBelow, text_tokens_of, read_of}
@@ -42,6 +42,8 @@ use Rattle.tre_parse.proofs.NumberedWords.{text_numbered}
 use Rattle.tre_parse.proofs.Fine.{none_big, stand_fine, fine_intervals}
 use Rattle.tre_parse.specs.Unkept.{NoneEmpty, FindsUpTo}
 use Rattle.tre_parse.proofs.Unkept.{IsFound, finds_first}
+use Rattle.tre_parse.specs.Limits.{deep_place}
+use Rattle.tre_parse.proofs.Depth.{never_deep}
 use Rattle.tre_parse.proofs.Outcomes.{first_once}
 use Rattle.tre_parse.proofs.Spelling.{none_found}
 
@@ -85,7 +87,7 @@ pub past_brackets : (read : Read) → NoneBelow 3 read → deep_place 0 0 read.w
 past_brackets read below none = next 3 read below deep
   where
     deep : (fault : ParseFault) → rank fault ≡ 3 → HasCause read fault → ⊥
-    deep (TooDeep at) e is = let some = is.1 in cc
+    deep (TooDeep at) e is = never_deep read.words is.0 none is.1.0
     deep fault e is = omega (arith, e)
 
 pub past_syntax : (read : Read) → NoneBelow 4 read → (tree : PatternTree)
@@ -181,9 +183,9 @@ none_empty words operand below k none = subst (IsFound (words_for words.tokens))
 pub first_found : (words : TextTokens) (operand : Operand) (left : ℕ)
     → NoneBelow 4 (read_by words None)
     → FindsUpTo words.tokens [] operand.unkept → operand.unkept ≡ Some left
-    → IsFirstEmpty (words_for words.tokens) (length words.tokens - left)
+    → IsFirst (HasEmptyAt (words_for words.tokens)) (length words.tokens - left)
 first_found words operand left below k some =
-    subst (λ n. IsFirstEmpty (words_for words.tokens) (n - left)) (length-map words.tokens word_of)
+    subst (λ n. IsFirst (HasEmptyAt (words_for words.tokens)) (n - left)) (length-map words.tokens word_of)
     (subst (IsFound (words_for words.tokens)) some
     (finds_first words.tokens operand.unkept (no_big (read_by words None) below) k))
 
@@ -191,7 +193,7 @@ first_found words operand left below k some =
 
 pub empty_outcome : (words : TextTokens) (operand : Operand) (place at : ℕ)
     → NoneBelow 4 (read_by words None) → IsRepresented words operand
-    → IsFirstEmpty (words_for words.tokens) place → at ≡ offset_of words place
+    → IsFirst (HasEmptyAt (words_for words.tokens)) place → at ≡ offset_of words place
     → ComesFirst (read_by words None) (refused (EmptyInterval at))
 empty_outcome words operand place at below w h q =
     ((place, h, q), past_syntax (read_by words None) below w.tree w.spells)

@@ -29,5 +29,6 @@ pub mod Fronts
 pub mod Steps
 pub mod Prefixes
 pub mod Table
+pub mod Depth
 pub mod NameNumbers
 pub mod Ends

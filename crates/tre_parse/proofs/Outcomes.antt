@@ -6,14 +6,14 @@ use Rattle.tre_parse.specs.Grammar.{Words}
 use Rattle.tre_parse.specs.declared.limits.TheConstants.{COUNT_MAX}
 use Rattle.tre_parse.specs.declared.fault.ParseFault.{ParseFault}
 use Rattle.tre_parse.specs.declared.fault.ParseFault.TheVariants.{TooLong, BadByte, Number as TooBig, TooDeep, Syntax, EmptyInterval, TooManyNames, TooLarge, Memory}
-use Rattle.tre_parse.specs.Outcome.{Read, IsFirstEmpty, At, HasCause, rank, Outcome, spelt, refused, ComesFirst, IsOutcome}
+use Rattle.tre_parse.specs.Outcome.{Read, IsFirst, At, HasCause, rank, Outcome, spelt, refused, ComesFirst, IsOutcome}
 use Rattle.tre_parse.specs.ScannedOutcome.{read_of}
 use Rattle.tre_parse.proofs.Whole.{spelt_once, fault_once}
 use Rattle.tre_parse.proofs.Agreement.{scanned_outcome}
 
--- There is one first empty interval.
-empty_once : (words : Words) (i j : ℕ) → IsFirstEmpty words i → IsFirstEmpty words j → i ≡ j
-empty_once words i j f g =
+-- There is one first place.
+place_once : (Is : ℕ → Type 0) (i j : ℕ) → IsFirst Is i → IsFirst Is j → i ≡ j
+place_once Is i j f g =
     let left : i < j → ⊥ = λ lt. g.1 i lt f.0 in
     let right : j < i → ⊥ = λ lt. f.1 j lt g.0 in
     omega (arith, left, right)
@@ -35,11 +35,11 @@ cause_once read (BadByte i) (BadByte j) h k e =
 cause_once read (TooBig i) (TooBig j) h k e =
     ap (λ at. TooBig at) (at_once read _ i j (found_once _) h k)
 cause_once read (TooDeep i) (TooDeep j) h k e =
-    ap (λ at. TooDeep at) (at_once read _ i j (found_once _) h k)
+    ap (λ at. TooDeep at) (at_once read _ i j (place_once _) h k)
 cause_once read (Syntax i) (Syntax j) h k e =
     ap (λ at. Syntax at) (at_once read _ i j (fault_once read.words) h k)
 cause_once read (EmptyInterval i) (EmptyInterval j) h k e =
-    ap (λ at. EmptyInterval at) (at_once read _ i j (empty_once read.words) h k)
+    ap (λ at. EmptyInterval at) (at_once read _ i j (place_once _) h k)
 cause_once read (TooManyNames i) (TooManyNames j) h k e =
     ap (λ at. TooManyNames at) (at_once read _ i j (found_once _) h k)
 cause_once read (TooLarge n) (TooLarge m) h k e =

@@ -15,6 +15,7 @@ pub mod Strength
 pub mod Ends
 -- What the functions inside promise each other.
 pub mod Front
+pub mod Limits
 pub mod Known
 pub mod Scan
 pub mod TokenWords

@@ -1,6 +1,6 @@
 -- What becomes of a text: the pattern that it spells, or the refusal that comes first.
 use Rattle.std.specs.Prelude.{◌≡◌, ℕ, ◌+◌, ◌-◌, ◌<◌, ◌≤◌, Bool, false, ◌==◌, nat_lt, if◌then◌else◌, min, Option, Some, None, List, [], ◌∷◌, ◌++◌, length, take, map, slice_index_or, position, codes}
-use Rattle.std.specs.List.{list_any}
+use Rattle.std.specs.List.{list_any, fold}
 use Rattle.tre_state.specs.declared.names.TheConstants.{NAMES_MAX}
 use Rattle.tre_trace.specs.Reading.{Vocabulary}
 use Rattle.tre_zone.specs.Interval.{IntervalEnds, HasNoDuration}
@@ -61,12 +61,9 @@ open_after depth word =
     if list_any (λ byte. is_sign (byte ∷ []) word) (codes "([{") then depth + 1
     else (if list_any (λ byte. is_sign (byte ∷ []) word) (codes ")]}") then depth - 1 else depth)
 
--- The first place, counted on from `place`, at which more than DEPTH_MAX brackets are open.
-abbrev pub deep_place : ℕ → ℕ → Words → Option ℕ
-deep_place depth place [] = None
-deep_place depth place (word ∷ rest) =
-    if nat_lt DEPTH_MAX (open_after depth word) then Some place
-    else deep_place (open_after depth word) (place + 1) rest
+-- Behind the words up to this place more than DEPTH_MAX brackets are open.
+abbrev pub IsDeepAt : Words → ℕ → Type 0
+IsDeepAt words place = DEPTH_MAX < fold open_after 0 (take (place + 1) words)
 
 pub record BeginsExpression (words : Words) : Type 0 where
   pub more : Words
@@ -91,9 +88,8 @@ pub record HasEmptyAt (words : Words) (place : ℕ) : Type 0 where
   pub spelt : SpellsInterval body ends
   pub empty : HasNoDuration ends
 
-abbrev pub IsFirstEmpty : Words → ℕ → Type 0
-IsFirstEmpty words place =
-    HasEmptyAt words place × ((n : ℕ) → n < place → HasEmptyAt words n → ⊥)
+abbrev pub IsFirst : (ℕ → Type 0) → ℕ → Type 0
+IsFirst Is place = Is place × ((n : ℕ) → n < place → Is n → ⊥)
 
 -- It is so of the place of the word at this offset; at the end of the text there is none.
 abbrev pub At : Read → (ℕ → Type 0) → ℕ → Type 0
@@ -103,9 +99,9 @@ abbrev pub HasCause : Read → ParseFault → Type 0
 HasCause read TooLong = TEXT_MAX < read.size
 HasCause read (BadByte at) = read.bad ≡ Some at
 HasCause read (TooBig at) = At read (λ place. position is_big read.words ≡ Some place) at
-HasCause read (TooDeep at) = At read (λ place. deep_place 0 0 read.words ≡ Some place) at
+HasCause read (TooDeep at) = At read (IsFirst (IsDeepAt read.words)) at
 HasCause read (Syntax at) = At read (IsSyntaxFaultAt read.words) at
-HasCause read (EmptyInterval at) = At read (IsFirstEmpty read.words) at
+HasCause read (EmptyInterval at) = At read (IsFirst (HasEmptyAt read.words)) at
 HasCause read (TooManyNames at) = At read (λ place. position is_past read.words ≡ Some place) at
 HasCause read (TooLarge nodes) =
     (tree : PatternTree) × Spells expr read.words tree × (NODES_MAX < node_count tree)

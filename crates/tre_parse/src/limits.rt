@@ -1,7 +1,8 @@
 ghost use Rattle.std.specs.Prelude.{◌≡◌, ◌≤◌, position};
 ghost use Rattle.tre_parse.specs.Front.{tokens_in};
 ghost use Rattle.tre_parse.specs.TokenWords.{word_of, words_for};
-ghost use Rattle.tre_parse.specs.Outcome.{is_big, is_past, open_after, deep_place};
+ghost use Rattle.tre_parse.specs.Outcome.{is_big, is_past, open_after};
+ghost use Rattle.tre_parse.specs.Limits.{deep_place};
 
 use crate::scan::PAST;
 use crate::token::{Token, TokenAt};

@@ -3,7 +3,9 @@ use Rattle.std.specs.Prelude.{position}
 use Rattle.tre_parse.specs.TokenWords.{word_of, words_for}
 use Rattle.tre_state.proofs.Places.{position-map}
 use Rattle.tre_parse.specs.Front.{tokens_in}
-use Rattle.tre_parse.specs.Outcome.{is_big, deep_place}
+use Rattle.tre_parse.specs.Outcome.{is_big}
+use Rattle.tre_parse.specs.Limits.{deep_place}
+use Rattle.tre_parse.proofs.Depth.{deep_first}
 use Rattle.tre_parse.specs.Answers.{text_tokens_in, read_in}
 use Rattle.tre_parse.proofs.Judging.{past_numbers, past_brackets}
 use Rattle.tre_parse.proofs.parser.within_limits.Goals as goal
@@ -25,7 +27,11 @@ returns-in-Some-first_deep-clause-fault c =
     let found = ap (λ ts. deep_place 0 0 (words_for (tokens_in ts))) (sym c.deref-2.ensures.value)
     ∙ sym c.first_deep.ensures ∙ c.in-Some-first_deep.is in
     inr (
-      (c.in-Some-first_deep.place, found, c.offset-at-in-Some-first_deep.ensures),
+      (
+        c.in-Some-first_deep.place,
+        deep_first (words_for words.tokens) _ found,
+        c.offset-at-in-Some-first_deep.ensures,
+      ),
       past_numbers (read_in c.args.scan.now) c.requires.bytes none,
     )
 
