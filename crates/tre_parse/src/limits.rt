@@ -25,10 +25,17 @@ pub(crate) fn first_big(tokens: &[TokenAt]) -> Option<usize>
     tokens
         .iter()
         .map(|placed| placed.token)
-        .position(|token| match token {
-            Token::Number(number) => number > TIME_MAX,
-            _ => false,
-        })
+        .position(|token| is_big(token))
+}
+
+// A number above the latest time.
+fn is_big(token: Token) -> bool
+    ensures { result ≡ is_big (word_of token) }
+{
+    match token {
+        Token::Number(number) => number > TIME_MAX,
+        _ => false,
+    }
 }
 
 /// The place of the first name past the first `NAMES_MAX` of its kind.
