@@ -9,7 +9,7 @@ use Rattle.tre_parse.specs.Words.{AreWords, names_among, numbered_words}
 use Rattle.tre_parse.specs.Grammar.{Words, expr, Spells}
 use Rattle.tre_parse.specs.TokenWords.{WordAt}
 use Rattle.tre_parse.specs.Scanned.{raw_tokens_of, bad_byte}
-use Rattle.tre_parse.specs.Outcome.{IsSpelling, Read, read_as, Outcome, ComesFirst, IsOutcome}
+use Rattle.tre_parse.specs.Outcome.{IsSpelling, read_as, Outcome, ComesFirst, IsOutcome}
 use Rattle.tre_parse.specs.ScannedOutcome.{IsScannedSpelling, read_of}
 use Rattle.tre_parse.specs.Answers.{Answers}
 use Rattle.tre_parse.proofs.Meant.{one_list, some_words}

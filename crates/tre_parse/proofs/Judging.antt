@@ -1,15 +1,12 @@
 -- Which outcome each step of parsing comes to.
-use Rattle.std.proofs.Common.{◌≡◌, ℕ, ◌+◌, ◌<◌, ◌≤◌, ◌-◌, Bool, true, false, Option, Some, None, Ok, Err, List, [], ◌∷◌, length, ◌⊎◌, inl, inr, refl, sym, ◌∙◌, ap, subst, arith, rules}
-use Rattle.std.specs.Prelude.{Result, slice_index_or, position, nat_lt, min, if◌then◌else◌}
-use Rattle.std.specs.Option.{option_map, option_or}
-use Rattle.std.proofs.lemmas.Bool.Decides.{nat_tests}
+use Rattle.std.proofs.Common.{◌≡◌, ℕ, ◌+◌, ◌<◌, ◌≤◌, ◌-◌, Option, Some, None, Ok, Err, List, [], ◌∷◌, length, ◌⊎◌, inl, inr, refl, sym, ◌∙◌, ap, subst, arith, rules}
+use Rattle.std.specs.Prelude.{Result, slice_index_or, position}
 use Rattle.tre_trace.specs.Reading.{Vocabulary}
 use Rattle.tre_syntax.specs.declared.name_kind.NameKind.{NameKind}
 use Rattle.tre_syntax.specs.declared.name_kind.NameKind.TheVariants.{Proposition, Event as EventKind}
 use Rattle.tre_syntax.specs.declared.pattern.TheConstants.{NODES_MAX}
 use Rattle.tre_syntax.specs.declared.pattern.Pattern.{Pattern}
-use Rattle.tre_parse.specs.declared.limits.TheConstants.{TEXT_MAX, COUNT_MAX}
-use Rattle.tre_syntax.specs.Pattern.{pattern_tree, names_of}
+use Rattle.tre_parse.specs.declared.limits.TheConstants.{TEXT_MAX}
 use Rattle.tre_syntax.specs.PatternTree.{PatternTree, node_count, IsNumbered}
 use Rattle.tre_parse.specs.declared.fault.ParseFault.{ParseFault}
 use Rattle.tre_parse.specs.declared.fault.ParseFault.TheVariants.{TooLong, BadByte, Number, TooDeep, EmptyInterval, TooManyNames, TooLarge, Syntax as Mistaken, Memory}
@@ -24,7 +21,7 @@ use Rattle.tre_parse.proofs.Whole.{read_whole, IsCut, fault_at, spelt_once, spel
 use Rattle.tre_parse.specs.declared.cursor.Stop.{Stop}
 use Rattle.tre_parse.specs.declared.cursor.Stop.TheVariants.{Syntax as Stuck, Memory as Lacking}
 use Rattle.tre_parse.specs.Tokens.{RawTokenAt}
-use Rattle.tre_parse.specs.Scanned.{raw_tokens_of, bad_byte}
+use Rattle.tre_parse.specs.Scanned.{raw_tokens_of}
 use Rattle.tre_parse.specs.Known.{names_of_kind, Known, nothing_known, next_token, known_after, tokens_from, offsets_of}
 use Rattle.tre_syntax.specs.Expr.{tree_of}
 use Rattle.tre_syntax.specs.declared.expr.Expr.{Expr}

@@ -1,8 +1,7 @@
 -- A text has one outcome: each refusal has one cause, and no two come first.
-use Rattle.std.proofs.Common.{◌≡◌, ◌≤◌, ℕ, ◌<◌, Option, Some, None, List, refl, sym, ◌∙◌, ap, arith}
+use Rattle.std.proofs.Common.{◌≡◌, ℕ, ◌<◌, Option, Some, List, refl, sym, ◌∙◌, ap, arith}
 use Rattle.std.specs.Prelude.{slice_index_or, min}
-use Rattle.tre_syntax.specs.PatternTree.{PatternTree, node_count}
-use Rattle.tre_parse.specs.Grammar.{Words}
+use Rattle.tre_syntax.specs.PatternTree.{node_count}
 use Rattle.tre_parse.specs.declared.limits.TheConstants.{COUNT_MAX}
 use Rattle.tre_parse.specs.declared.fault.ParseFault.{ParseFault}
 use Rattle.tre_parse.specs.declared.fault.ParseFault.TheVariants.{TooLong, BadByte, Number as TooBig, TooDeep, Syntax, EmptyInterval, TooManyNames, TooLarge, Memory}

@@ -1,4 +1,4 @@
--- What a reader must believe: the tokens of a text, the grammar, and what becomes of it.
+-- What a reader must believe: the words of a text, the grammar, and what becomes of it.
 pub mod Words
 pub mod Grammar
 pub mod Outcome

@@ -91,7 +91,7 @@ pub record HasEmptyAt (words : Words) (place : ℕ) : Type 0 where
 abbrev pub IsFirst : (ℕ → Type 0) → ℕ → Type 0
 IsFirst Is place = Is place × ((n : ℕ) → n < place → Is n → ⊥)
 
--- It is so of the place of the word at this offset; at the end of the text there is none.
+-- It is so of a place, and the word there has this offset; past the last word it is the size.
 abbrev pub At : Read → (ℕ → Type 0) → ℕ → Type 0
 At read Is at = (place : ℕ) × Is place × (at ≡ slice_index_or read.offsets place read.size)
 

@@ -1,9 +1,9 @@
 -- What becomes of the text of a pattern: it is read back.
-use Rattle.std.proofs.Common.{◌≡◌, ℕ, ◌≤◌, Bool, true, false, inl, inr, arith, rules}
+use Rattle.std.proofs.Common.{◌≡◌, ℕ, ◌≤◌, false, inl, inr, arith, rules}
 use Rattle.std.proofs.Common.{Option, Some, None, List, [], ◌∷◌, ◌++◌, length, refl, sym, ap, ◌∙◌, subst, arith, append-nil}
-use Rattle.std.specs.Prelude.{nat_lt, MatchOption, if◌then◌else◌, position}
+use Rattle.std.specs.Prelude.{position}
 use Rattle.std.specs.List.{position_or_len}
-use Rattle.std.specs.Option.{option_map, option_or}
+use Rattle.std.specs.Option.{option_map}
 use Rattle.std.proofs.lemmas.Bool.{cond_above}
 use Rattle.std.proofs.lemmas.Bool.Decides.{nat_tests}
 use Rattle.tre_state.specs.Names.{IsNameList}
@@ -18,12 +18,12 @@ use Rattle.tre_parse.specs.declared.token.Token.TheVariants.{Name, EventName, Nu
 use Rattle.tre_parse.specs.declared.fault.ParseFault.{ParseFault}
 use Rattle.tre_parse.specs.declared.fault.ParseFault.TheVariants.{TooLong, BadByte, Number as TooBig, TooDeep, Syntax, EmptyInterval, TooManyNames, TooLarge, Memory}
 use Rattle.tre_parse.specs.Grammar.{Words, expr, Spells}
-use Rattle.tre_parse.specs.Scanned.{raw_tokens_from, tokens_of, bad_byte}
+use Rattle.tre_parse.specs.Scanned.{raw_tokens_from, tokens_of}
 use Rattle.tre_parse.specs.Known.{before_sign, nothing_known}
 use Rattle.tre_parse.specs.Unkept.{NoneEmpty}
 use Rattle.tre_parse.specs.Outcome.{IsSpelling, Read, is_big, is_past, HasCause, Outcome, spelt, refused, ComesFirst, IsOutcome}
-use Rattle.tre_parse.specs.ScannedOutcome.{TextTokens, offset_of, text_tokens_of, read_of}
-use Rattle.tre_parse.specs.Words.{Word, number, sign}
+use Rattle.tre_parse.specs.ScannedOutcome.{offset_of, text_tokens_of, read_of}
+use Rattle.tre_parse.specs.Words.{Word, sign}
 use Rattle.tre_parse.specs.TokenWords.{word_of, words_for}
 use Rattle.tre_parse.proofs.TokenWords.{token_as, there_and_back}
 use Rattle.std.specs.Prelude.{codes}

@@ -1,16 +1,12 @@
 -- What is refused is never refused for want of memory.
-use Rattle.std.proofs.Common.{◌≡◌, ◌≢◌, ◌∙◌, ℕ, ◌+◌, nat_le, nat_lt, Bool, true, false, MatchBool, Option, None, Some, is_some, List, [], ◌∷◌, ◌++◌, length, refl, subst, inl, inr}
-use Rattle.std.specs.Prelude.{MatchOption, position, if◌then◌else◌}
+use Rattle.std.proofs.Common.{◌≡◌, ◌≢◌, ℕ, ◌+◌, nat_le, nat_lt, Bool, true, false, MatchBool, is_some, List, [], ◌∷◌, ◌++◌, length, subst}
 use Rattle.std.specs.Char.{is_newline}
 use Rattle.std.specs.List.{slice_split}
-use Rattle.std.specs.Option.{option_map, option_or}
 use Rattle.tre_parse.specs.Outcome.{read_as, HasCause, Outcome as Parsed, spelt, refused, IsOutcome as ParsesTo}
 use Rattle.tre_parse.specs.declared.fault.ParseFault.{ParseFault}
 use Rattle.tre_parse.specs.declared.fault.ParseFault.TheVariants.{Memory as ParseMemory}
 use Rattle.tre_state.specs.Names.{place_of}
 use Rattle.tre_state.specs.declared.names.TheConstants.{NAMES_MAX}
-use Rattle.tre_syntax.specs.PatternTree.{PatternTree, node_count}
-use Rattle.tre_syntax.specs.declared.pattern.TheConstants.{NODES_MAX}
 use Rattle.tre_watch.specs.Lines.{Said, silence, mistake, check}
 use Rattle.tre_watch.specs.Outcome.{SpeltPattern, faulty, AfterText, Follows, IsOutcomeFrom, IsOutcome}
 use Rattle.tre_watch.specs.Steps.{IsNoWantOfMemory}

@@ -1,6 +1,6 @@
 use Rattle.std.proofs.Common.{Err, inr, refl, arith}
 use Rattle.std.proofs.lemmas.Result.{err_from_is_err_and}
-use Rattle.tre_parse.proofs.Agreement.{scanned_outcome, outcome_meant, answer_meant}
+use Rattle.tre_parse.proofs.Agreement.{scanned_outcome, answer_meant}
 use Rattle.tre_parse.proofs.Judging.{scan_numbered, scan_good, answers_text, answered, long_outcome, bad_outcome}
 use Rattle.tre_parse.proofs.Spelling.{answer_spells}
 use Rattle.tre_parse.specs.declared.fault.ParseFault.TheVariants.{TooLong}
