@@ -24,8 +24,7 @@ pub data Outcome : Type 0 where
   spelt : PatternTree → Vocabulary → Outcome
   refused : ParseFault → Outcome
 
--- What a text is judged by: how many bytes it has, the first of them at which no word begins, its
--- words, the offset of each, and its names.
+-- What a text is judged by. The byte at the offset `bad` is the first at which no word begins.
 pub record Read : Type 0 where
   pub size : ℕ
   pub bad : Option ℕ
@@ -54,8 +53,7 @@ is_past (name i) = i == NAMES_MAX
 is_past (event_name i) = i == NAMES_MAX
 is_past word = false
 
--- How many brackets are open after one more word. Those that close take one away, but never below
--- zero.
+-- Brackets that close take one away, but never below zero.
 abbrev pub open_after : ℕ → Word ℕ → ℕ
 open_after depth word =
     if list_any (λ byte. is_sign (byte ∷ []) word) (codes "([{") then depth + 1

@@ -3,9 +3,9 @@ ghost use Rattle.std.specs.Prelude.{◌≡◌, ℕ, Option, take, map, true, Lis
 ghost use Rattle.tre_state.specs.StateTree.{StateTree, conjunction, disjunction};
 ghost use Rattle.tre_trace.specs.Reading.{Vocabulary};
 ghost use Rattle.tre_syntax.specs.PatternTree.{PatternTree, sequence, alternation, intersection};
-ghost use Rattle.tre_parse.specs.Words.{Word, sign, AreWords};
+ghost use Rattle.tre_parse.specs.Words.{sign, AreWords};
 ghost use Rattle.tre_parse.specs.TokenWords.{words_for, WordAt, word_at};
-ghost use Rattle.tre_parse.specs.Grammar.{Words, StateRule, SpellsState, Rule, Spells};
+ghost use Rattle.tre_parse.specs.Grammar.{StateRule, SpellsState, Rule, Spells};
 ghost use Rattle.tre_parse.specs.Begins.{BeginsState, Begins, IsCompletable};
 ghost use Rattle.tre_parse.specs.Strength.{Groups, StateGroups};
 ghost use Rattle.std.specs.Char.{is_ascii_digit};
@@ -107,7 +107,8 @@ pub fn strength()
 pub fn state_strength()
     ensures bars { StateGroups (sign (codes "||")) (sign (codes "||"))
         (λ s t u. disjunction (disjunction s t) u) }
-    ensures ampersands { StateGroups (sign (codes "&&")) (sign (codes "&&")) (λ s t u. conjunction (conjunction s t) u) }
+    ensures ampersands { StateGroups (sign (codes "&&")) (sign (codes "&&"))
+        (λ s t u. conjunction (conjunction s t) u) }
     ensures bar_ampersand { StateGroups (sign (codes "||")) (sign (codes "&&"))
         (λ s t u. disjunction s (conjunction t u)) }
     ensures ampersand_bar { StateGroups (sign (codes "&&")) (sign (codes "||"))
