@@ -9,8 +9,8 @@ use Rattle.tre_decimal.specs.Decimal.{is_point}
 use Rattle.tre_state.specs.Name.{starts_name, continues_name}
 use Rattle.tre_parse.specs.declared.token.Token.{Token}
 use Rattle.tre_parse.specs.declared.lexeme.Lexeme.TheVariants.{Blank}
-use Rattle.tre_parse.specs.Lexeme.{lexeme_named, word_lexeme, decimals_len, number_lexeme, sign_lexeme, lexeme_of}
-use Rattle.tre_parse.specs.Written.{is_white_space, reserved}
+use Rattle.tre_parse.specs.Lexeme.{lexeme_named, word_lexeme, decimals_len, number_lexeme, sign_lexeme, lexeme_of, reserved}
+use Rattle.tre_parse.specs.Words.{is_white_space}
 use Rattle.tre_parse.specs.Ends.{bytes_in, EndsRun, EndsNumber}
 use Rattle.tre_parse.proofs.Words.{prefix_passes}
 

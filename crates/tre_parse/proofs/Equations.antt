@@ -14,7 +14,7 @@ use Rattle.tre_parse.specs.declared.cursor.Stop.{Stop}
 use Rattle.tre_parse.specs.declared.cursor.Stop.TheVariants.{Syntax}
 use Rattle.tre_parse.specs.Front.{front, tail}
 use Rattle.tre_parse.specs.Joins.{negated, connected, connective_sign, joined_by, join_sign, brackets_of, edge_of, edge_sign, edged_literal}
-use Rattle.tre_parse.specs.Reader.{Reading, got, stop, and_then, state_by, state_after, state_operand, expression_by, expression_after, operand, operand_after, unsigned, of_state, of_pattern, of_interval, Program, give, halt, call, is_sign, accept, expect, part, leaf_of, state_part, expression_part, edge_program, event_program, literal_program, unsigned_program, is_before, sign_program, is_behind, past, run, read, read_state, read_pattern}
+use Rattle.tre_parse.specs.Reader.{Reading, got, stop, and_then, state_by, state_after, state_operand, expression_by, expression_after, operand, operand_after, unsigned, of_state, of_pattern, of_interval, Program, give, halt, call, is_token, accept, expect, part, leaf_of, state_part, expression_part, edge_program, event_program, literal_program, unsigned_program, is_before, sign_program, is_behind, past, run, read, read_state, read_pattern}
 use Rattle.tre_parse.specs.Reading.{BeginsLiteral, Accepts}
 use Rattle.tre_parse.proofs.Fixpoint.{state_fixed, pattern_fixed}
 
@@ -35,24 +35,24 @@ then_given (stop rest) next = refl
 
 -- ---- a sign that is asked for
 
-pub not_sign : (sign token : Token) → token ≢ sign → is_sign sign token ≡ false
+pub not_sign : (sign token : Token) → token ≢ sign → is_token sign token ≡ false
 not_sign sign token n = search rules
 
 -- A sign that may be next is passed or not.
 pub accepted : {A : Type 0} (sign : Token) (there other : Program A) (is : Bool)
-    (old new : List Token) → is_sign sign sign ≡ true → Accepts sign is old new →
+    (old new : List Token) → is_token sign sign ≡ true → Accepts sign is old new →
     run read (accept sign there other) old ≡ run read (if is then there else other) new
 accepted sign there other true old new e k = search rules
 accepted sign there other false old new e k = search rules
 
 pub unaccepted : {A : Type 0} (sign : Token) (there other : Program A) (ts : List Token)
-    → is_sign sign (front ts) ≡ false → run read (accept sign there other) ts ≡ run read other ts
+    → is_token sign (front ts) ≡ false → run read (accept sign there other) ts ≡ run read other ts
 unaccepted sign there other ts e = search rules
 
 -- ---- a token that is expected, or that says something
 
 pub passed : {A : Type 0} (sign : Token) (next : Program A) (old new : List Token)
-    → is_sign sign sign ≡ true → old ≡ sign ∷ new → run read (expect sign next) old
+    → is_token sign sign ≡ true → old ≡ sign ∷ new → run read (expect sign next) old
     ≡ run read next new
 passed sign next old new e h = accepted sign next halt true old new e h
 
@@ -87,7 +87,7 @@ state_goes_on how s ts =
     search (rules, state_fixed, accepted, connective_sign, call, of_state, state_part, state_after)
 
 pub state_ends : (how : Connective) (s : StateTree) (ts : List Token)
-    → is_sign (connective_sign how) (front ts) ≡ false
+    → is_token (connective_sign how) (front ts) ≡ false
     → read_state (state_after how s) ts ≡ got s ts
 state_ends how s ts e =
     state_fixed _ _ ∙ unaccepted (connective_sign how) (call (of_state (state_part how))
@@ -107,7 +107,7 @@ bangs_read braces (suc n) ts =
     twice (got s us) = refl
     twice (stop us) = refl
 
-pub closing_same : (braces : Bool) → is_sign (brackets_of braces).1 (brackets_of braces).1 ≡ true
+pub closing_same : (braces : Bool) → is_token (brackets_of braces).1 (brackets_of braces).1 ≡ true
 closing_same true = refl
 closing_same false = refl
 
@@ -136,7 +136,7 @@ no_leaf _ h k = refl
 
 -- ---- expressions
 
-join_same : (how : Join) → is_sign (join_sign how) (join_sign how) ≡ true
+join_same : (how : Join) → is_token (join_sign how) (join_sign how) ≡ true
 join_same Sequence = refl
 join_same Intersection = refl
 join_same Alternation = refl
@@ -159,7 +159,7 @@ expression_goes_on how e ts =
     (λ f us. read_pattern (expression_after how (joined_by how e f)) us)
 
 pub expression_ends : (how : Join) (e : PatternTree) (ts : List Token)
-    → is_sign (join_sign how) (front ts) ≡ false → read_pattern (expression_after how e) ts
+    → is_token (join_sign how) (front ts) ≡ false → read_pattern (expression_after how e) ts
     ≡ got e ts
 expression_ends how e ts h =
     pattern_fixed _ _ ∙ unaccepted (join_sign how) (call (of_pattern (expression_part how))

@@ -1,26 +1,29 @@
 -- Every text has an outcome.
 use Rattle.std.proofs.Common.{◌≡◌, ℕ, ◌+◌, ◌<◌, ◌≤◌, zero, suc, Bool, true, false, Option, Some, None, List, [], ◌∷◌, length, ◌-◌, drop, get_or, ◌⊎◌, inl, inr, refl, sym, subst, arith}
-use Rattle.std.specs.Prelude.{MatchOption}
-use Rattle.std.specs.Option.{option_or}
+use Rattle.std.specs.Prelude.{position, min}
 use Rattle.std.proofs.lemmas.Bool.{cases_lt}
 use Rattle.tre_zone.specs.Interval.{IntervalEnds, HasNoDuration, HasRoom}
 use Rattle.tre_zone.proofs.Durations.{Lasts, no_end, room, no_room}
-use Rattle.tre_syntax.specs.PatternTree.{PatternTree}
+use Rattle.tre_syntax.specs.PatternTree.{PatternTree, node_count}
 use Rattle.tre_parse.specs.declared.token.Token.{Token}
 use Rattle.tre_parse.specs.declared.token.Token.TheVariants.{Percent}
-use Rattle.tre_parse.specs.declared.fault.ParseFault.{ParseFault}
-use Rattle.tre_parse.specs.declared.fault.ParseFault.TheVariants.{Syntax, EmptyInterval}
+use Rattle.tre_parse.specs.declared.fault.ParseFault.TheVariants.{TooLong, BadByte, Number as TooBig, TooDeep, Syntax, EmptyInterval, TooManyNames, TooLarge}
+use Rattle.tre_parse.specs.declared.limits.TheConstants.{TEXT_MAX, COUNT_MAX}
+use Rattle.tre_syntax.specs.declared.pattern.TheConstants.{NODES_MAX}
 use Rattle.tre_parse.specs.Reader.{Reading, got, stop}
-use Rattle.tre_parse.specs.Outcome.{Outcome, spelt, refused, IsOutcome}
-use Rattle.tre_parse.specs.Outcome.{HasEmptyAt}
-use Rattle.tre_parse.specs.Grammar.{Words}
+use Rattle.tre_parse.specs.Outcome.{is_big, is_past, HasEmptyAt, IsFirst, Outcome, spelt, refused, ComesFirst, IsOutcome}
+use Rattle.tre_parse.specs.Grammar.{Words, expr, Spells}
+use Rattle.tre_parse.specs.Scanned.{bad_byte}
+use Rattle.tre_parse.specs.Limits.{deep_place}
+use Rattle.tre_parse.proofs.Depth.{deep_first}
 use Rattle.tre_parse.specs.TokenWords.{word_of, words_for}
 use Rattle.std.proofs.lemmas.List.{length-map}
-use Rattle.tre_parse.specs.ScannedOutcome.{TextTokens, offset_of, limit_fault, size_fault, IsFirstEmpty, IsOutcomeOfTree, IsOutcomeOfTokens, text_tokens_of, byte_fault, IsScannedOutcome}
+use Rattle.tre_parse.specs.ScannedOutcome.{TextTokens, offset_of, read_by, NoneBelow, text_tokens_of}
 use Rattle.tre_parse.proofs.Agreement.{outcome_meant}
 use Rattle.tre_parse.specs.Unkept.{NoneEmptyBefore}
 use Rattle.tre_parse.proofs.Empties.{interval_from, stands, stands_empty, stands_read, read_stands, none_before_one, none_before_more, none_empty}
 use Rattle.tre_parse.proofs.Fixpoint.{left}
+use Rattle.tre_parse.proofs.Judging.{short, good_bytes, past_numbers, past_brackets, past_syntax, past_intervals, past_names, past_size}
 use Rattle.tre_parse.proofs.Whole.{read_whole, IsCut, fault_at, spelt_read}
 
 -- A fact, or that it is none.
@@ -108,7 +111,7 @@ here_or tokens place lt = after (percent_or (get_or tokens place Percent))
 
 -- The first empty interval that stands no further than a place, or that there is none.
 abbrev FirstOr : Words → ℕ → Type 0
-FirstOr tokens n = ((place : ℕ) × IsFirstEmpty tokens place) ⊎ NoneEmptyBefore tokens (n + 1)
+FirstOr tokens n = ((place : ℕ) × IsFirst (HasEmptyAt tokens) place) ⊎ NoneEmptyBefore tokens (n + 1)
 
 further : (tokens : Words) (n : ℕ) → n < length tokens → FirstOr tokens n
     → Decided (HasEmptyAt tokens (n + 1)) → FirstOr tokens (suc n)
@@ -125,47 +128,83 @@ first_or tokens (suc n) le =
     let lt : n < length tokens = omega arith in
     further (words_for tokens) n (omega (arith, length-map tokens word_of)) (first_or tokens n (omega arith)) (here_or tokens n lt)
 
-fault_or : (made : Option ParseFault) (Rest : Outcome → Type 0) → (outcome : Outcome) × Rest outcome
-    → (outcome : Outcome) × MatchOption made (Rest outcome) (λ fault. outcome ≡ refused fault)
-fault_or None Rest rest = rest
-fault_or (Some fault) Rest rest = (refused fault, refl)
+-- ---- one limit after the other
 
-judged_as : (words : TextTokens) (tree : PatternTree) → FirstOr (words_for words.tokens) (length words.tokens)
-    → (outcome : Outcome) × IsOutcomeOfTree words tree outcome
-judged_as words tree (inl k) = (refused (EmptyInterval (offset_of words k.0)), inl (k.0, k.1.0, k.1.1, refl))
-judged_as words tree (inr none) =
-    let judged = fault_or (size_fault words tree) (λ outcome. outcome ≡ spelt tree words.names)
-    (spelt tree words.names, refl) in (
-      judged.0,
-      inr (
-        none_empty (words_for words.tokens) (length words.tokens)
-            (omega (arith, length-map words.tokens word_of)) none,
-        judged.1,
-      ),
-    )
+-- The refusal, or what comes of the limits behind it.
+abbrev First : TextTokens → Option ℕ → Type 0
+First words bad = (outcome : Outcome) × ComesFirst (read_by words bad) outcome
 
-cut_as : (words : TextTokens) → IsCut (read_whole words.tokens)
-    → (outcome : Outcome) × IsOutcomeOfTokens words outcome
-cut_as words h =
+named_or : (words : TextTokens) (bad : Option ℕ) (tree : PatternTree)
+    → Spells expr (words_for words.tokens) tree → NoneBelow 6 (read_by words bad)
+    → (past : Option ℕ) → position is_past (words_for words.tokens) ≡ past → First words bad
+named_or words bad tree spells below (Some place) e =
+    (refused (TooManyNames (offset_of words place)), ((place, e, refl), below))
+named_or words bad tree spells below None e =
+    sized (cases_lt NODES_MAX (node_count tree))
+  where
+    all : NoneBelow 7 (read_by words bad)
+    all = past_names (read_by words bad) below e
+
+    sized : (NODES_MAX < node_count tree) ⊎ (node_count tree ≤ NODES_MAX) → First words bad
+    sized (inl large) =
+        let nodes = min (node_count tree) COUNT_MAX in
+        (refused (TooLarge nodes), ((tree, spells, large, refl), all))
+    sized (inr small) =
+        let none = past_size (read_by words bad) all tree spells small in
+        (spelt tree words.names, (refl, spells, none))
+
+lasting_or : (words : TextTokens) (bad : Option ℕ) (tree : PatternTree)
+    → Spells expr (words_for words.tokens) tree → NoneBelow 5 (read_by words bad)
+    → FirstOr (words_for words.tokens) (length words.tokens) → First words bad
+lasting_or words bad tree spells below (inl k) =
+    (refused (EmptyInterval (offset_of words k.0)), ((k.0, k.1, refl), below))
+lasting_or words bad tree spells below (inr none) =
+    named_or words bad tree spells (past_intervals (read_by words bad) below
+    (none_empty (words_for words.tokens) (length words.tokens)
+    (omega (arith, length-map words.tokens word_of)) none)) _ refl
+
+cut_as : (words : TextTokens) (bad : Option ℕ) → NoneBelow 4 (read_by words bad)
+    → IsCut (read_whole words.tokens) → First words bad
+cut_as words bad below h =
     let place = length words.tokens - length (left (read_whole words.tokens)) in
-    (refused (Syntax (offset_of words place)), inl (place, fault_at words.tokens h, refl))
+    (refused (Syntax (offset_of words place)), ((place, fault_at words.tokens h, refl), below))
 
-read_as : (words : TextTokens) (made : Reading PatternTree) → read_whole words.tokens ≡ made
-    → (outcome : Outcome) × IsOutcomeOfTokens words outcome
-read_as words (stop rest) e = cut_as words (subst IsCut (sym e) tt)
-read_as words (got tree (t ∷ rest)) e = cut_as words (subst IsCut (sym e) (λ q. cc))
-read_as words (got tree []) e =
-    let judged = judged_as words tree (first_or words.tokens (length words.tokens) (omega arith)) in
-    (judged.0, inr (tree, spelt_read words.tokens tree e, judged.1))
+read_as : (words : TextTokens) (bad : Option ℕ) → NoneBelow 4 (read_by words bad)
+    → (made : Reading PatternTree) → read_whole words.tokens ≡ made → First words bad
+read_as words bad below (stop rest) e = cut_as words bad below (subst IsCut (sym e) tt)
+read_as words bad below (got tree (t ∷ rest)) e =
+    cut_as words bad below (subst IsCut (sym e) (λ q. cc))
+read_as words bad below (got tree []) e =
+    let spells = spelt_read words.tokens tree e in
+    lasting_or words bad tree spells (past_syntax (read_by words bad) below tree spells)
+    (first_or words.tokens (length words.tokens) (omega arith))
 
-scanned_is : (scale : ℕ) (text : List ℕ)
-    → (outcome : Outcome) × IsScannedOutcome scale text outcome
-scanned_is scale text =
-    let words = text_tokens_of scale text in
-    fault_or (option_or (byte_fault text) (limit_fault words)) (IsOutcomeOfTokens words)
-    (read_as words (read_whole words.tokens) refl)
+shallow_or : (words : TextTokens) (bad : Option ℕ) → NoneBelow 3 (read_by words bad)
+    → (deep : Option ℕ) → deep_place 0 0 (words_for words.tokens) ≡ deep → First words bad
+shallow_or words bad below (Some place) e =
+    let is = deep_first (words_for words.tokens) place e in
+    (refused (TooDeep (offset_of words place)), ((place, is, refl), below))
+shallow_or words bad below None e =
+    read_as words bad (past_brackets (read_by words bad) below e) _ refl
+
+small_or : (words : TextTokens) (bad : Option ℕ) → NoneBelow 2 (read_by words bad)
+    → (big : Option ℕ) → position is_big (words_for words.tokens) ≡ big → First words bad
+small_or words bad below (Some place) e =
+    (refused (TooBig (offset_of words place)), ((place, e, refl), below))
+small_or words bad below None e =
+    shallow_or words bad (past_numbers (read_by words bad) below e) _ refl
+
+good_or : (words : TextTokens) (bad : Option ℕ) → words.size ≤ TEXT_MAX → First words bad
+good_or words (Some at) le = (refused (BadByte at), (refl, short (read_by words (Some at)) le))
+good_or words None le = small_or words None (good_bytes (read_by words None) le refl) _ refl
+
+first_is : (words : TextTokens) (bad : Option ℕ)
+    → (TEXT_MAX < words.size) ⊎ (words.size ≤ TEXT_MAX) → First words bad
+first_is words bad (inl long) = (refused TooLong, (long, λ fault is. omega arith))
+first_is words bad (inr le) = good_or words bad le
 
 pub outcome_is : (scale : ℕ) (text : List ℕ) → (outcome : Outcome) × IsOutcome scale text outcome
 outcome_is scale text =
-    let is = scanned_is scale text in
+    let is = first_is (text_tokens_of scale text) (bad_byte text)
+    (cases_lt TEXT_MAX (length text)) in
     (is.0, outcome_meant scale text is.0 is.1)

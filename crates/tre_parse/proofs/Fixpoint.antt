@@ -7,7 +7,7 @@ use Rattle.tre_parse.specs.declared.token.Token.{Token}
 use Rattle.tre_parse.specs.declared.token.Token.TheVariants.{LeftParen, RightParen, Comma, Bang, Star, Plus, Question, Percent, Begins, Ends, Eps, Rise, Fall, Event, EndOfText}
 use Rattle.tre_parse.specs.Front.{front, tail}
 use Rattle.tre_parse.specs.Joins.{brackets_of}
-use Rattle.tre_parse.specs.Reader.{Reading, got, stop, and_then, StateTask, state_by, state_after, state_operand, PatternTask, expression_by, expression_after, operand, operand_after, unsigned, Task, of_state, of_pattern, of_interval, Made, Program, give, halt, look, call, accept, part, leaf_of, opened_by, number_of, high_end_of, closed_by, sign_program, is_behind, edge_program, event_program, literal_program, unsigned_program, is_before, interval_program, state_program, pattern_program, program, past, run, deep, rank, read, read_state, read_pattern}
+use Rattle.tre_parse.specs.Reader.{Reading, got, stop, and_then, StateTask, state_by, state_after, state_operand, PatternTask, expression_by, expression_after, operand, operand_after, unsigned, Task, of_state, of_pattern, of_interval, Made, Program, give, halt, look, call, accept, part, leaf_of, opened_by, low_end_of, high_end_of, closed_by, sign_program, is_behind, edge_program, event_program, literal_program, unsigned_program, is_before, interval_program, state_program, pattern_program, program, past, run, deep, height, read, read_state, read_pattern}
 
 -- The tokens that a reading leaves.
 abbrev pub left : {A : Type 0} → Reading A → List Token
@@ -16,15 +16,15 @@ left (stop rest) = rest
 
 -- How much there is to read by a task.
 abbrev pub size : Task → List Token → ℕ
-size task tokens = 8 * length tokens + rank task
+size task tokens = 8 * length tokens + height task
 
--- Before it goes past a token, a program calls tasks below this rank alone. It goes past no end.
+-- Before it goes past a token, a program calls tasks below this height alone. It goes past no end.
 abbrev pub IsGuarded : {A : Type 0} → ℕ → Program A → Type 0
 IsGuarded bound (give x) = Unit {0}
 IsGuarded bound halt = Unit {0}
 IsGuarded bound (look takes next) = (takes EndOfText ≡ false)
     × ((token : Token) → IsGuarded (if takes token then 8 else bound) (next token))
-IsGuarded bound (call task next) = (rank task < bound)
+IsGuarded bound (call task next) = (height task < bound)
     × ((x : Made task) → IsGuarded bound (next x))
 
 -- ---- each program is guarded
@@ -70,7 +70,7 @@ no_close : (high : Option ℕ) → closed_by high EndOfText ≡ None
 no_close None = refl
 no_close (Some high) = refl
 
-pub guarded : (task : Task) → IsGuarded (rank task) (program task)
+pub guarded : (task : Task) → IsGuarded (height task) (program task)
 guarded (of_state (state_by how)) = search rules
 guarded (of_state (state_after how s)) = search rules
 guarded (of_state (state_operand braces)) =
@@ -85,7 +85,7 @@ guarded (of_pattern (operand_after e)) = (refl, sign_guarded e)
 guarded (of_pattern unsigned) = (refl, unsigned_guarded)
 guarded of_interval =
     part_guarded opened_by _ 0 refl
-    (λ low_weak. part_guarded number_of _ 8 refl
+    (λ low_weak. part_guarded low_end_of _ 8 refl
     (λ low. accept_guarded Comma _ halt 8 (part_guarded high_end_of _ 8 refl
     (λ high. part_guarded (closed_by high) _ 8 (no_close high) (λ high_weak. tt))) tt))
 
@@ -145,7 +145,7 @@ deep_agrees (suc n) zero task tokens h k = absurd (omega arith)
 deep_agrees (suc n) (suc m) task tokens h k =
     run_agrees (deep n) (deep m) (size task tokens)
     (λ t ts lt. deep_agrees n m t ts (omega (arith, h, lt)) (omega (arith, k, lt)))
-    (program task) (rank task) (guarded task) tokens (omega arith)
+    (program task) (height task) (guarded task) tokens (omega arith)
 
 -- What a task reads is what its program reads.
 pub read_fixed : (task : Task) (tokens : List Token) → read task tokens
@@ -154,7 +154,7 @@ unfolding read
 read_fixed task tokens =
     (run_agrees (deep (size task tokens)) (λ t ts. read t ts) (size task tokens)
     (λ t ts lt. deep_agrees (size task tokens) (suc (size t ts)) t ts lt (omega arith))
-    (program task) (rank task) (guarded task) tokens (omega arith)).same
+    (program task) (height task) (guarded task) tokens (omega arith)).same
 
 -- It leaves no more than there was.
 pub no_longer : (task : Task) (tokens : List Token) → length (left (read task tokens))

@@ -1,5 +1,5 @@
--- A token that begins before a blank ends before it, and doesn't depend on what follows.
-use Rattle.std.proofs.Common.{◌≡◌, ℕ, ◌+◌, ◌≤◌, ◌<◌, zero, suc, Bool, true, false, cond, ◌&&◌, Option, Some, None, List, [], ◌∷◌, ◌++◌, length, take, drop, refl, sym, ◌∙◌, ap, arith, rules}
+-- A lexeme takes at least one byte, and never goes past the end.
+use Rattle.std.proofs.Common.{◌≡◌, ℕ, ◌+◌, ◌≤◌, ◌<◌, Bool, true, false, cond, ◌&&◌, Option, Some, None, List, [], ◌∷◌, length, refl, sym, ap, arith, rules}
 use Rattle.std.specs.Prelude.{if◌then◌else◌, nat_eq, nat_lt}
 use Rattle.std.specs.List.{prefix_len, take_while, starts_with}
 use Rattle.std.specs.Char.{is_ascii_digit}
@@ -11,76 +11,10 @@ use Rattle.tre_state.specs.Name.{starts_name, continues_name}
 use Rattle.tre_parse.specs.declared.token.Token.{Token}
 use Rattle.tre_parse.specs.declared.lexeme.Lexeme.{Lexeme}
 use Rattle.tre_parse.specs.declared.lexeme.Lexeme.TheVariants.{Blank, Sign}
-use Rattle.tre_parse.specs.Lexeme.{lexeme_named, first_sign, word_lexeme, decimals_len, number_lexeme, sign_lexeme, lexeme_of, FitsIn}
-use Rattle.tre_parse.specs.Written.{is_white_space, reserved}
+use Rattle.tre_parse.specs.Lexeme.{lexeme_named, first_sign, word_lexeme, decimals_len, number_lexeme, sign_lexeme, lexeme_of, FitsIn, reserved}
+use Rattle.tre_parse.specs.Words.{is_white_space}
 use Rattle.tre_parse.proofs.Table.{Each}
 
--- No word and no number goes on with a blank, and no sign of two bytes has one.
-blank_ends_word : (c : ℕ) → is_white_space c ≡ true → continues_name c ≡ false
-blank_ends_word c h = grind (arith, nat_tests)
-
-blank_ends_number : (c : ℕ) → is_white_space c ≡ true → is_ascii_digit c ≡ false
-blank_ends_number c h = grind (arith, nat_tests)
-
--- What begins before a blank doesn't depend on what follows.
-prefix_ends : (p : ℕ → Bool) (xs : List ℕ) (c : ℕ) (ys : List ℕ) → p c ≡ false
-    → prefix_len p (xs ++ c ∷ ys) ≡ prefix_len p xs
-prefix_ends p [] c ys h = ap (λ t. cond t (1 + prefix_len p ys) 0) h
-prefix_ends p (x ∷ xs) c ys h = ap (λ n. cond (p x) (1 + n) 0) (prefix_ends p xs c ys h)
-
-pub take_front : (n : ℕ) (xs ys : List ℕ) → n ≤ length xs → take n (xs ++ ys) ≡ take n xs
-take_front zero xs ys h = refl
-take_front (suc n) [] ys h = absurd (omega arith)
-take_front (suc n) (x ∷ xs) ys h = ap (λ l. x ∷ l) (take_front n xs ys (omega arith))
-
-drop_front : (n : ℕ) (xs ys : List ℕ) → n ≤ length xs → drop n (xs ++ ys) ≡ drop n xs ++ ys
-drop_front zero xs ys h = refl
-drop_front (suc n) [] ys h = absurd (omega arith)
-drop_front (suc n) (x ∷ xs) ys h = drop_front n xs ys (omega arith)
-
-take_while_ends : (p : ℕ → Bool) (xs : List ℕ) (c : ℕ) (ys : List ℕ) → p c ≡ false
-    → take_while p (xs ++ c ∷ ys) ≡ take_while p xs
-take_while_ends p xs c ys h = search (rules, prefix_ends, take_front, prefix_len-le-length)
-
-word_front : (xs : List ℕ) (c : ℕ) (ys : List ℕ) → is_white_space c ≡ true → word_lexeme (xs ++ c ∷ ys)
-    ≡ word_lexeme xs
-word_front xs c ys h =
-    let ends = blank_ends_word c h in
-    ap (λ n. lexeme_named n (reserved (take_while continues_name (xs ++ c ∷ ys))))
-    (prefix_ends continues_name xs c ys ends)
-    ∙ ap (λ w. lexeme_named (prefix_len continues_name xs) (reserved w))
-    (take_while_ends continues_name xs c ys ends)
-
-number_front : (xs : List ℕ) (c : ℕ) (ys : List ℕ) → is_white_space c ≡ true
-    → number_lexeme (xs ++ c ∷ ys) ≡ number_lexeme xs
-number_front xs c ys h =
-    search (rules, decimals_len, prefix_ends, blank_ends_number, drop_front, prefix_len-le-length)
-
--- The text of a sign has no blank.
-abbrev no_blank : List ℕ → Bool
-no_blank [] = true
-no_blank (b ∷ bs) = cond (is_white_space b) false (no_blank bs)
-
-other_byte : (b c : ℕ) → is_white_space b ≡ false → is_white_space c ≡ true → nat_eq b c ≡ false
-other_byte b c h k = grind (arith, nat_tests)
-
-signs_front : (xs : List ℕ) (c : ℕ) (ys : List ℕ) → is_white_space c ≡ true → sign_lexeme (xs ++ c ∷ ys)
-    ≡ sign_lexeme xs
-signs_front xs c ys h = search rules
-
-pub lexeme_front : (z : ℕ) (xs : List ℕ) (c : ℕ) (ys : List ℕ) → is_white_space c ≡ true
-    → lexeme_of (z ∷ (xs ++ c ∷ ys)) ≡ lexeme_of (z ∷ xs)
-lexeme_front z xs c ys h =
-    let long = z ∷ (xs ++ c ∷ ys) in
-    ap (λ l. if is_white_space z then Blank else (if starts_name z then l else
-    (if is_ascii_digit z then number_lexeme long else sign_lexeme long)))
-    (word_front (z ∷ xs) c ys h)
-    ∙ ap (λ l. if is_white_space z then Blank else (if starts_name z then word_lexeme (z ∷ xs) else
-    (if is_ascii_digit z then l else sign_lexeme long))) (number_front (z ∷ xs) c ys h)
-    ∙ ap (λ l. if is_white_space z then Blank else (if starts_name z then word_lexeme (z ∷ xs) else
-    (if is_ascii_digit z then number_lexeme (z ∷ xs) else l))) (signs_front (z ∷ xs) c ys h)
-
--- A lexeme takes at least one byte, and never goes past the end.
 named_fits : (available n : ℕ) (o : Option Token) → 0 < n → n ≤ available
     → FitsIn available (lexeme_named n o)
 named_fits available n None some h = (some, h)

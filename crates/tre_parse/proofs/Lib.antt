@@ -26,11 +26,9 @@ pub mod Strength
 pub mod StateStrength
 pub mod Existence
 pub mod Fronts
-pub mod Blanks
 pub mod Steps
 pub mod Prefixes
-pub mod Depth
 pub mod Table
+pub mod Depth
 pub mod NameNumbers
 pub mod Ends
-pub mod Past

@@ -14,12 +14,11 @@ use Rattle.tre_parse.specs.declared.token.Token.{Token}
 use Rattle.tre_parse.specs.declared.lexeme.Lexeme.{Lexeme}
 use Rattle.tre_parse.specs.declared.lexeme.Lexeme.TheVariants.{Blank, Wrong, Name, Number, Sign}
 use Rattle.tre_parse.specs.Ends.{bytes_in}
-use Rattle.tre_parse.specs.Lexeme.{lexeme_named, word_lexeme, decimals_len, number_len, number_lexeme, first_sign, sign_lexeme, lexeme_of, FitsIn}
+use Rattle.tre_parse.specs.Lexeme.{lexeme_named, word_lexeme, decimals_len, number_len, number_lexeme, first_sign, sign_lexeme, lexeme_of, FitsIn, reserved}
 use Rattle.tre_parse.specs.Signs.{TakesSign}
-use Rattle.tre_parse.specs.Written.{is_white_space, reserved, HasDecimals}
-use Rattle.tre_parse.specs.Words.{Word, name, event_name, number, sign, signs, Writes, BeginsWith, AreWords, at_end, blank, next, wrong}
+use Rattle.tre_parse.specs.Words.{Word, name, event_name, number, sign, signs, Writes, BeginsWith, AreWords, at_end, blank, next, wrong, is_white_space}
 use Rattle.tre_parse.specs.TokenWords.{text_of, WordAt, raw_word, word_at}
-use Rattle.tre_parse.proofs.WordTables.{sign_text, sign_token, some_none, some_one, kept_or, numeral_written, decimals_written, decimal_written, some_sign, sign_parts, kept_word}
+use Rattle.tre_parse.proofs.WordTables.{HasDecimals, sign_text, sign_token, some_none, some_one, kept_or, numeral_written, decimals_written, decimal_written, some_sign, sign_parts, kept_word}
 use Rattle.std.proofs.lemmas.Bool.{false≢true}
 use Rattle.tre_parse.specs.declared.lexeme.TheConstants.{SIGNS}
 use Rattle.tre_parse.specs.Tokens.{RawToken, name as raw_name, number as raw_number, sign as raw_sign}

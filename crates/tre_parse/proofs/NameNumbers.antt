@@ -1,6 +1,6 @@
 -- The number of a name in the text is its place in the list of names.
-use Rattle.std.proofs.Common.{◌≡◌, ℕ, ◌+◌, ◌<◌, suc, Bool, true, false, cond, ◌&&◌, ◌⊎◌, inl, inr, Option, Some, None, List, [], ◌∷◌, ◌++◌, length, refl, sym, ◌∙◌, ap, subst, arith, length-append, rules}
-use Rattle.std.specs.Prelude.{nat_lt, if◌then◌else◌, is_none, unwrap_or}
+use Rattle.std.proofs.Common.{◌≡◌, ℕ, ◌+◌, ◌<◌, Bool, true, false, cond, ◌&&◌, ◌⊎◌, inl, inr, Option, Some, None, List, [], ◌∷◌, ◌++◌, length, refl, sym, ◌∙◌, ap, arith, length-append, rules}
+use Rattle.std.specs.Prelude.{nat_lt, if◌then◌else◌, is_none}
 use Rattle.std.specs.List.{position_or_len}
 use Rattle.std.specs.Str.{bytes_eq}
 use Rattle.std.proofs.lemmas.Bool.Decides.{nat_tests}
@@ -11,11 +11,8 @@ use Rattle.tre_state.proofs.Places.{place_of-push}
 use Rattle.tre_trace.specs.Reading.{Vocabulary}
 use Rattle.tre_syntax.specs.declared.name_kind.NameKind.{NameKind}
 use Rattle.tre_syntax.specs.declared.name_kind.NameKind.TheVariants.{Proposition, Event as EventKind}
-use Rattle.tre_parse.specs.declared.token.Token.{Token}
 use Rattle.tre_parse.specs.Tokens.{RawToken, name, event_name, number, sign, RawTokenAt}
-use Rattle.tre_parse.specs.Known.{kind_behind, names_of_kind, names_with, vocabulary_with, Known, numbered, next_token, vocabulary_after, known_after, tokens_from, names_from}
-use Rattle.tre_parse.specs.Past.{before_from}
-use Rattle.tre_parse.specs.Numbering.{HasTokenAt}
+use Rattle.tre_parse.specs.Known.{kind_behind, names_of_kind, names_with, vocabulary_with, Known, vocabulary_after, known_after, names_from}
 
 -- A name that is held keeps its place when one more is put at the end.
 below : (n m i : ℕ) (is : Bool) → nat_lt n m ≡ is → cond is (Some n) None ≡ Some i → (n < m)
@@ -106,37 +103,3 @@ pub placed : (known : List (List ℕ)) (bytes : List ℕ) (found : Option ℕ) (
 placed known bytes (Some i) room e f = inl (i, e)
 placed known bytes None true e f = inl (length known, place_of-push known bytes e)
 placed known bytes None false e f = inr f
-
--- The token of a name in the end, by what stands before the words in front of it.
-abbrev pub final : Known → List RawTokenAt → List RawTokenAt → ℕ → List ℕ → Token
-final known front back at bytes =
-    let kind = kind_behind (before_from known.before front) in
-    numbered kind (unwrap_or (place_of (names_of_kind kind (names_from known
-    (front ++ (record { at = at; word = name bytes }) ∷ back))) bytes) NAMES_MAX)
-
-pub number_from : (scale : ℕ) (front back : List RawTokenAt) (at : ℕ) (bytes : List ℕ) (known : Known) →
-    HasTokenAt (tokens_from scale known (front ++ (record { at = at; word = name bytes }) ∷ back))
-    (length front) (final known front back at bytes)
-number_from scale [] back at bytes known =
-    let kind = kind_behind known.before in
-    let names = names_of_kind kind known.vocabulary in
-    let next = known_after known (name bytes) in
-    let own = own_kind kind known.vocabulary bytes in
-    let has = subst (λ l. HasPlace l bytes) (sym own)
-    (placed names bytes (place_of names bytes) (nat_lt (length names) NAMES_MAX) refl refl) in
-    record {
-      before = [];
-      after = tokens_from scale next back;
-      split = ap (λ (o : Option ℕ). numbered kind (unwrap_or o NAMES_MAX)
-          ∷ tokens_from scale next back)
-          (sym (for_good kind next back bytes has ∙ ap (λ l. place_of l bytes) own));
-      here = refl;
-    }
-number_from scale (raw ∷ front) back at bytes known =
-    let h = number_from scale front back at bytes (known_after known raw.word) in
-    record {
-      before = next_token scale known raw.word ∷ h.before;
-      after = h.after;
-      split = ap (λ ts. next_token scale known raw.word ∷ ts) h.split;
-      here = ap suc h.here;
-    }

@@ -18,17 +18,16 @@ use Rattle.tre_parse.specs.declared.token.Token.{Token}
 use Rattle.tre_parse.specs.declared.token.Token.TheVariants.{Name as Numbered, EventName, Number as Units, LeftParen, Event}
 use Rattle.tre_parse.specs.declared.before.Before.{Before}
 use Rattle.tre_parse.specs.declared.before.Before.TheVariants.{EventWord, EventParen, Other}
-use Rattle.tre_parse.specs.Tokens.{RawToken, name as raw_name, event_name as raw_event, number as raw_number, sign as raw_sign, RawTokenAt, first_uses, units_within}
-use Rattle.tre_parse.specs.Words.{Word, name, event_name, number, sign, is_sign, with_events, words_among, name_in, event_in, names_among, in_numbers, numbered_words}
+use Rattle.tre_parse.specs.Tokens.{RawToken, name as raw_name, event_name as raw_event, number as raw_number, sign as raw_sign, RawTokenAt, units_within}
+use Rattle.tre_parse.specs.Words.{Word, name, event_name, number, sign, is_sign, with_events, words_among, first_uses, name_in, event_in, names_among, in_numbers, numbered_words}
 use Rattle.tre_parse.specs.Scanned.{raw_tokens_of, names_of, tokens_of}
 use Rattle.tre_parse.specs.Known.{before_next, kind_behind, names_of_kind, names_with, Known, nothing_known, numbered, next_token, vocabulary_after, known_after, tokens_from, names_from, word_is_past, past_from, offsets_of}
 use Rattle.tre_parse.specs.TokenWords.{text_of, word_of, words_for, raw_word, WordAt, word_at}
 use Rattle.tre_parse.specs.Outcome.{is_past}
 use Rattle.tre_parse.specs.ScannedOutcome.{text_tokens_of}
-use Rattle.tre_parse.specs.Past.{kind_after}
-use Rattle.tre_parse.specs.Numbering.{past_of, HasTokenAt}
+use Rattle.tre_parse.specs.Numbering.{past_of}
 use Rattle.tre_parse.proofs.Plain.{IsNoName, IsPlain, ArePlain, raw_tokens_plain}
-use Rattle.tre_parse.proofs.NameNumbers.{HasPlace, kind_by, own_kind, for_good, placed, number_from}
+use Rattle.tre_parse.proofs.NameNumbers.{HasPlace, kind_by, own_kind, for_good, placed}
 
 -- ---- the names of events are told apart by what stands before them
 
@@ -458,16 +457,3 @@ pub past_run : (scale : ℕ) (text : List ℕ) → past_of (text_tokens_of scale
     ≡ past_from nothing_known (raw_tokens_of text)
 past_run scale text = sym (past_places scale (length text) (raw_tokens_of text) nothing_known
     nothing_few (raw_tokens_plain 0 0 text))
-
--- ---- the number of a name
-
-pub name_number : (scale : ℕ) (text bytes : List ℕ) (front back : List RawTokenAt) (at : ℕ)
-    → raw_tokens_of text ≡ front ++ (record { at = at; word = raw_name bytes }) ∷ back →
-    HasTokenAt (tokens_of scale text) (length front) (numbered (kind_after front) (unwrap_or
-    (place_of (names_of_kind (kind_after front) (names_of text)) bytes) NAMES_MAX))
-name_number scale text bytes front back at e =
-    let kind = kind_after front in
-    let Q = λ (raws : List RawTokenAt). HasTokenAt (tokens_from scale nothing_known raws)
-    (length front) (numbered kind (unwrap_or
-    (place_of (names_of_kind kind (names_from nothing_known raws)) bytes) NAMES_MAX)) in
-    subst Q (sym e) (number_from scale front back at bytes nothing_known)

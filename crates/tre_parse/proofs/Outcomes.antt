@@ -1,61 +1,66 @@
--- A text has one outcome.
-use Rattle.std.proofs.Common.{◌≡◌, ℕ, ◌<◌, Option, Some, None, List, inl, inr, sym, ◌∙◌, ap, subst, arith}
-use Rattle.std.specs.Prelude.{MatchOption}
-use Rattle.std.specs.Option.{option_or}
-use Rattle.tre_syntax.specs.PatternTree.{PatternTree}
-use Rattle.tre_parse.specs.Grammar.{Words}
-use Rattle.tre_parse.specs.TokenWords.{words_for}
+-- A text has one outcome: each refusal has one cause, and no two come first.
+use Rattle.std.proofs.Common.{◌≡◌, ℕ, ◌<◌, Option, Some, List, refl, sym, ◌∙◌, ap, arith}
+use Rattle.std.specs.Prelude.{slice_index_or, min}
+use Rattle.tre_syntax.specs.PatternTree.{node_count}
+use Rattle.tre_parse.specs.declared.limits.TheConstants.{COUNT_MAX}
 use Rattle.tre_parse.specs.declared.fault.ParseFault.{ParseFault}
-use Rattle.tre_parse.specs.declared.fault.ParseFault.TheVariants.{Syntax, EmptyInterval}
-use Rattle.tre_parse.specs.Outcome.{Outcome, spelt, refused, IsOutcome}
-use Rattle.tre_parse.specs.ScannedOutcome.{TextTokens, offset_of, limit_fault, size_fault, IsFirstEmpty, IsOutcomeOfTree, IsOutcomeOfTokens, text_tokens_of, byte_fault, IsScannedOutcome}
+use Rattle.tre_parse.specs.declared.fault.ParseFault.TheVariants.{TooLong, BadByte, Number as TooBig, TooDeep, Syntax, EmptyInterval, TooManyNames, TooLarge, Memory}
+use Rattle.tre_parse.specs.Outcome.{Read, IsFirst, At, HasCause, rank, Outcome, spelt, refused, ComesFirst, IsOutcome}
+use Rattle.tre_parse.specs.ScannedOutcome.{read_of}
 use Rattle.tre_parse.proofs.Whole.{spelt_once, fault_once}
 use Rattle.tre_parse.proofs.Agreement.{scanned_outcome}
 
-first_fault_once : (made : Option ParseFault) (Rest : Outcome → Type 0)
-    → ((o q : Outcome) → Rest o → Rest q → o ≡ q) → (o q : Outcome) →
-    MatchOption made (Rest o) (λ fault. o ≡ refused fault)
-    → MatchOption made (Rest q) (λ fault. q ≡ refused fault) → o ≡ q
-first_fault_once None Rest once o q h k = once o q h k
-first_fault_once (Some fault) Rest once o q h k = h ∙ sym k
-
--- There is one first empty interval.
-first_once : (tokens : Words) (i j : ℕ) → IsFirstEmpty tokens i → IsFirstEmpty tokens j → i ≡ j
-first_once tokens i j f g =
+-- There is one first place.
+place_once : (Is : ℕ → Type 0) (i j : ℕ) → IsFirst Is i → IsFirst Is j → i ≡ j
+place_once Is i j f g =
     let left : i < j → ⊥ = λ lt. g.1 i lt f.0 in
     let right : j < i → ⊥ = λ lt. f.1 j lt g.0 in
     omega (arith, left, right)
 
-judged_once : (words : TextTokens) (tree : PatternTree) (o q : Outcome)
-    → IsOutcomeOfTree words tree o → IsOutcomeOfTree words tree q → o ≡ q
-judged_once words tree o q (inl a) (inl b) = a.3 ∙ ap
-    (λ n. refused (EmptyInterval (offset_of words n)))
-    (first_once (words_for words.tokens) a.0 b.0 (a.1, a.2) (b.1, b.2)) ∙ sym b.3
-judged_once words tree o q (inl a) (inr b) = absurd (b.0 a.0 a.1)
-judged_once words tree o q (inr a) (inl b) = absurd (a.0 b.0 b.1)
-judged_once words tree o q (inr a) (inr b) =
-    first_fault_once (size_fault words tree) (λ outcome. outcome ≡ spelt tree words.names)
-    (λ one other h k. h ∙ sym k) o q a.1 b.1
+found_once : (found : Option ℕ) (i j : ℕ) → found ≡ Some i → found ≡ Some j → i ≡ j
+found_once found i j e q = cc
 
-read_once : (words : TextTokens) (o q : Outcome) → IsOutcomeOfTokens words o
-    → IsOutcomeOfTokens words q → o ≡ q
-read_once words o q (inl a) (inl b) = a.2 ∙ ap (λ n. refused (Syntax (offset_of words n)))
-    (fault_once (words_for words.tokens) a.0 b.0 a.1 b.1) ∙ sym b.2
-read_once words o q (inl a) (inr b) = absurd (a.1.none b.0 b.1)
-read_once words o q (inr a) (inl b) = absurd (b.1.none a.0 a.1)
-read_once words o q (inr a) (inr b) =
-    let same = spelt_once (words_for words.tokens) b.0 a.0 b.1 a.1 in
-    let P = λ (t : PatternTree). IsOutcomeOfTree words t q in
-    judged_once words a.0 o q a.2 (subst P same b.2)
+at_once : (read : Read) (Is : ℕ → Type 0) (i j : ℕ)
+    → ((m n : ℕ) → Is m → Is n → m ≡ n) → At read Is i → At read Is j → i ≡ j
+at_once read Is i j once h k =
+    h.2 ∙ ap (λ place. slice_index_or read.offsets place read.size) (once h.0 k.0 h.1 k.1)
+    ∙ sym k.2
 
-pub scanned_once : (scale : ℕ) (text : List ℕ) (o q : Outcome) → IsScannedOutcome scale text o
-    → IsScannedOutcome scale text q → o ≡ q
-scanned_once scale text =
-    let words = text_tokens_of scale text in
-    first_fault_once (option_or (byte_fault text) (limit_fault words)) (IsOutcomeOfTokens words)
-    (read_once words)
+cause_once : (read : Read) (one other : ParseFault) → HasCause read one → HasCause read other
+    → rank one ≡ rank other → one ≡ other
+cause_once read TooLong TooLong h k e = refl
+cause_once read (BadByte i) (BadByte j) h k e =
+    ap (λ at. BadByte at) (found_once read.bad i j h k)
+cause_once read (TooBig i) (TooBig j) h k e =
+    ap (λ at. TooBig at) (at_once read _ i j (found_once _) h k)
+cause_once read (TooDeep i) (TooDeep j) h k e =
+    ap (λ at. TooDeep at) (at_once read _ i j (place_once _) h k)
+cause_once read (Syntax i) (Syntax j) h k e =
+    ap (λ at. Syntax at) (at_once read _ i j (fault_once read.words) h k)
+cause_once read (EmptyInterval i) (EmptyInterval j) h k e =
+    ap (λ at. EmptyInterval at) (at_once read _ i j (place_once _) h k)
+cause_once read (TooManyNames i) (TooManyNames j) h k e =
+    ap (λ at. TooManyNames at) (at_once read _ i j (found_once _) h k)
+cause_once read (TooLarge n) (TooLarge m) h k e =
+    ap (λ nodes. TooLarge nodes) (h.3 ∙ ap (λ tree. min (node_count tree) COUNT_MAX)
+    (spelt_once read.words h.0 k.0 h.1 k.1) ∙ sym k.3)
+cause_once read Memory other h k e = absurd h
+cause_once read one other h k e = absurd (omega (arith, e))
+
+pub first_once : (read : Read) (o q : Outcome) → ComesFirst read o → ComesFirst read q → o ≡ q
+first_once read (spelt tree names) (spelt other others) h k =
+    let same = spelt_once read.words tree other h.1 k.1 in
+    let all = h.0 ∙ sym k.0 in
+    cc
+first_once read (spelt tree names) (refused fault) h k = absurd (h.2 fault k.0)
+first_once read (refused fault) (spelt tree names) h k = absurd (k.2 fault h.0)
+first_once read (refused one) (refused other) h k =
+    let less = h.1 other k.0 in
+    let more = k.1 one h.0 in
+    ap (λ fault. refused fault) (cause_once read one other h.0 k.0 (omega (arith, less, more)))
 
 pub outcome_once : (scale : ℕ) (text : List ℕ) (o q : Outcome) → IsOutcome scale text o
     → IsOutcome scale text q → o ≡ q
 outcome_once scale text o q h k =
-    scanned_once scale text o q (scanned_outcome scale text o h) (scanned_outcome scale text q k)
+    first_once (read_of scale text) o q (scanned_outcome scale text o h)
+    (scanned_outcome scale text q k)

@@ -18,7 +18,7 @@ use Rattle.tre_parse.specs.Grammar.{Words, StateRule, state, conj, unary, Spells
 use Rattle.tre_parse.specs.Begins as begin
 use Rattle.tre_parse.specs.Begins.{BeginsState, BeginsInterval, Begins}
 use Rattle.tre_parse.specs.Joins.{connected, connective_sign, connected_rule, joined_by, join_sign, joined_rule, brackets_of, operand_in, edge_sign}
-use Rattle.tre_parse.specs.Reader.{state_by, state_after, state_operand, expression_by, expression_after, operand, operand_after, unsigned, Task, of_state, of_pattern, of_interval, Program, give, halt, call, accept, expect, said, part, leaf_of, event_number_of, opened_by, number_of, high_end_of, closed_by, behind_high, behind_comma, behind_low, behind_opening, state_part, expression_part, go_on, sign_program, is_behind, edge_program, behind_event, event_program, literal_program, unsigned_program, is_before}
+use Rattle.tre_parse.specs.Reader.{state_by, state_after, state_operand, expression_by, expression_after, operand, operand_after, unsigned, Task, of_state, of_pattern, of_interval, Program, give, halt, call, accept, expect, said, part, leaf_of, event_number_of, opened_by, low_end_of, high_end_of, closed_by, behind_high, behind_comma, behind_low, behind_opening, state_part, expression_part, go_on, sign_program, is_behind, edge_program, behind_event, event_program, literal_program, unsigned_program, is_before}
 use Rattle.tre_parse.proofs.Says.{StateSpelt, PatternSpelt, StateBegun, PatternBegun, Holds, TaskSays, ProgramHolds, says_by}
 
 -- ---- what is whole is begun
@@ -359,8 +359,8 @@ high_end low weak _ = record {
 }
 
 low_end : (weak : Bool) (token : Token) → Holds SpellsInterval BeginsInterval
-    (said (number_of token) (λ low. behind_low weak low))
-    (if is_some (number_of token) then opening weak ∷ word_of token ∷ [] else opening weak ∷ [])
+    (said (low_end_of token) (λ low. behind_low weak low))
+    (if is_some (low_end_of token) then opening weak ∷ word_of token ∷ [] else opening weak ∷ [])
 low_end weak (Number low) =
     accepts SpellsInterval BeginsInterval Comma (behind_comma weak low) halt
     (opening weak ∷ number low ∷ []) (high_end low weak) (record {

@@ -11,7 +11,7 @@ use Rattle.tre_parse.specs.Grammar.{Words, SpellsState, SpellsInterval, post, pr
 use Rattle.tre_parse.specs.Begins.{BeginsState, BeginsInterval, Begins}
 use Rattle.tre_parse.specs.Front.{front, tail}
 use Rattle.tre_parse.specs.Joins.{connected_rule, operand_in, joined_rule}
-use Rattle.tre_parse.specs.Reader.{Reading, got, stop, and_then, StateTask, state_by, state_after, state_operand, PatternTask, expression_by, expression_after, operand, operand_after, unsigned, Task, of_state, of_pattern, of_interval, Made, Program, give, halt, look, call, program, past, run, rank, read}
+use Rattle.tre_parse.specs.Reader.{Reading, got, stop, and_then, StateTask, state_by, state_after, state_operand, PatternTask, expression_by, expression_after, operand, operand_after, unsigned, Task, of_state, of_pattern, of_interval, Made, Program, give, halt, look, call, program, past, run, height, read}
 use Rattle.tre_parse.proofs.Fixpoint.{left, size, IsGuarded, guarded, read_fixed, no_longer, some_next}
 
 -- The words spell what a state's task reads. Where some of it is read before, whatever spells that
@@ -258,7 +258,7 @@ deep_says holds zero task tokens lt = absurd (omega arith)
 deep_says holds (suc n) task tokens lt =
     fixed_says task tokens
     (program_says (Spelt task) (Begun task) (size task tokens)
-    (λ t ts less. deep_says holds n t ts (omega (arith, lt, less))) (program task) (rank task)
+    (λ t ts less. deep_says holds n t ts (omega (arith, lt, less))) (program task) (height task)
     (guarded task) [] tokens (omega arith) (holds task))
 
 -- Where each program holds, each task says so.

@@ -15,7 +15,7 @@ use Rattle.tre_parse.specs.TokenWords.{word_of}
 use Rattle.tre_parse.specs.Grammar.{Words, StateRule, state, conj, unary, SpellsState, unary_name, unary_true, unary_bang, braces, parens, state_conj, state_bars, conj_unary, conj_ampersands, SpellsInterval, with_high, without_high, Rule, expr, meet, seq, post, primary, Spells, expr_meet, expr_bar, meet_seq, meet_ampersand, seq_post, seq_semicolon, post_primary, post_star, post_plus, post_question, post_percent, primary_eps, primary_parens, primary_rise, primary_fall, primary_event, primary_lit, primary_begins, primary_ends, primary_begins_ends}
 use Rattle.tre_parse.specs.Front.{front}
 use Rattle.tre_parse.specs.Joins.{connected, connective_sign, joined_by, join_sign, edged_literal}
-use Rattle.tre_parse.specs.Reader.{Reading, got, and_then, state_by, state_after, state_operand, expression_by, expression_after, operand, operand_after, unsigned, of_interval, give, is_sign, accept, expect, state_part, expression_part, sign_program, is_behind, past, run, read, read_state, read_pattern}
+use Rattle.tre_parse.specs.Reader.{Reading, got, and_then, state_by, state_after, state_operand, expression_by, expression_after, operand, operand_after, unsigned, of_interval, give, is_token, accept, expect, state_part, expression_part, sign_program, is_behind, past, run, read, read_state, read_pattern}
 use Rattle.tre_parse.proofs.Fixpoint.{state_fixed, pattern_fixed, interval_fixed}
 use Rattle.tre_parse.proofs.Equations.{along, then_got, state_begins, state_goes_on, state_ends, expression_begins, expression_goes_on, expression_ends, operand_begins}
 use Rattle.tre_parse.proofs.TokenWords.{tokens_as, there_and_back, spread}
@@ -52,7 +52,7 @@ state_strength And = 2
 -- ---- states
 
 no_connective : (how : Connective) (token : Token) → state_binds token < state_strength how
-    → is_sign (connective_sign how) token ≡ false
+    → is_token (connective_sign how) token ≡ false
 no_connective And DoubleAmpersand h = absurd (omega arith)
 no_connective And _ h = refl
 no_connective Or DoubleBar h = absurd (omega arith)
@@ -154,7 +154,7 @@ interval_is_read _ _ (without_high low false) rest = interval_fixed _
 -- ---- expressions
 
 no_join : (how : Join) (token : Token) → binds token < strength how
-    → is_sign (join_sign how) token ≡ false
+    → is_token (join_sign how) token ≡ false
 no_join Sequence Semicolon h = absurd (omega arith)
 no_join Sequence _ h = refl
 no_join Intersection Ampersand h = absurd (omega arith)

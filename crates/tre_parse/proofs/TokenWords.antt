@@ -7,7 +7,7 @@ use Rattle.std.proofs.lemmas.List.{map-append}
 use Rattle.tre_parse.specs.declared.token.Token.{Token}
 use Rattle.tre_parse.specs.declared.token.Token.TheVariants.{Name, EventName, Number, EndOfText}
 use Rattle.tre_parse.specs.Words.{Word, name, event_name, number, sign}
-use Rattle.tre_parse.specs.Written.{reserved}
+use Rattle.tre_parse.specs.Lexeme.{reserved}
 use Rattle.tre_parse.specs.declared.lexeme.TheConstants.{SIGNS}
 use Rattle.tre_parse.specs.TokenWords.{word_of, words_for}
 use Rattle.tre_parse.specs.Grammar.{Words}

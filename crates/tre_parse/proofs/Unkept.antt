@@ -13,8 +13,7 @@ use Rattle.tre_parse.specs.Grammar.{Words, StateRule, state, conj, unary, Spells
 use Rattle.tre_parse.specs.Begins.{BeginsInterval}
 use Rattle.tre_parse.specs.Parts.{IsFineInterval, IsMadeOf}
 use Rattle.tre_parse.specs.Operands.{Formula, RepresentsState}
-use Rattle.tre_parse.specs.Outcome.{is_big, HasEmptyAt}
-use Rattle.tre_parse.specs.ScannedOutcome.{IsFirstEmpty}
+use Rattle.tre_parse.specs.Outcome.{is_big, HasEmptyAt, IsFirst}
 use Rattle.tre_parse.specs.Words.{Word, sign}
 use Rattle.tre_parse.specs.TokenWords.{word_of, words_for}
 use Rattle.tre_parse.specs.Reader.{Reading, got, StateTask, of_state, of_interval, read, read_state}
@@ -154,7 +153,7 @@ same_place (f ∷ front) (o ∷ other) xs ys e n = same_place front other xs ys 
 -- What is found in the rest, where no interval before it is empty.
 abbrev pub IsFound : Words → Option ℕ → Type 0
 IsFound words found = MatchOption found (NoneEmpty words)
-    (λ left. IsFirstEmpty words (length words - left))
+    (λ left. IsFirst (HasEmptyAt words) (length words - left))
 
 -- The words of an interval are those of tokens.
 interval_back : (body : Words) (ends : IntervalEnds) → SpellsInterval body ends
@@ -187,7 +186,7 @@ no_empty_at front rest t never k =
 empty_at : (front : Words) (rest : List Token)
     → position is_big (front ++ sign (codes "%") ∷ words_for rest) ≡ None
     → NoneEmptyBefore (front ++ sign (codes "%") ∷ words_for rest) (length front + 1)
-    → BeginsUnkept rest → IsFirstEmpty (front ++ sign (codes "%") ∷ words_for rest)
+    → BeginsUnkept rest → IsFirst (HasEmptyAt (front ++ sign (codes "%") ∷ words_for rest))
     (length (front ++ sign (codes "%") ∷ words_for rest) - length rest)
 empty_at front rest big none u =
     let words = front ++ sign (codes "%") ∷ words_for rest in
@@ -196,7 +195,7 @@ empty_at front rest big none u =
     let count = length-append front (sign (codes "%") ∷ words_for rest) in
     let same = length-map rest word_of in
     let here : length front + 1 ≡ length words - length rest = omega (arith, count, same) in
-    let P = λ (n : ℕ). IsFirstEmpty words n in
+    let P = λ (n : ℕ). IsFirst (HasEmptyAt words) n in
     subst P here (
       record {
         front = front;

@@ -15,8 +15,8 @@ use Rattle.tre_state.specs.Name.{starts_name, continues_name, is_reserved, IsWor
 use Rattle.tre_parse.specs.declared.token.Token.{Token}
 use Rattle.tre_parse.specs.declared.token.Token.TheVariants.{LeftParen, RightParen, LeftBracket, RightBracket, LeftBrace, RightBrace, Comma, Semicolon, Bar, DoubleBar, Ampersand, DoubleAmpersand, Bang, Star, Plus, Question, Percent, Begins, Ends, Eps, Rise, Fall, Inf, True, Event}
 use Rattle.tre_parse.specs.Signs.{IsSign, left_paren, right_paren, left_bracket, right_bracket, left_brace, right_brace, comma, semicolon, bar, double_bar, ampersand, double_ampersand, bang, star, plus, question, percent, begins, ends}
-use Rattle.tre_parse.specs.Written.{is_white_space, HasDecimals, reserved}
-use Rattle.tre_parse.specs.Words.{signs}
+use Rattle.tre_parse.specs.Lexeme.{reserved}
+use Rattle.tre_parse.specs.Words.{signs, is_white_space}
 use Rattle.tre_parse.specs.TokenWords.{text_of}
 
 -- ---- signs and reserved words
@@ -213,6 +213,14 @@ first_place (x ∷ xs) rest digits =
     let here : is_ascii_digit x ≡ true = grind (arith, nat_tests) in
     let more : list_all is_ascii_digit xs ≡ true = grind (arith, nat_tests) in
     rw (no_point x here, first_place xs rest more) (omega arith)
+
+-- Digits before a point (46), and digits behind it.
+pub record HasDecimals (bytes : List ℕ) : Type 0 where
+  pub whole : List ℕ
+  pub decimals : List ℕ
+  pub split : bytes ≡ whole ++ 46 ∷ decimals
+  pub before : is_numeral whole ≡ true
+  pub behind : is_numeral decimals ≡ true
 
 pub decimals_written : (bytes : List ℕ) → HasDecimals bytes → IsDecimal bytes
 decimals_written bytes h =

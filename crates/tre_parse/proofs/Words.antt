@@ -13,8 +13,8 @@ use Rattle.tre_parse.specs.declared.token.Token.{Token}
 use Rattle.tre_parse.specs.declared.token.Token.TheVariants.{Eps, Rise, Fall, Inf, True, Event}
 use Rattle.tre_parse.specs.declared.lexeme.Lexeme.{Lexeme}
 use Rattle.tre_parse.specs.declared.lexeme.Lexeme.TheVariants.{Blank, Name, Number, Sign}
-use Rattle.tre_parse.specs.Lexeme.{lexeme_named, word_lexeme, first_sign, sign_lexeme, lexeme_of}
-use Rattle.tre_parse.specs.Written.{is_white_space, reserved}
+use Rattle.tre_parse.specs.Lexeme.{lexeme_named, word_lexeme, first_sign, sign_lexeme, lexeme_of, reserved}
+use Rattle.tre_parse.specs.Words.{is_white_space}
 use Rattle.tre_parse.specs.declared.lexeme.TheConstants.{SIGNS}
 
 -- The front that passes a test does.

@@ -1,5 +1,5 @@
 -- What `parse` answers, against the outcome of the text.
-use Rattle.std.specs.Prelude.{◌≡◌, ◌≤◌, ◌-◌, ◌⊎◌, None, Result, Ok, Err, MatchOption, length, position}
+use Rattle.std.specs.Prelude.{◌≡◌, ◌≤◌, ◌-◌, ◌⊎◌, None, Result, Ok, Err, length, position}
 use Rattle.tre_syntax.specs.declared.pattern.Pattern.{Pattern}
 use Rattle.tre_syntax.specs.declared.pattern.TheConstants.{NODES_MAX}
 use Rattle.tre_syntax.specs.Pattern.{pattern_tree, names_of}
@@ -11,20 +11,14 @@ use Rattle.tre_parse.specs.declared.scan.Scan.{Scan}
 use Rattle.tre_parse.specs.Front.{tokens_in, offsets_in}
 use Rattle.tre_parse.specs.Operands.{Operand}
 use Rattle.tre_parse.specs.Scan.{vocabulary_in}
-use Rattle.tre_parse.specs.Outcome.{Outcome, spelt, refused, is_past}
+use Rattle.tre_parse.specs.Outcome.{Read, is_past, Outcome, spelt, refused}
 use Rattle.tre_parse.specs.TokenWords.{words_for}
-use Rattle.tre_parse.specs.ScannedOutcome.{TextTokens, offset_of, limit_fault, IsOutcomeOfTokens}
+use Rattle.tre_parse.specs.ScannedOutcome.{TextTokens, offset_of, read_by}
 
 -- The answer is an outcome of which this is so, or want of memory.
 abbrev pub Answers : (Outcome → Type 0) → Result Pattern ParseFault → Type 0
 Answers IsIt (Ok pattern) = IsIt (spelt (pattern_tree pattern) (names_of pattern))
 Answers IsIt (Err fault) = (fault ≡ Memory) ⊎ IsIt (refused fault)
-
--- What becomes of words that have no fault in their bytes.
-abbrev pub IsOutcomeWithin : TextTokens → Outcome → Type 0
-IsOutcomeWithin words outcome =
-    MatchOption (limit_fault words) (IsOutcomeOfTokens words outcome)
-    (λ fault. outcome ≡ refused fault)
 
 -- The words that a scan holds.
 abbrev pub text_tokens_in : Scan → TextTokens
@@ -35,6 +29,10 @@ text_tokens_in scan =
       offsets = offsets_in scan.tokens.items;
       names = vocabulary_in scan;
     }
+
+-- What these are judged by: no byte of a scan is wrong.
+abbrev pub read_in : Scan → Read
+read_in scan = read_by (text_tokens_in scan) None
 
 -- The fault where reading stops.
 abbrev pub IsFaultOf : TextTokens → Stop → ParseFault → Type 0

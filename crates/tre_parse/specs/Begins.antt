@@ -66,9 +66,11 @@ pub data Begins : Rule → Words → Type 0 where
       Begins primary (sign (codes "fall") ∷ sign (codes "(") ∷ xs)
   primary_event : Begins primary (sign (codes "event") ∷ [])
   primary_event_paren : Begins primary (sign (codes "event") ∷ sign (codes "(") ∷ [])
-  primary_event_name : (i : ℕ) → Begins primary (sign (codes "event") ∷ sign (codes "(") ∷ event_name i ∷ [])
+  primary_event_name : (i : ℕ) →
+      Begins primary (sign (codes "event") ∷ sign (codes "(") ∷ event_name i ∷ [])
   primary_lit : (xs : Words) → BeginsState (unary false) xs → Begins primary xs
-  primary_begins : (xs : Words) → BeginsState (unary false) xs → Begins primary (sign (codes "<:") ∷ xs)
+  primary_begins : (xs : Words) → BeginsState (unary false) xs →
+      Begins primary (sign (codes "<:") ∷ xs)
 
 -- Some further words complete these to what is spelt.
 pub record IsCompletable {Tree : Type 0} (Spelled : Words → Tree → Type 0)

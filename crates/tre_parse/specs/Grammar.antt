@@ -17,7 +17,6 @@ pub data StateRule : Type 0 where
   conj : StateRule
   unary : Bool → StateRule
 
--- The words spell the state by the rule.
 pub data SpellsState : StateRule → Words → StateTree → Type 0 where
   -- unary: any number of `!`, then a name, `true` or a state in braces, or inside in parentheses
   unary_name : (inside : Bool) (i : ℕ) → SpellsState (unary inside) (name i ∷ []) (proposition i)
@@ -58,7 +57,6 @@ pub data Rule : Type 0 where
   post : Rule
   primary : Rule
 
--- The words spell the expression by the rule.
 pub data Spells : Rule → Words → PatternTree → Type 0 where
   -- expr: meet, then any number of `|` meet
   expr_meet : (xs : Words) (e : PatternTree) → Spells meet xs e → Spells expr xs e

@@ -2,14 +2,24 @@
 -- begins.
 use Rattle.std.specs.Prelude.{ℕ, ◌+◌, ◌≤◌, ◌<◌, ◌&&◌, if◌then◌else◌, Option, Some, None, List, [], ◌∷◌, length, drop, nat_eq, nat_lt}
 use Rattle.std.specs.Char.{is_ascii_digit}
-use Rattle.std.specs.List.{prefix_len, take_while, starts_with}
+use Rattle.std.specs.List.{prefix_len, take_while, starts_with, zip}
+use Rattle.std.specs.Map.{lookup}
+use Rattle.std.specs.Str.{bytes_eq}
 use Rattle.tre_decimal.specs.Decimal.{is_point}
 use Rattle.tre_state.specs.Name.{starts_name, continues_name}
+use Rattle.tre_state.specs.declared.name.TheConstants.{RESERVED}
 use Rattle.tre_parse.specs.declared.token.Token.{Token}
+use Rattle.tre_parse.specs.declared.token.Token.TheVariants.{Eps, Rise, Fall, Inf, True, Event}
 use Rattle.tre_parse.specs.declared.lexeme.TheConstants.{SIGNS}
 use Rattle.tre_parse.specs.declared.lexeme.Lexeme.{Lexeme}
 use Rattle.tre_parse.specs.declared.lexeme.Lexeme.TheVariants.{Blank, Wrong, Name, Number, Sign}
-use Rattle.tre_parse.specs.Written.{is_white_space, reserved}
+use Rattle.tre_parse.specs.Words.{is_white_space}
+
+-- The token of a reserved word. They stand in the order of the words.
+abbrev pub reserved : List ℕ → Option Token
+reserved word =
+    lookup (λ text. bytes_eq text.now word)
+    (zip RESERVED (Eps ∷ Rise ∷ Fall ∷ Inf ∷ True ∷ Event ∷ []))
 
 abbrev pub lexeme_named : ℕ → Option Token → Lexeme
 lexeme_named len None = Name len

@@ -1,10 +1,9 @@
--- What a reader must believe: the tokens of a text, the grammar, and what becomes of it.
-pub mod Tokens
+-- What a reader must believe: the words of a text, the grammar, and what becomes of it.
 pub mod Words
-pub mod Written
 pub mod Grammar
 pub mod Outcome
 -- The same by what the scanner finds.
+pub mod Tokens
 pub mod Lexeme
 pub mod Scanned
 pub mod ScannedOutcome
@@ -13,12 +12,10 @@ pub mod Begins
 pub mod Signs
 pub mod Numbering
 pub mod Strength
-pub mod Depth
-pub mod Blanks
 pub mod Ends
-pub mod Past
 -- What the functions inside promise each other.
 pub mod Front
+pub mod Limits
 pub mod Known
 pub mod Scan
 pub mod TokenWords

@@ -4,7 +4,6 @@ use Rattle.std.specs.Option.{option_map}
 use Rattle.tre_syntax.specs.declared.name_kind.NameKind.{NameKind}
 use Rattle.tre_syntax.specs.declared.name_kind.NameKind.TheVariants.{Proposition, Event}
 use Rattle.tre_syntax.specs.PatternTree.{seen_after}
-use Rattle.tre_parse.specs.declared.token.Token.{Token}
 use Rattle.tre_parse.specs.Words.{Word, name, event_name}
 use Rattle.tre_parse.specs.Grammar.{Words}
 use Rattle.tre_parse.specs.TokenWords.{words_for}
@@ -31,11 +30,5 @@ past_of words = option_map (offset_of words) (position is_past (words_for words.
 abbrev pub IsNumberedByUse : TextTokens → Type 0
 IsNumberedByUse words =
     position is_past (words_for words.tokens) ≡ None → (kind : NameKind) →
-    seen_after 0 (numbers_in kind (words_for words.tokens)) ≡ Some (length (names_of_kind kind words.names))
-
--- The token at a place.
-pub record HasTokenAt (tokens : List Token) (place : ℕ) (token : Token) : Type 0 where
-  pub before : List Token
-  pub after : List Token
-  pub split : tokens ≡ before ++ token ∷ after
-  pub here : length before ≡ place
+    seen_after 0 (numbers_in kind (words_for words.tokens))
+    ≡ Some (length (names_of_kind kind words.names))

@@ -59,25 +59,25 @@ pub data Program (A : Type 0) : Type 0 where
   call : (task : Task) → (Made task → Program A) → Program A
 
 -- The token is this sign, one of those that may be asked for.
-abbrev pub is_sign : Token → Token → Bool
-is_sign LeftParen LeftParen = true
-is_sign RightParen RightParen = true
-is_sign LeftBrace LeftBrace = true
-is_sign RightBrace RightBrace = true
-is_sign Comma Comma = true
-is_sign Semicolon Semicolon = true
-is_sign Bar Bar = true
-is_sign DoubleBar DoubleBar = true
-is_sign Ampersand Ampersand = true
-is_sign DoubleAmpersand DoubleAmpersand = true
-is_sign Bang Bang = true
-is_sign Ends Ends = true
-is_sign _ _ = false
+abbrev pub is_token : Token → Token → Bool
+is_token LeftParen LeftParen = true
+is_token RightParen RightParen = true
+is_token LeftBrace LeftBrace = true
+is_token RightBrace RightBrace = true
+is_token Comma Comma = true
+is_token Semicolon Semicolon = true
+is_token Bar Bar = true
+is_token DoubleBar DoubleBar = true
+is_token Ampersand Ampersand = true
+is_token DoubleAmpersand DoubleAmpersand = true
+is_token Bang Bang = true
+is_token Ends Ends = true
+is_token _ _ = false
 
 -- Past the sign where it is next, or else without it.
 abbrev pub accept : {A : Type 0} → Token → Program A → Program A → Program A
 accept sign there other =
-    look (is_sign sign) (λ token. if is_sign sign token then there else other)
+    look (is_token sign) (λ token. if is_token sign token then there else other)
 
 abbrev pub expect : {A : Type 0} → Token → Program A → Program A
 expect sign next = accept sign next halt
@@ -105,9 +105,9 @@ opened_by LeftBracket = Some true
 opened_by LeftParen = Some false
 opened_by _ = None
 
-abbrev pub number_of : Token → Option ℕ
-number_of (Number n) = Some n
-number_of _ = None
+abbrev pub low_end_of : Token → Option ℕ
+low_end_of (Number n) = Some n
+low_end_of _ = None
 
 abbrev pub high_end_of : Token → Option (Option ℕ)
 high_end_of (Number n) = Some (Some n)
@@ -131,7 +131,7 @@ abbrev pub behind_low : Bool → ℕ → Program IntervalEnds
 behind_low low_weak low = expect Comma (behind_comma low_weak low)
 
 abbrev pub behind_opening : Bool → Program IntervalEnds
-behind_opening low_weak = part number_of (λ low. behind_low low_weak low)
+behind_opening low_weak = part low_end_of (λ low. behind_low low_weak low)
 
 abbrev pub interval_program : Program IntervalEnds
 interval_program = part opened_by (λ low_weak. behind_opening low_weak)
@@ -252,23 +252,23 @@ deep zero task tokens = stop tokens
 deep (suc n) task tokens = run (deep n) (program task) tokens
 
 -- How far a task is from the innermost.
-abbrev pub rank : Task → ℕ
-rank (of_state (state_by And)) = 2
-rank (of_state (state_by Or)) = 3
-rank (of_state (state_after how s)) = 0
-rank (of_state (state_operand braces)) = 1
-rank (of_pattern (expression_by Sequence)) = 4
-rank (of_pattern (expression_by Intersection)) = 5
-rank (of_pattern (expression_by Alternation)) = 6
-rank (of_pattern (expression_after how e)) = 0
-rank (of_pattern operand) = 3
-rank (of_pattern (operand_after e)) = 0
-rank (of_pattern unsigned) = 2
-rank of_interval = 0
+abbrev pub height : Task → ℕ
+height (of_state (state_by And)) = 2
+height (of_state (state_by Or)) = 3
+height (of_state (state_after how s)) = 0
+height (of_state (state_operand braces)) = 1
+height (of_pattern (expression_by Sequence)) = 4
+height (of_pattern (expression_by Intersection)) = 5
+height (of_pattern (expression_by Alternation)) = 6
+height (of_pattern (expression_after how e)) = 0
+height (of_pattern operand) = 3
+height (of_pattern (operand_after e)) = 0
+height (of_pattern unsigned) = 2
+height of_interval = 0
 
 -- What a task reads: as many calls as there can be.
 unfoldable pub read : (task : Task) → List Token → Reading (Made task)
-read task tokens = deep (suc (8 * length tokens + rank task)) task tokens
+read task tokens = deep (suc (8 * length tokens + height task)) task tokens
 
 abbrev pub read_state : StateTask → List Token → Reading StateTree
 read_state task tokens = read (of_state task) tokens

@@ -1,15 +1,11 @@
 -- What becomes of a text by the tokens that the parser has of it.
-use Rattle.std.specs.Prelude.{◌≡◌, ℕ, ◌<◌, nat_lt, if◌then◌else◌, Option, Some, None, MatchOption, List, length, map, position, slice_index_or}
-use Rattle.std.specs.Option.{option_map, option_or}
+use Rattle.std.specs.Prelude.{◌≡◌, ℕ, ◌≤◌, Option, None, List, length, map, slice_index_or}
 use Rattle.tre_trace.specs.Reading.{Vocabulary}
 use Rattle.tre_syntax.specs.PatternTree.{PatternTree}
-use Rattle.tre_parse.specs.declared.limits.TheConstants.{TEXT_MAX}
 use Rattle.tre_parse.specs.declared.token.Token.{Token}
 use Rattle.tre_parse.specs.declared.fault.ParseFault.{ParseFault}
-use Rattle.tre_parse.specs.declared.fault.ParseFault.TheVariants.{TooLong, BadByte, Number as TooBig, TooDeep}
-use Rattle.tre_parse.specs.Grammar.{Words, expr, Spells}
-use Rattle.tre_parse.specs.Outcome as by_words
-use Rattle.tre_parse.specs.Outcome.{Outcome, refused, is_big, deep_place, HasEmptyAt}
+use Rattle.tre_parse.specs.Grammar.{expr, Spells}
+use Rattle.tre_parse.specs.Outcome.{Read, HasCause, rank}
 use Rattle.tre_parse.specs.TokenWords.{words_for}
 use Rattle.tre_parse.specs.Scanned.{raw_tokens_of, bad_byte, tokens_of, names_of}
 
@@ -23,27 +19,20 @@ pub record TextTokens : Type 0 where
 abbrev pub offset_of : TextTokens → ℕ → ℕ
 offset_of text place = slice_index_or text.offsets place text.size
 
-abbrev pub limit_fault : TextTokens → Option ParseFault
-limit_fault text =
-    option_or
-    (option_map (λ place. TooBig (offset_of text place)) (position is_big (words_for text.tokens)))
-    (option_map (λ place. TooDeep (offset_of text place)) (deep_place 0 0 (words_for text.tokens)))
+-- What these are judged by, with the first byte at which no token begins.
+abbrev pub read_by : TextTokens → Option ℕ → Read
+read_by text bad =
+    record {
+      size = text.size;
+      bad = bad;
+      words = words_for text.tokens;
+      offsets = text.offsets;
+      names = text.names;
+    }
 
-abbrev pub size_fault : TextTokens → PatternTree → Option ParseFault
-size_fault text tree = by_words.size_fault (offset_of text) (words_for text.tokens) tree
-
-abbrev pub IsOutcomeOfTree : TextTokens → PatternTree → Outcome → Type 0
-IsOutcomeOfTree text tree outcome =
-    by_words.IsOutcomeOfTree (offset_of text) (words_for text.tokens) text.names tree outcome
-
-abbrev pub IsOutcomeOfTokens : TextTokens → Outcome → Type 0
-IsOutcomeOfTokens text outcome =
-    by_words.IsOutcomeOfWords (offset_of text) (words_for text.tokens) text.names outcome
-
--- The first empty interval stands at the place.
-abbrev pub IsFirstEmpty : Words → ℕ → Type 0
-IsFirstEmpty words place =
-    HasEmptyAt words place × ((n : ℕ) → n < place → HasEmptyAt words n → ⊥)
+-- No refusal of a lower rank has a cause.
+abbrev pub NoneBelow : ℕ → Read → Type 0
+NoneBelow n read = (fault : ParseFault) → HasCause read fault → n ≤ rank fault
 
 pub record IsScannedSpelling (scale : ℕ) (text : List ℕ) (tree : PatternTree) (names : Vocabulary)
     : Type 0 where
@@ -60,12 +49,6 @@ text_tokens_of scale text =
       names = names_of text;
     }
 
-abbrev pub byte_fault : List ℕ → Option ParseFault
-byte_fault text =
-    if nat_lt TEXT_MAX (length text) then Some TooLong
-    else option_map (λ at. BadByte at) (bad_byte text)
-
-abbrev pub IsScannedOutcome : ℕ → List ℕ → Outcome → Type 0
-IsScannedOutcome scale text outcome =
-    MatchOption (option_or (byte_fault text) (limit_fault (text_tokens_of scale text)))
-    (IsOutcomeOfTokens (text_tokens_of scale text) outcome) (λ fault. outcome ≡ refused fault)
+-- What a text is judged by, as it is scanned.
+abbrev pub read_of : ℕ → List ℕ → Read
+read_of scale text = read_by (text_tokens_of scale text) (bad_byte text)

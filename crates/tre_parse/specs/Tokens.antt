@@ -1,6 +1,5 @@
 -- What the scanner makes of a text: a name or a number by its bytes, or a token.
-use Rattle.std.specs.Prelude.{ℕ, ◌+◌, min, not, unwrap_or, List, [], ◌∷◌, filter}
-use Rattle.std.specs.Str.{bytes_eq}
+use Rattle.std.specs.Prelude.{ℕ, ◌+◌, min, unwrap_or, List}
 use Rattle.tre_pairs.specs.declared.TheConstants.{TIME_MAX}
 use Rattle.tre_decimal.specs.Decimal.{units_of}
 use Rattle.tre_parse.specs.declared.token.Token.{Token}
@@ -16,11 +15,6 @@ pub data RawToken : Type 0 where
 pub record RawTokenAt : Type 0 where
   pub at : ℕ
   pub word : RawToken
-
--- Each of the names once, by first use.
-abbrev pub first_uses : List (List ℕ) → List (List ℕ)
-first_uses [] = []
-first_uses (bytes ∷ rest) = bytes ∷ filter (λ other. not (bytes_eq other bytes)) (first_uses rest)
 
 -- The number of units that a number is at a scale. Where it is none, or one above the latest time,
 -- it is the one number after that.

@@ -1,6 +1,6 @@
 -- What stands in a text: its words, each the longest at its place, which of its names are those of
 -- events, and which numbers its names and decimals have.
-use Rattle.std.specs.Prelude.{◌≡◌, ◌≢◌, ℕ, ◌+◌, min, ◌≤◌, ◌⊎◌, Bool, ◌&&◌, true, false, if◌then◌else◌, Option, Some, None, unwrap_or, List, [], ◌∷◌, length, take, drop, map, filter_map, codes, Contains, IsTrue}
+use Rattle.std.specs.Prelude.{◌≡◌, ◌≢◌, ℕ, ◌+◌, min, ◌≤◌, ◌⊎◌, Bool, ◌&&◌, ◌||◌, ◌==◌, not, true, false, if◌then◌else◌, Option, Some, None, unwrap_or, List, [], ◌∷◌, length, take, drop, map, filter, filter_map, codes, Contains, IsTrue}
 use Rattle.std.specs.Str.{bytes_eq}
 use Rattle.tre_pairs.specs.declared.TheConstants.{TIME_MAX}
 use Rattle.tre_decimal.specs.Decimal.{units_of}
@@ -8,8 +8,6 @@ use Rattle.tre_state.specs.declared.names.TheConstants.{NAMES_MAX}
 use Rattle.tre_state.specs.Name.{is_reserved, IsName}
 use Rattle.tre_state.specs.Names.{place_of}
 use Rattle.tre_trace.specs.Reading.{Vocabulary}
-use Rattle.tre_parse.specs.Tokens.{first_uses}
-use Rattle.tre_parse.specs.Written.{is_white_space}
 
 -- A name, the name of an event, a number, or a sign or reserved word by its bytes. In a text names
 -- and numbers are bytes too; in the grammar they are numbers.
@@ -32,6 +30,10 @@ Writes bytes (name text) = (text ≡ bytes) × IsName bytes
 Writes bytes (event_name text) = ⊥
 Writes bytes (number text) = (text ≡ bytes) × ((scale : ℕ) × (units_of scale bytes ≢ None))
 Writes bytes (sign text) = (text ≡ bytes) × (Contains signs bytes ⊎ IsTrue (is_reserved bytes))
+
+-- A space (32), a tab (9), CR (13) or LF (10).
+abbrev pub is_white_space : ℕ → Bool
+is_white_space byte = byte == 32 || byte == 9 || byte == 13 || byte == 10
 
 -- The first `len` of the bytes write the word, and no more of them write any.
 pub record BeginsWith (bytes : List ℕ) (word : Word (List ℕ)) (len : ℕ) : Type 0 where
@@ -69,7 +71,6 @@ with_events one two (name text ∷ rest) =
     else name text) ∷ with_events two (name text) rest
 with_events one two (word ∷ rest) = word ∷ with_events two word rest
 
--- The words of a text, before the first of which nothing stands.
 abbrev pub words_among : List (ℕ × Word (List ℕ)) → List (Word (List ℕ))
 words_among placed = with_events (sign []) (sign []) (map (λ one. one.1) placed)
 
@@ -81,7 +82,11 @@ abbrev pub event_in : Word (List ℕ) → Option (List ℕ)
 event_in (event_name text) = Some text
 event_in word = None
 
--- The first NAMES_MAX names of each kind, by first use.
+-- Each of the names once, by first use.
+abbrev pub first_uses : List (List ℕ) → List (List ℕ)
+first_uses [] = []
+first_uses (bytes ∷ rest) = bytes ∷ filter (λ other. not (bytes_eq other bytes)) (first_uses rest)
+
 abbrev pub names_among : List (ℕ × Word (List ℕ)) → Vocabulary
 names_among placed =
     record {

@@ -1,34 +1,22 @@
 //! Laws of the grammar, each as a function whose contract it is.
-ghost use Rattle.std.specs.Prelude.{◌≡◌, ℕ, ◌+◌, ◌≤◌, Option, MatchOption, take, map, unwrap_or, true, Some, None, List, [], ◌∷◌, ◌++◌, length, codes, ◌↔◌};
-ghost use Rattle.std.specs.Option.{option_map};
-ghost use Rattle.tre_state.specs.declared.names.TheConstants.{NAMES_MAX};
-ghost use Rattle.tre_parse.specs.declared.limits.TheConstants.{DEPTH_MAX};
+ghost use Rattle.std.specs.Prelude.{◌≡◌, ℕ, Option, take, map, true, List, ◌∷◌, ◌++◌, length, codes, ◌↔◌};
 ghost use Rattle.tre_state.specs.StateTree.{StateTree, conjunction, disjunction};
 ghost use Rattle.tre_trace.specs.Reading.{Vocabulary};
 ghost use Rattle.tre_syntax.specs.PatternTree.{PatternTree, sequence, alternation, intersection};
-ghost use Rattle.tre_parse.specs.Words.{Word, sign, AreWords};
+ghost use Rattle.tre_parse.specs.Words.{sign, AreWords};
 ghost use Rattle.tre_parse.specs.TokenWords.{words_for, WordAt, word_at};
-ghost use Rattle.tre_parse.specs.Grammar.{Words, StateRule, SpellsState, Rule, Spells};
+ghost use Rattle.tre_parse.specs.Grammar.{StateRule, SpellsState, Rule, Spells};
 ghost use Rattle.tre_parse.specs.Begins.{BeginsState, Begins, IsCompletable};
-ghost use Rattle.tre_parse.specs.Depth.{open_from, IsDeepAt};
 ghost use Rattle.tre_parse.specs.Strength.{Groups, StateGroups};
 ghost use Rattle.std.specs.Char.{is_ascii_digit};
 ghost use Rattle.tre_state.specs.Name.{starts_name, continues_name};
 ghost use Rattle.tre_parse.specs.Ends.{bytes_in, EndsRun, EndsNumber};
-ghost use Rattle.tre_parse.specs.Past.{kind_after, UsesFew, IsOneTooMany};
 ghost use Rattle.tre_parse.specs.Lexeme.{sign_lexeme, lexeme_of};
-ghost use Rattle.tre_parse.specs.Written.{is_white_space};
 ghost use Rattle.tre_parse.specs.Signs.{IsSign, TakesSign};
 ghost use Rattle.tre_parse.specs.declared.lexeme.Lexeme.TheVariants.{Sign};
-ghost use Rattle.tre_state.specs.Names.{place_of};
-ghost use Rattle.tre_parse.specs.Numbering.{past_of, HasTokenAt, IsNumberedByUse};
-ghost use Rattle.tre_parse.specs.Tokens.{RawTokenAt, name};
-ghost use Rattle.tre_parse.specs.Scanned.{raw_tokens_of, bad_byte, tokens_of, names_of};
-ghost use Rattle.tre_parse.specs.Known.{names_of_kind, numbered};
-ghost use Rattle.tre_parse.specs.Blanks.{counted_on, SaysAs};
+ghost use Rattle.tre_parse.specs.Scanned.{raw_tokens_of, bad_byte};
 ghost use Rattle.tre_parse.specs.declared.token.Token.{Token};
-ghost use Rattle.tre_parse.specs.Outcome.{IsSpelling, Outcome, spelt, IsOutcome, deep_place};
-ghost use Rattle.tre_parse.specs.ScannedOutcome.{text_tokens_of};
+ghost use Rattle.tre_parse.specs.Outcome.{IsSpelling, Outcome, spelt, IsOutcome};
 
 /// A text spells at most one pattern at a scale.
 pub fn one_spelling()
@@ -70,10 +58,10 @@ pub fn longest_word()
 
 /// Tokens begin a rule exactly where some further tokens complete them to what it spells.
 pub fn beginnings()
-    ensures expression { (rule : Rule) (tokens : List Token) → Begins rule (words_for tokens) ↔
-        IsCompletable (Spells rule) (words_for tokens) }
-    ensures state { (rule : StateRule) (tokens : List Token) → BeginsState rule (words_for tokens) ↔
-        IsCompletable (SpellsState rule) (words_for tokens) }
+    ensures expression { (rule : Rule) (tokens : List Token) →
+        Begins rule (words_for tokens) ↔ IsCompletable (Spells rule) (words_for tokens) }
+    ensures state { (rule : StateRule) (tokens : List Token) →
+        BeginsState rule (words_for tokens) ↔ IsCompletable (SpellsState rule) (words_for tokens) }
 {}
 
 /// Every text has an outcome at each scale.
@@ -95,88 +83,34 @@ pub fn outcome_is_spelt()
 
 /// `;` binds more than `&`, and `&` more than `|`. Each of them groups to the left.
 pub fn strength()
-    ensures bars { Groups (sign (codes "|")) (sign (codes "|")) (λ e f g. alternation (alternation e f) g) }
-    ensures ampersands { Groups (sign (codes "&")) (sign (codes "&")) (λ e f g. intersection (intersection e f) g) }
-    ensures semicolons { Groups (sign (codes ";")) (sign (codes ";")) (λ e f g. sequence (sequence e f) g) }
-    ensures bar_ampersand { Groups (sign (codes "|")) (sign (codes "&")) (λ e f g. alternation e (intersection f g)) }
-    ensures ampersand_bar { Groups (sign (codes "&")) (sign (codes "|")) (λ e f g. alternation (intersection e f) g) }
-    ensures bar_semicolon { Groups (sign (codes "|")) (sign (codes ";")) (λ e f g. alternation e (sequence f g)) }
-    ensures semicolon_bar { Groups (sign (codes ";")) (sign (codes "|")) (λ e f g. alternation (sequence e f) g) }
-    ensures ampersand_semicolon { Groups (sign (codes "&")) (sign (codes ";")) (λ e f g. intersection e
-        (sequence f g)) }
-    ensures semicolon_ampersand { Groups (sign (codes ";")) (sign (codes "&")) (λ e f g. intersection
-        (sequence e f) g) }
+    ensures bars { Groups (sign (codes "|")) (sign (codes "|"))
+        (λ e f g. alternation (alternation e f) g) }
+    ensures ampersands { Groups (sign (codes "&")) (sign (codes "&"))
+        (λ e f g. intersection (intersection e f) g) }
+    ensures semicolons { Groups (sign (codes ";")) (sign (codes ";"))
+        (λ e f g. sequence (sequence e f) g) }
+    ensures bar_ampersand { Groups (sign (codes "|")) (sign (codes "&"))
+        (λ e f g. alternation e (intersection f g)) }
+    ensures ampersand_bar { Groups (sign (codes "&")) (sign (codes "|"))
+        (λ e f g. alternation (intersection e f) g) }
+    ensures bar_semicolon { Groups (sign (codes "|")) (sign (codes ";"))
+        (λ e f g. alternation e (sequence f g)) }
+    ensures semicolon_bar { Groups (sign (codes ";")) (sign (codes "|"))
+        (λ e f g. alternation (sequence e f) g) }
+    ensures ampersand_semicolon { Groups (sign (codes "&")) (sign (codes ";"))
+        (λ e f g. intersection e (sequence f g)) }
+    ensures semicolon_ampersand { Groups (sign (codes ";")) (sign (codes "&"))
+        (λ e f g. intersection (sequence e f) g) }
 {}
 
 /// Inside a state `&&` binds more than `||`. Each of them groups to the left.
 pub fn state_strength()
-    ensures bars { StateGroups (sign (codes "||")) (sign (codes "||")) (λ s t u. disjunction (disjunction s t) u) }
-    ensures ampersands { StateGroups (sign (codes "&&")) (sign (codes "&&")) (λ s t u. conjunction
-        (conjunction s t) u) }
-    ensures bar_ampersand { StateGroups (sign (codes "||")) (sign (codes "&&")) (λ s t u. disjunction s
-        (conjunction t u)) }
-    ensures ampersand_bar { StateGroups (sign (codes "&&")) (sign (codes "||")) (λ s t u. disjunction
-        (conjunction s t) u) }
-{}
-
-/// A blank parts a text: the words before it and those after it are read each by themselves, up to
-/// the first byte at which no token begins.
-pub fn blank_parts()
-    ensures words { (front rest : List ℕ) (blank : ℕ) → is_white_space blank ≡ true →
-        bad_byte front ≡ None →
-        raw_tokens_of (front ++ blank
-        ∷ rest) ≡ raw_tokens_of front ++ counted_on (length front + 1) (raw_tokens_of rest) }
-    ensures bad_after { (front rest : List ℕ) (blank : ℕ) → is_white_space blank ≡ true →
-        bad_byte front ≡ None →
-        bad_byte (front ++ blank
-        ∷ rest) ≡ option_map (λ at. at + (length front + 1)) (bad_byte rest) }
-    ensures bad_before { (front rest : List ℕ) (blank at : ℕ) → is_white_space blank ≡ true →
-        bad_byte front ≡ Some at →
-        bad_byte (front ++ blank ∷ rest) ≡ Some at }
-{}
-
-/// A blank says nothing: one more beside it, another one in its place, or one in front or at the
-/// end, and the text spells what it spelt.
-pub fn blank_says_nothing()
-    ensures more { (front rest : List ℕ) (blank other : ℕ) → is_white_space blank ≡ true →
-        is_white_space other ≡ true →
-        SaysAs (front ++ blank ∷ other ∷ rest) (front ++ blank ∷ rest) }
-    ensures another { (front rest : List ℕ) (blank other : ℕ) → is_white_space blank ≡ true →
-        is_white_space other ≡ true →
-        SaysAs (front ++ other ∷ rest) (front ++ blank ∷ rest) }
-    ensures in_front { (text : List ℕ) (blank : ℕ) → is_white_space blank ≡ true →
-        SaysAs (blank ∷ text) text }
-    ensures at_end { (text : List ℕ) (blank : ℕ) → is_white_space blank ≡ true →
-        SaysAs (text ++ blank ∷ []) text }
-    ensures spelling { (scale : ℕ) (text other : List ℕ) (tree : PatternTree) (names : Vocabulary) →
-        SaysAs text other →
-        (IsSpelling scale text tree names → IsSpelling scale other tree names)
-        × (IsSpelling scale other tree names → IsSpelling scale text tree names) }
-{}
-
-/// The place of the first bracket too many, said of the fronts of the tokens: with the token there
-/// more than `DEPTH_MAX` brackets are open, and with fewer tokens never.
-pub fn depth()
-    ensures { (tokens : Words) → MatchOption (deep_place 0 0 tokens)
-        ((n : ℕ) → open_from 0 (take n tokens) ≤ DEPTH_MAX) (IsDeepAt tokens) }
-{}
-
-/// At each name of a text the token has the number at which the list of the names of its kind has
-/// it, `NAMES_MAX` for a name that isn't among them; and where none is past the first `NAMES_MAX`
-/// of its kind, the lists have them by first use from the left.
-pub fn numbers_of_names()
-    ensures number { (scale : ℕ) (text bytes : List ℕ) (front back : List RawTokenAt) (at : ℕ) →
-        raw_tokens_of text ≡ front ++ (record { at = at; word = name bytes }) ∷ back →
-        HasTokenAt (tokens_of scale text) (length front)
-        (numbered (kind_after front) (unwrap_or
-        (place_of (names_of_kind (kind_after front) (names_of text)) bytes) NAMES_MAX)) }
-    ensures first_use { (scale : ℕ) (text : List ℕ) → IsNumberedByUse (text_tokens_of scale text) }
-{}
-
-/// A name is past the first `NAMES_MAX` of its kind where it is first used that is none of the
-/// `NAMES_MAX` different ones used before it, and no name is where no more than `NAMES_MAX` of
-/// either kind are used.
-pub fn one_name_too_many()
-    ensures { (scale : ℕ) (text : List ℕ) → MatchOption (past_of (text_tokens_of scale text))
-        (UsesFew (raw_tokens_of text)) (IsOneTooMany (raw_tokens_of text)) }
+    ensures bars { StateGroups (sign (codes "||")) (sign (codes "||"))
+        (λ s t u. disjunction (disjunction s t) u) }
+    ensures ampersands { StateGroups (sign (codes "&&")) (sign (codes "&&"))
+        (λ s t u. conjunction (conjunction s t) u) }
+    ensures bar_ampersand { StateGroups (sign (codes "||")) (sign (codes "&&"))
+        (λ s t u. disjunction s (conjunction t u)) }
+    ensures ampersand_bar { StateGroups (sign (codes "&&")) (sign (codes "||"))
+        (λ s t u. disjunction (conjunction s t) u) }
 {}

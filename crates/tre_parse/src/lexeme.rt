@@ -2,8 +2,8 @@ ghost use Rattle.std.specs.Prelude.{◌≡◌, ◌<◌, ◌≤◌, ◌+◌, leng
 ghost use Rattle.std.specs.Char.{is_ascii_digit};
 ghost use Rattle.std.specs.List.{prefix_len};
 ghost use Rattle.tre_state.specs.Name.{continues_name, starts_name};
-ghost use Rattle.tre_parse.specs.Lexeme.{word_lexeme, decimals_len, number_lexeme, first_sign, lexeme_of, FitsIn};
-ghost use Rattle.tre_parse.specs.Written.{is_white_space, reserved};
+ghost use Rattle.tre_parse.specs.Lexeme.{word_lexeme, decimals_len, number_lexeme, first_sign, lexeme_of, FitsIn, reserved};
+ghost use Rattle.tre_parse.specs.Words.{is_white_space};
 
 use crate::sign;
 use crate::token::Token;

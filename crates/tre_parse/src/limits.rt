@@ -1,7 +1,8 @@
 ghost use Rattle.std.specs.Prelude.{◌≡◌, ◌≤◌, position};
 ghost use Rattle.tre_parse.specs.Front.{tokens_in};
 ghost use Rattle.tre_parse.specs.TokenWords.{word_of, words_for};
-ghost use Rattle.tre_parse.specs.Outcome.{is_big, is_past, open_after, deep_place};
+ghost use Rattle.tre_parse.specs.Outcome.{is_big, is_past, open_after};
+ghost use Rattle.tre_parse.specs.Limits.{deep_place};
 
 use crate::scan::PAST;
 use crate::token::{Token, TokenAt};
@@ -24,10 +25,17 @@ pub(crate) fn first_big(tokens: &[TokenAt]) -> Option<usize>
     tokens
         .iter()
         .map(|placed| placed.token)
-        .position(|token| match token {
-            Token::Number(number) => number > TIME_MAX,
-            _ => false,
-        })
+        .position(|token| is_big(token))
+}
+
+// A number above the latest time.
+fn is_big(token: Token) -> bool
+    ensures { result ≡ is_big (word_of token) }
+{
+    match token {
+        Token::Number(number) => number > TIME_MAX,
+        _ => false,
+    }
 }
 
 /// The place of the first name past the first `NAMES_MAX` of its kind.

@@ -1,9 +1,9 @@
 -- What becomes of the text of a pattern: it is read back.
-use Rattle.std.proofs.Common.{◌≡◌, ℕ, ◌≤◌, Bool, true, false, inl, inr, arith, rules}
+use Rattle.std.proofs.Common.{◌≡◌, ℕ, ◌≤◌, false, inl, inr, arith, rules}
 use Rattle.std.proofs.Common.{Option, Some, None, List, [], ◌∷◌, ◌++◌, length, refl, sym, ap, ◌∙◌, subst, arith, append-nil}
-use Rattle.std.specs.Prelude.{nat_lt, MatchOption, if◌then◌else◌, position}
+use Rattle.std.specs.Prelude.{position}
 use Rattle.std.specs.List.{position_or_len}
-use Rattle.std.specs.Option.{option_map, option_or}
+use Rattle.std.specs.Option.{option_map}
 use Rattle.std.proofs.lemmas.Bool.{cond_above}
 use Rattle.std.proofs.lemmas.Bool.Decides.{nat_tests}
 use Rattle.tre_state.specs.Names.{IsNameList}
@@ -16,19 +16,19 @@ use Rattle.tre_parse.specs.declared.before.Before.{Before}
 use Rattle.tre_parse.specs.declared.before.Before.TheVariants.{Other}
 use Rattle.tre_parse.specs.declared.token.Token.TheVariants.{Name, EventName, Number, Percent}
 use Rattle.tre_parse.specs.declared.fault.ParseFault.{ParseFault}
-use Rattle.tre_parse.specs.declared.fault.ParseFault.TheVariants.{TooLong, BadByte, Number as TooBig, TooDeep}
+use Rattle.tre_parse.specs.declared.fault.ParseFault.TheVariants.{TooLong, BadByte, Number as TooBig, TooDeep, Syntax, EmptyInterval, TooManyNames, TooLarge, Memory}
 use Rattle.tre_parse.specs.Grammar.{Words, expr, Spells}
-use Rattle.tre_parse.specs.Scanned.{raw_tokens_from, tokens_of, bad_byte}
+use Rattle.tre_parse.specs.Scanned.{raw_tokens_from, tokens_of}
 use Rattle.tre_parse.specs.Known.{before_sign, nothing_known}
 use Rattle.tre_parse.specs.Unkept.{NoneEmpty}
-use Rattle.tre_parse.specs.Outcome.{IsSpelling, Outcome, spelt, refused, IsOutcome}
-use Rattle.tre_parse.specs.Outcome.{is_big, is_past, deep_place}
-use Rattle.tre_parse.specs.ScannedOutcome.{TextTokens, offset_of, size_fault, IsOutcomeOfTokens, text_tokens_of}
-use Rattle.tre_parse.specs.Words.{Word, number, sign}
+use Rattle.tre_parse.specs.Outcome.{IsSpelling, Read, is_big, is_past, HasCause, Outcome, spelt, refused, ComesFirst, IsOutcome}
+use Rattle.tre_parse.specs.ScannedOutcome.{offset_of, text_tokens_of, read_of}
+use Rattle.tre_parse.specs.Words.{Word, sign}
 use Rattle.tre_parse.specs.TokenWords.{word_of, words_for}
 use Rattle.tre_parse.proofs.TokenWords.{token_as, there_and_back}
 use Rattle.std.specs.Prelude.{codes}
-use Rattle.tre_parse.proofs.Agreement.{scanned_outcome, outcome_meant, spelling_meant}
+use Rattle.tre_parse.proofs.Whole.{spelt_once}
+use Rattle.tre_parse.proofs.Agreement.{scanned_outcome, spelling_meant}
 use Rattle.tre_parse.proofs.Named.{past_run}
 use Rattle.tre_show.specs.Intervals.{HasIntervals}
 use Rattle.tre_show.specs.PatternText.{expression_text}
@@ -83,30 +83,37 @@ module _ (scale : ℕ) (names : Vocabulary) where
 
 -- ---- the outcome
 
--- Words of which nothing is refused but the length and the brackets.
-judged : (long : Bool) (bad big deep : Option ℕ) (words : TextTokens) (tree : PatternTree)
-    (names : Vocabulary) (outcome : Outcome) → bad ≡ None → big ≡ None
-    → let is = λ (o : Outcome). MatchOption (option_or (if long then Some TooLong
-    else option_map (λ at. BadByte at) bad) (option_or
-    (option_map (λ place. TooBig (offset_of words place)) big)
-    (option_map (λ place. TooDeep (offset_of words place)) deep))) (IsOutcomeOfTokens words o)
-    (λ fault. o ≡ refused fault) in
-    IsOutcomeOfTokens words (spelt tree names) → ((o : Outcome) → is o → o ≡ outcome) → is outcome
-    → IsReadBack tree names outcome
-judged true bad big deep words tree names outcome p q read once is = inr (inl is)
-judged false None None (Some place) words tree names outcome p q read once is = search rules
-judged false None None None words tree names outcome p q read once is =
-    inl (sym (once (spelt tree names) read))
-judged false None (Some place) deep words tree names outcome p q read once is = absurd (cc)
-judged false (Some at) big deep words tree names outcome p q read once is = absurd (cc)
+-- Of words that spell the tree, and of which nothing is refused but the length and the brackets.
+module _ (read : Read) (tree : PatternTree) (names : Vocabulary)
+    (spells : Spells expr read.words tree) (good : read.bad ≡ None)
+    (small : position is_big read.words ≡ None) (lasting : NoneEmpty read.words)
+    (few : position is_past read.words ≡ None) (fits : node_count tree ≤ 1000) where
+  refused_back : (fault : ParseFault) → HasCause read fault
+      → IsReadBack tree names (refused fault)
+  refused_back TooLong is = inr (inl refl)
+  refused_back (BadByte at) is = absurd (cc)
+  refused_back (TooBig at) is = let some = is.1 in absurd (cc)
+  refused_back (TooDeep at) is = inr (inr (at, refl))
+  refused_back (Syntax at) is = absurd (is.1.none tree spells)
+  refused_back (EmptyInterval at) is = absurd (lasting is.0 is.1.0)
+  refused_back (TooManyNames at) is = let some = is.1 in absurd (cc)
+  refused_back (TooLarge nodes) is =
+      let same = ap node_count (spelt_once read.words tree is.0 spells is.1) in
+      let large = is.2 in
+      absurd (omega (arith, same, large, fits))
+  refused_back Memory is = absurd is
+
+  read_back : names ≡ read.names → (outcome : Outcome) → ComesFirst read outcome
+      → IsReadBack tree names outcome
+  read_back same (refused fault) is = refused_back fault is.0
+  read_back same (spelt other others) is =
+      let one = spelt_once read.words other tree is.1 spells in
+      let all = is.0 ∙ sym same in
+      inl (cc)
 
 none_mapped : {A B : Type 0} (f : A → B) (o : Option A) → option_map f o ≡ None → o ≡ None
 none_mapped f None e = refl
 none_mapped f (Some x) e = absurd (cc)
-
-limited : (words : TextTokens) (tree : PatternTree) → position is_past (words_for words.tokens) ≡ None
-    → node_count tree ≤ 1000 → size_fault words tree ≡ None
-limited words tree none small = search rules
 
 -- What is so of the text of a pattern at a scale.
 pub record IsTextOf (scale : ℕ) (text : List ℕ) (tree : PatternTree) (names : Vocabulary)
@@ -116,9 +123,8 @@ pub record IsTextOf (scale : ℕ) (text : List ℕ) (tree : PatternTree) (names 
 
 pub text_of_tree : (scale : ℕ) → WritesNumbers scale → (names : Vocabulary) (tree : PatternTree)
     → IsNameList names.names → IsNameList names.events → IsPattern tree names → HasIntervals tree
-    → ((text : List ℕ) (o q : Outcome) → IsOutcome scale text o → IsOutcome scale text q → o ≡ q)
     → IsTextOf scale (expression_text scale names tree) tree names
-text_of_tree scale writes names tree list events pattern fine once =
+text_of_tree scale writes names tree list events pattern fine =
     let text = expression_text scale names tree in
     let printed = tree_prints scale names tree fine 0 in
     let tokens = printed.tokens in
@@ -141,21 +147,11 @@ text_of_tree scale writes names tree list events pattern fine once =
     let past : position is_past (words_for (tokens_of scale text)) ≡ None =
     none_mapped (offset_of words) (position is_past (words_for (tokens_of scale text)))
     (past_run scale text ∙ is.few) in
-    let tells = λ (fault : Option ParseFault). MatchOption fault
-    (spelt tree names ≡ spelt tree words.names) (λ why. spelt tree names ≡ refused why) in
-    let read : IsOutcomeOfTokens words (spelt tree names) = inr (
-      tree,
-      spells,
-      inr (
-        subst (λ ts. NoneEmpty (words_for ts)) (sym tokens_same) (none_empty scale names tokens stand),
-        subst tells (sym (limited words tree past pattern.small)) (ap (spelt tree) (sym names_same)),
-      ),
-    ) in
+    let lasting : NoneEmpty (words_for (tokens_of scale text)) =
+    subst (λ ts. NoneEmpty (words_for ts)) (sym tokens_same) (none_empty scale names tokens stand) in
     record {
       spelling = spelling_meant scale text tree names
           (record { tokens_alone = is.good; spells = spells; numbered = sym names_same });
-      outcome = λ outcome said. judged (nat_lt 16384 (length text)) (bad_byte text)
-          (position is_big (words_for words.tokens)) (deep_place 0 0 (words_for words.tokens)) words tree names outcome
-          is.good big read (λ o so. once text o outcome (outcome_meant scale text o so) said)
-          (scanned_outcome scale text outcome said);
+      outcome = λ outcome said. read_back (read_of scale text) tree names spells is.good big
+          lasting past pattern.small (sym names_same) outcome (scanned_outcome scale text outcome said);
     }

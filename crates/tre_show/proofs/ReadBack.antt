@@ -25,8 +25,8 @@ use Rattle.tre_syntax.specs.declared.name_kind.NameKind.TheVariants.{Proposition
 use Rattle.tre_syntax.specs.PatternTree.{seen_after}
 use Rattle.tre_parse.specs.declared.token.Token.{Token}
 use Rattle.tre_parse.specs.declared.token.Token.TheVariants.{Name, EventName, Number, Bar, DoubleBar, Ampersand, DoubleAmpersand, Percent, Begins, Ends, Eps, Rise, Fall, Inf, True, Event, EndOfText}
-use Rattle.tre_parse.specs.Lexeme.{lexeme_named, word_lexeme, number_len, number_lexeme, sign_lexeme, lexeme_of}
-use Rattle.tre_parse.specs.Written.{is_white_space, reserved}
+use Rattle.tre_parse.specs.Lexeme.{lexeme_named, word_lexeme, number_len, number_lexeme, sign_lexeme, lexeme_of, reserved}
+use Rattle.tre_parse.specs.Words.{is_white_space}
 use Rattle.tre_parse.specs.declared.before.Before.{Before}
 use Rattle.tre_parse.specs.declared.before.Before.TheVariants.{Other}
 use Rattle.tre_parse.specs.TokenWords.{words_for}

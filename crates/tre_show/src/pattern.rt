@@ -18,7 +18,6 @@ use crate::state::{
 };
 use std::alloc::{AllocError, Global};
 use tre_decimal::{begins_with_a_digit, last_digits_are_digits, written_is_read};
-use tre_parse::laws::one_outcome;
 use tre_parse::sign;
 use tre_state::{Names, State};
 use tre_syntax::{Expr, Pattern};
@@ -50,8 +49,6 @@ pub fn pattern_text(alloc: Global, pattern: &Pattern, scale: u8) -> Result<Strin
     // same.
     let _names = pattern.names().len();
     let _events = pattern.events().len();
-    // A text has one outcome.
-    one_outcome();
     // A number that is written is taken whole, and read back as it was.
     written_is_read();
     last_digits_are_digits();

@@ -4,7 +4,7 @@ use Rattle.tre_zone.specs.Interval.{ends_of, kept_weak}
 use Rattle.tre_parse.specs.declared.token.Token.{Token}
 use Rattle.tre_parse.specs.declared.token.Token.TheVariants.{Number, Comma}
 use Rattle.tre_parse.specs.Front.{front, tail}
-use Rattle.tre_parse.specs.Reader.{give, opened_by, number_of, high_end_of, closed_by, behind_high, behind_comma, behind_low, behind_opening, of_interval, run, read}
+use Rattle.tre_parse.specs.Reader.{give, opened_by, low_end_of, high_end_of, closed_by, behind_high, behind_comma, behind_low, behind_opening, of_interval, run, read}
 use Rattle.tre_parse.specs.Reading.{IsReadPart}
 use Rattle.tre_parse.proofs.Fixpoint.{interval_fixed}
 use Rattle.tre_parse.proofs.Equations.{passed, unpassed, part_said, part_unsaid}
@@ -20,7 +20,7 @@ past_low : (old ts us : List Token) (weak : Bool) (low : ℕ) → IsReadPart ope
     → Number low ≡ front ts → us ≡ tail ts
     → read of_interval old ≡ run read (behind_low weak low) us
 past_low old ts us weak low h e f = past_opening old ts weak h
-    ∙ part_said number_of (λ low. behind_low weak low) low ts us (ap number_of (sym e), f)
+    ∙ part_said low_end_of (λ low. behind_low weak low) low ts us (ap low_end_of (sym e), f)
 
 past_comma : (old us vs : List Token) (weak : Bool) (low : ℕ)
     → read of_interval old ≡ run read (behind_low weak low) us → us ≡ Comma ∷ vs
@@ -33,7 +33,7 @@ past_high : (old vs ws : List Token) (weak : Bool) (low : ℕ) (high : Option �
 past_high old vs ws weak low high h e = h
     ∙ part_said high_end_of (λ high. behind_high weak low high) high vs ws e
 
-no_number : (token : Token) → ((n : ℕ) → token ≢ Number n) → number_of token ≡ None
+no_number : (token : Token) → ((n : ℕ) → token ≢ Number n) → low_end_of token ≡ None
 no_number (Number n) h = absurd (h n refl)
 no_number _ h = refl
 
@@ -50,7 +50,7 @@ returns-in_err-low_weak c =
 
 pub returns-in_default : goal.returns-in_default
 returns-in_default c =
-    let s = part_unsaid number_of (λ low. behind_low c.in_ok-low_weak.low_weak low)
+    let s = part_unsaid low_end_of (λ low. behind_low c.in_ok-low_weak.low_weak low)
     c.refused.result c.opening.new.tokens c.opening.new.tokens (
       no_number (front c.opening.new.tokens)
           (λ n q. c.in_default.not-Number n (c.peek.ensures ∙ q)),

@@ -2,7 +2,7 @@ use Rattle.std.proofs.Common.{◌≡◌, ◌≤◌, drop}
 use Rattle.tre_parse.specs.declared.limits.TheConstants.{DEPTH_MAX}
 use Rattle.tre_parse.specs.TokenWords.{words_for}
 use Rattle.tre_parse.specs.Front.{tokens_in}
-use Rattle.tre_parse.specs.Outcome.{deep_place}
+use Rattle.tre_parse.specs.Limits.{deep_place}
 use Rattle.tre_parse.proofs.limits.first_deep.Given as goal
 
 abbrev pub invariant-loop-place : goal.invariant-loop-place

@@ -11,7 +11,7 @@ use Rattle.tre_parse.specs.ScannedOutcome.{offset_of}
 use Rattle.tre_parse.specs.Outcome.{is_past}
 use Rattle.tre_parse.specs.Answers.{text_tokens_in}
 use Rattle.tre_parse.specs.Unkept.{FindsUpTo}
-use Rattle.tre_parse.proofs.Judging.{rest_outcome, is_whole, none_found, first_found, empty_outcome, past_outcome, large_outcome}
+use Rattle.tre_parse.proofs.Judging.{rest_outcome, is_whole, none_empty, first_found, empty_outcome, past_outcome, large_outcome}
 use Rattle.tre_parse.proofs.Whole.{read_whole}
 use Rattle.tre_parse.proofs.parser.judge.Goals as goal
 
@@ -54,7 +54,7 @@ returns-in-Some-first_past-clause-fault c =
     let finds = subst Q none c.requires.unkept in
     inr (past_outcome words whole c.in-Some-first_past.place _ c.requires.small
     (is_whole words whole reads)
-    (none_found words whole c.requires.small finds c.in_default.is)
+    (none_empty words whole c.requires.small finds c.in_default.is)
     (position-map word_of is_past words.tokens
     ∙ ap (λ ts. position (λ t. is_past (word_of t)) (tokens_in ts)) (sym c.deref.ensures.value)
     ∙ sym c.first_past.ensures ∙ c.in-Some-first_past.is)
@@ -72,7 +72,7 @@ returns-then-nodes-gt-NODES_MAX-clause-fault c =
     let reads = subst P none c.requires.whole in
     let finds = subst Q none c.requires.unkept in
     inr (large_outcome words whole _ c.requires.small (is_whole words whole reads)
-    (none_found words whole c.requires.small finds c.in_default.is)
+    (none_empty words whole c.requires.small finds c.in_default.is)
     (position-map word_of is_past words.tokens
     ∙ ap (λ ts. position (λ t. is_past (word_of t)) (tokens_in ts)) (sym c.deref.ensures.value)
     ∙ sym c.first_past.ensures ∙ c.in_default-first_past.is) refl

@@ -1,21 +1,25 @@
-use Rattle.std.proofs.Common.{Err, arith, rules}
+use Rattle.std.proofs.Common.{Err, inr, refl, arith}
 use Rattle.std.proofs.lemmas.Result.{err_from_is_err_and}
-use Rattle.tre_parse.specs.Outcome.{refused}
-use Rattle.tre_parse.proofs.Agreement.{scanned_outcome, outcome_meant, answer_meant}
-use Rattle.tre_parse.proofs.Judging.{scan_numbered, answers_text, answered, long_outcome, bad_outcome}
+use Rattle.tre_parse.proofs.Agreement.{scanned_outcome, answer_meant}
+use Rattle.tre_parse.proofs.Judging.{scan_numbered, scan_good, answers_text, answered, long_outcome, bad_outcome}
 use Rattle.tre_parse.proofs.Spelling.{answer_spells}
+use Rattle.tre_parse.specs.declared.fault.ParseFault.TheVariants.{TooLong}
 use Rattle.tre_parse.proofs.parser.parse.Goals as goal
 
-pub parse_words-requires : goal.parse_words-requires
-parse_words-requires c = scan_numbered _ _ c.in_ok-scan.scan c.in_ok-scan.ensures.ok
+pub parse_words-requires-clause-numbered : goal.parse_words-requires-clause-numbered
+parse_words-requires-clause-numbered c = scan_numbered _ _ c.in_ok-scan.scan c.in_ok-scan.ensures.ok
+
+pub parse_words-requires-clause-bytes : goal.parse_words-requires-clause-bytes
+parse_words-requires-clause-bytes c =
+    scan_good _ _ c.in_ok-scan.scan (omega arith) c.in_ok-scan.ensures.ok
 
 pub returns : goal.returns
 returns c =
     let scale = c.args.scale in
     let text = c.args.text.now in
     let answer = c.parse_words.result in
-    let answers = answers_text scale text c.in_ok-scan.scan answer
-    (omega arith) c.in_ok-scan.ensures.ok c.parse_words.ensures in
+    let answers = answers_text scale text c.in_ok-scan.scan answer c.in_ok-scan.ensures.ok
+    c.parse_words.ensures in
     record {
       spelling = answer_spells scale text answer answers;
       outcome = answer_meant scale text answer answers;
@@ -26,7 +30,16 @@ returns c =
 
 pub returns-then-text-gt-TEXT_MAX : goal.returns-then-text-gt-TEXT_MAX
 returns-then-text-gt-TEXT_MAX c =
-    search (rules, long_outcome, outcome_meant, refused, answered, c.args.scale, c.args.text.now)
+    let scale = c.args.scale in
+    let text = c.args.text.now in
+    let is = inr (long_outcome scale text (omega arith)) in
+    record {
+      spelling = tt;
+      outcome = answer_meant scale text (Err TooLong) is;
+      only = λ outcome h. answered scale text outcome (Err TooLong) is
+          (scanned_outcome scale text outcome h);
+      too_long = λ long. refl;
+    }
 
 pub returns-in_err-scan : goal.returns-in_err-scan
 returns-in_err-scan c =

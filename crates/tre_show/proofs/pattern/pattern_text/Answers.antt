@@ -23,7 +23,6 @@ returns c =
     let read = text_of_tree scale writes names tree
     (subst IsNameList c.names.ensures.names c.len-names.ensures.list)
     (subst IsNameList c.events.ensures.events c.len-events.ensures.list) c.expr.ensures.pattern
-    (subst HasIntervals c.expr.ensures.tree c.in_ok-push_operand.ensures.intervals)
-    (c.one_outcome.ensures scale) in
+    (subst HasIntervals c.expr.ensures.tree c.in_ok-push_operand.ensures.intervals) in
     let is = subst (λ bytes. IsTextOf scale bytes tree names) (sym text) read in
     record { text = text; spelling = is.spelling; outcome = is.outcome }
