@@ -3,17 +3,14 @@ mod Changing
 mod Looking
 mod MaskBits
 mod Declaring
-mod Dumps
 mod Flagging
 mod Gathering
-mod Groups
 mod Knowing
 mod FirstBytes
 pub mod Listing
 mod Longest
 mod Naming
 mod Needing
-mod NoRule
 mod Offering
 mod OneMore
 mod Pasts
@@ -27,10 +24,8 @@ mod Standing
 mod Slots
 mod Staying
 mod Testing
-mod TokenRuns
 mod Tokens
 mod Undefined
 mod Valuing
 mod Watching
-mod WhiteSpace
 mod Masks

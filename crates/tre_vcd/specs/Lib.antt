@@ -3,7 +3,6 @@ pub mod VcdReading
 pub mod Sorted
 pub mod Needs
 pub mod Looking
-pub mod Dumps
 -- What the functions inside promise each other.
 pub mod Brief
 pub mod Kept

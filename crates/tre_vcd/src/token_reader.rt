@@ -74,8 +74,11 @@ impl TokenReader {
         ensures begins { IfOk result (λ reader.
             ⟦<TokenReader as PartReader>⟧.holds reader first_place) }
         ensures terms { IfOk result (λ reader. ⟦<TokenReader as PartReader>⟧.terms reader
-            ≡ record { declared = needs needed.now.value ∷ []; scale = scale;
-            definitions = definitions_of needed.now.value }) }
+            ≡ record {
+              declared = needs needed.now.value ∷ [];
+              scale = scale;
+              definitions = definitions_of needed.now.value;
+            }) }
         ensures names { IfOk result (λ reader. ⟦<TokenReader as PartReader>⟧.names reader
             ≡ record { names = names; events = events }) }
     {
