@@ -19,6 +19,7 @@ mod Reading
 mod Rows
 mod Scoping
 mod Sectioning
+mod Signalling
 mod Skimming
 mod Standing
 mod Slots
@@ -26,6 +27,7 @@ mod Staying
 mod Testing
 mod Tokens
 mod Undefined
+mod Unread
 mod Valuing
 mod Watching
 mod Masks

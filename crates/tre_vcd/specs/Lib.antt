@@ -5,9 +5,11 @@ pub mod Needs
 pub mod Looking
 -- What the functions inside promise each other.
 pub mod Brief
+pub mod Bases
 pub mod Kept
 pub mod Signals
 pub mod Offers
+pub mod Unread
 pub mod Letters
 pub mod Sections
 pub mod Taken

@@ -19,6 +19,7 @@
 //! ```
 #![tactic(auto)]
 
+mod bases;
 mod brief;
 mod changes;
 mod command;

@@ -451,6 +451,9 @@ impl TokenReader {
         let Some(offered) = offer_in(alloc, &self.past.scopes, &self.tokens)? else {
             return Ok(());
         };
+        if !self.needed.may_read(&offered) {
+            return Ok(());
+        }
         self.needed.declare_offered(&offered);
         self.signals.declare(alloc, &offered)
     }
