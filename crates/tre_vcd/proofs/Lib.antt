@@ -2,7 +2,7 @@ mod Bits
 mod Changing
 mod Looking
 mod MaskBits
-mod Declaring
+mod Declarations
 mod Flagging
 mod Gathering
 mod Knowing

@@ -9,7 +9,8 @@ ghost use Rattle.tre_vcd.specs.Looking.{Latest, Silent};
 ghost use Rattle.tre_vcd.specs.VcdReading.{vcd_format, vcd_recording, Terms, Statement, letters_at, letters_in, happened_at, happened_in};
 
 /// What is read of a dump is a trace, and nothing is taken back when more bytes come. Between two
-/// bytes of white space nothing is said, so that more of it moves offsets alone.
+/// bytes of white space nothing is said, so that more of it moves offsets alone (`separators` of
+/// tre_parts).
 pub fn reading()
     ensures is_trace { (terms : Terms) (asked : Vocabulary) (closed : Bool) (bytes : List ℕ) →
         IsTrace (reading_for asked (vcd_recording terms closed bytes)).segments }
@@ -19,7 +20,8 @@ pub fn reading()
 {}
 
 /// An identifier has the letters of its last change, and none where there is no change. An event
-/// happened exactly where the last that says anything of it is a scalar change outside a dump section.
+/// happened exactly where the last that says anything of it is a scalar change outside a dump
+/// section.
 pub fn looks_back()
     ensures letters { (past : List Statement) (identifier letters : List ℕ) →
         Latest (letters_in identifier) past letters ↔ (letters_at past identifier ≡ Some letters) }

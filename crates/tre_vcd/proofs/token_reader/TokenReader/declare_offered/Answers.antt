@@ -5,7 +5,7 @@ use Rattle.tre_vcd.specs.VcdReading.{var, scopes_at, offer_in}
 use Rattle.tre_vcd.specs.Needs.{needs}
 use Rattle.tre_vcd.specs.Signals.{offer_kept}
 use Rattle.tre_vcd.specs.Unread.{AreUnread}
-use Rattle.tre_vcd.proofs.Declaring.{offer-six}
+use Rattle.tre_vcd.proofs.Declarations.{offer-six}
 use Rattle.tre_vcd.proofs.Needing.{same-terms}
 use Rattle.tre_vcd.proofs.Standing.{stays-unoffered}
 use Rattle.tre_vcd.proofs.Staying.{offers-stay, signals-stay}
