@@ -1,5 +1,6 @@
 mod Digits
 mod Ranges
+mod Bases
 mod Colons
 mod Differing
 mod SignalLength

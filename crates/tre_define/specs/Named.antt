@@ -1,5 +1,5 @@
 -- What part of a signal a text names, by the signal's full name and size.
-use Rattle.std.specs.Prelude.{ℕ, min, ◌+◌, ◌-◌, ◌^◌, nat_le, Bool, ◌&&◌, ◌||◌, ◌==◌, List, [], ◌∷◌, length, take, drop, Option, Some, None, option_map, option_and_then, ℤ, pos, neg_ℤ, ◌-ℤ◌, int_le, unsigned_abs, slice_index, if◌then◌else◌}
+use Rattle.std.specs.Prelude.{◌≡◌, ◌⊎◌, ℕ, min, ◌+◌, ◌-◌, ◌^◌, nat_le, Bool, ◌&&◌, ◌||◌, ◌==◌, List, [], ◌∷◌, ◌++◌, length, take, drop, Option, Some, None, option_map, option_and_then, ℤ, pos, neg_ℤ, ◌-ℤ◌, int_le, unsigned_abs, slice_index, if◌then◌else◌}
 use Rattle.std.specs.List.{before_first, after_first}
 use Rattle.std.specs.Option.{option_or, option_map_or}
 use Rattle.std.specs.Str.{bytes_eq}
@@ -62,6 +62,14 @@ ranged_in [] = None
 ranged_in (byte ∷ bytes) = option_or
     (option_map (λ range. record { base = []; range = range }) (range_in (byte ∷ bytes)))
     (option_map (longer byte) (ranged_in bytes))
+
+-- a name without the range at its end
+abbrev pub base_of : List ℕ → List ℕ
+base_of name = option_map_or (λ found. found.base) (ranged_in name) name
+
+-- It is a text, or all that stands before one of its brackets (91).
+abbrev pub IsFront : List ℕ → List ℕ → Type 0
+IsFront front text = (text ≡ front) ⊎ ((back : List ℕ) × (text ≡ front ++ 91 ∷ back))
 
 -- the numbers of so many bits, of which no more than 2^31 can be selected
 abbrev pub counted_bits : ℕ → Range

@@ -31,6 +31,7 @@ mod test;
 pub use comparison::Comparison;
 pub use definition::SignalDefinition;
 pub use let_fault::LetFault;
+pub use named::base_of;
 pub use part::Part;
 pub use pieces::{behind_equals, first_part, name_in, next_word, sign_in, skip_spaces, word_in};
 pub use reads::Reads;

@@ -1,7 +1,8 @@
 // What texts name of signals.
-ghost use Rattle.std.specs.Prelude.{◌≡◌, ◌≢◌, ℕ, ◌≤◌, length, drop, position, None};
+ghost use Rattle.std.specs.Prelude.{◌≡◌, ◌≢◌, ℕ, ◌≤◌, List, length, drop, position, None, Some};
 ghost use Rattle.std.specs.Option.{option_map};
-ghost use Rattle.tre_define.specs.Named.{part_named, part_in, falls, counted_bits, ranged, select_in, range_in, range_between, between_brackets, number_in, small_in, is_colon};
+ghost use Rattle.tre_define.specs.Named.{IsFront, base_of, part_named, part_in, falls, counted_bits, ranged, select_in, range_in, range_between, between_brackets, number_in, small_in, is_colon};
+ghost use Rattle.tre_define.specs.declared.part.Part.{Part};
 
 use crate::part::Part;
 use tre_decimal::read_numeral;
@@ -34,6 +35,20 @@ pub(crate) fn part_named(text: &[u8], name: &[u8], size: u64) -> Option<Part>
         return Some(whole);
     }
     part_in(range, select_in(behind)?)
+}
+
+/// A name without the range at its end. It stands at the front of each text that names a part of a
+/// signal of this name, before a bracket or alone, so that other texts needn't be compared.
+pub fn base_of(name: &[u8]) -> &[u8]
+    ensures base { result.now ≡ base_of name.now }
+    ensures front { (text : List ℕ) (size : ℕ) (part : Part) →
+        part_named text name.now size ≡ Some part → IsFront (base_of name.now) text }
+{
+    let place = range_place(name);
+    match range_in(&name[place..]) {
+        Some(_) => &name[..place],
+        None => name,
+    }
 }
 
 // A name without the range at its end, and that range; where there is none, that of its size.

@@ -1,3 +1,4 @@
+mod Blanks
 pub mod Cuts
 pub mod Walks
 pub mod Skimming

@@ -1,5 +1,6 @@
 -- What a reader must believe.
 pub mod Format
+pub mod Blanks
 -- What the functions inside promise each other.
 pub mod Walk
 pub mod Skims

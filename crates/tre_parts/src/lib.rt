@@ -15,6 +15,7 @@
 #![tactic(auto)]
 
 mod byte_class;
+pub mod laws;
 mod marks;
 mod names;
 mod part_reader;

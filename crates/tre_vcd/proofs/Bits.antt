@@ -1,15 +1,19 @@
 -- What a change of one bit says.
 use Rattle.std.proofs.Common.{◌≡◌, ℕ, ◌==◌, ◌||◌, ◌&&◌, Bool, true, false, List, [], ◌∷◌, length, map, refl, ap, ◌∙◌, arith, rules}
 use Rattle.std.proofs.lemmas.Bool.Decides.{nat_tests}
-use Rattle.tre_vcd.specs.VcdReading.{Terms, Statement, scalar, Place, change, is_scalar, is_defined, nothing, goes_to, command_says, value_says, token_at, token_says}
+use Rattle.tre_vcd.specs.VcdReading.{Terms, Statement, scalar, Place, change, is_scalar, is_defined, nothing, goes_to, command_says, scalar_says, value_says, token_at, token_says}
 use Rattle.tre_vcd.specs.Sections.{Holds, is_nothing}
 use Rattle.tre_vcd.specs.declared.inside.Inside.TheVariants.{Nothing}
 use Rattle.tre_vcd.specs.declared.token_reader.TokenReader.{TokenReader}
-use Rattle.tre_vcd.proofs.Groups.{scalar_value}
 use Rattle.tre_vcd.proofs.Reading.{says-letter, scalar-says}
 
 bit_scalar : (letter : ℕ) → (letter == 48 || letter == 49) ≡ true → is_scalar letter ≡ true
 bit_scalar letter is = grind (arith, nat_tests)
+
+scalar_value : (terms : Terms) (past : List Statement) (letter : ℕ) (identifier : List ℕ)
+    → is_scalar letter ≡ true
+    → value_says terms past (letter ∷ identifier) ≡ scalar_says past letter identifier
+scalar_value terms past letter identifier is = search rules
 
 -- where nothing is open among the values
 pub values-say : (terms : Terms) (place : Place) (part : List ℕ) (letter : ℕ) (rest : List ℕ)

@@ -2,18 +2,15 @@ mod Bits
 mod Changing
 mod Looking
 mod MaskBits
-mod Declaring
-mod Dumps
+mod Declarations
 mod Flagging
 mod Gathering
-mod Groups
 mod Knowing
 mod FirstBytes
 pub mod Listing
 mod Longest
 mod Naming
 mod Needing
-mod NoRule
 mod Offering
 mod OneMore
 mod Pasts
@@ -22,15 +19,15 @@ mod Reading
 mod Rows
 mod Scoping
 mod Sectioning
+mod Signalling
 mod Skimming
 mod Standing
 mod Slots
 mod Staying
 mod Testing
-mod TokenRuns
 mod Tokens
 mod Undefined
+mod Unread
 mod Valuing
 mod Watching
-mod WhiteSpace
 mod Masks

@@ -15,12 +15,6 @@ unfolding token_says
 says-empty terms place [] empty = refl
 says-empty terms place (byte ∷ bytes) empty = absurd (omega (arith, empty))
 
-pub says-token : (terms : Terms) (place : Place) (part : List ℕ) → (length part == 0)
-    ≡ false → token_says terms place part ≡ token_at terms place.past place.inside part
-unfolding token_says
-says-token terms place [] some = absurd (grind (arith, nat_tests))
-says-token terms place (byte ∷ bytes) some = refl
-
 pub says-letter : (terms : Terms) (place : Place) (part : List ℕ) (letter : ℕ) (rest : List ℕ)
     → part ≡ letter ∷ rest
     → token_says terms place part ≡ token_at terms place.past place.inside part

@@ -30,15 +30,19 @@ pub record ReadsSame (past now : List Statement) : Type 0 where
   pub parts : (definition : Option SignalDefined) → part_read now definition
       ≡ part_read past definition
 
--- So are the letters, now and before, and no declarations end.
-pub record StaysSame (past now : List Statement) : Type 0 where
-  pub reads : ReadsSame past now
+-- So are the letters, now and before.
+pub record SaysSame (past now : List Statement) : Type 0 where
   pub letters : (identifier : List ℕ) → letters_at now identifier ≡ letters_at past identifier
   pub before : (identifier : List ℕ) → letters_at (before_now now) identifier
       ≡ letters_at (before_now past) identifier
+
+-- Both are, and no declarations end.
+pub record StaysSame (past now : List Statement) : Type 0 where
+  pub reads : ReadsSame past now
+  pub says : SaysSame past now
   pub defined : is_defined now ≡ true → is_defined past ≡ true
 
-passed-same : (past now : List Statement) → StaysSame past now → (asked : Option (Asked Test))
+pub passed-same : (past now : List Statement) → SaysSame past now → (asked : Option (Asked Test))
     → option_map_or (is_passed past) asked false ≡ option_map_or (is_passed now) asked false
 passed-same past now same None = refl
 passed-same past now same (Some asked) = rw (same.letters asked.identifier) refl
@@ -58,7 +62,7 @@ tests-stay past now all names kept same knows = record {
   sieve = λ e. knows.sieve (same.defined e);
   defined = knows.defined;
   values = λ k. knows.values k
-      ∙ ap bit_of (passed-same past now same (test_at kept.list.items k));
+      ∙ ap bit_of (passed-same past now same.says (test_at kept.list.items k));
 }
 
 -- a time changes no value
@@ -74,15 +78,15 @@ watched-same past now [] same are = tt
 watched-same past now (watched ∷ list) same are =
     (are.0 ∙ sym (same watched.definition), watched-same past now list same are.1)
 
-changed-same : (past now : List Statement) → StaysSame past now → (asked : Option (Asked Part))
+changed-same : (past now : List Statement) → SaysSame past now → (asked : Option (Asked Part))
     → option_map_or (has_changed past) asked false ≡ option_map_or (has_changed now) asked false
 changed-same past now same None = refl
 changed-same past now same (Some asked) =
     ap₂ (differs asked.asks) (sym (same.before asked.identifier))
     (sym (same.letters asked.identifier))
 
-at-same : (past now : List Statement) (watched : Option Watched) (said happened : ℕ)
-    → StaysSame past now → KnowsAt watched said happened past → KnowsAt watched said happened now
+pub at-same : (past now : List Statement) (watched : Option Watched) (said happened : ℕ)
+    → SaysSame past now → KnowsAt watched said happened past → KnowsAt watched said happened now
 at-same past now None said happened same knows = knows
 at-same past now (Some watched) said happened same knows = record {
   letters = λ asked is.
@@ -109,7 +113,7 @@ changes-stay past now all names kept same knows = record {
   sieve = λ e. knows.sieve (same.defined e);
   defined = knows.defined;
   each = λ k. at-same past now (watched_at kept.list.items k) (bit_at kept.said k)
-      (bit_at kept.happened k) same (knows.each k);
+      (bit_at kept.happened k) same.says (knows.each k);
 }
 
 pub signals-stay : (past now : List Statement) (names events : List (List ℕ)) (kept : Signals)

@@ -22,10 +22,6 @@ pub no-definition : (all : List SignalDefined) → (length all == 0) ≡ true �
 no-definition [] is = refl
 no-definition (one ∷ all) is = absurd (grind (arith, nat_tests))
 
-pub defined-none : (names : List (List ℕ)) → AreDefined [] names []
-defined-none [] = refl
-defined-none (name ∷ names) = (refl, defined-none names)
-
 has-none : (names : List (List ℕ)) (kept : List (Option SignalDefined)) (k : ℕ)
     → AreDefined [] names kept → has_at kept k ≡ false
 has-none [] kept k defined = ap (λ own. has_at own k) defined

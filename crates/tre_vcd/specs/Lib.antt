@@ -3,12 +3,13 @@ pub mod VcdReading
 pub mod Sorted
 pub mod Needs
 pub mod Looking
-pub mod Dumps
 -- What the functions inside promise each other.
 pub mod Brief
+pub mod Bases
 pub mod Kept
 pub mod Signals
 pub mod Offers
+pub mod Unread
 pub mod Letters
 pub mod Sections
 pub mod Taken

@@ -13,7 +13,7 @@ use Rattle.tre_vcd.specs.declared.command.Command.{Command}
 use Rattle.tre_vcd.specs.declared.command.Command.TheVariants.{Scope, Upscope, Var, EndDefinitions, Other}
 use Rattle.tre_vcd.specs.declared.inside.Inside.{Inside}
 use Rattle.tre_vcd.specs.declared.inside.Inside.TheVariants.{Nothing, Section, Comment, Vector, Number}
-use Rattle.tre_vcd.specs.declared.token_reader.TheConstants.{KEPT_MAX}
+use Rattle.tre_vcd.specs.declared.declaring.TheConstants.{KEPT_MAX}
 use Rattle.tre_vcd.specs.declared.token_reader.TokenReader.{TokenReader}
 
 abbrev pub command_of : List ℕ → Command

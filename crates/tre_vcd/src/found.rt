@@ -10,6 +10,7 @@ ghost use Rattle.tre_vcd.specs.Needs.{definitions_of, needs};
 ghost use Rattle.tre_vcd.specs.Kept.{KnowsNeeded, AreNoLonger, Declares, DeclaresNone, plain_of, vocabulary_of};
 ghost use Rattle.tre_vcd.specs.Offers.{KnowsOffers};
 ghost use Rattle.tre_vcd.specs.Signals.{offer_kept};
+ghost use Rattle.tre_vcd.specs.Unread.{AreUnread};
 
 use crate::needed::Needed;
 use crate::offer::Offered;
@@ -59,6 +60,14 @@ impl Found {
         ensures { result.now ≡ definitions_of self.now.needed.value }
     {
         &self.needed.definitions
+    }
+
+    // Whether one of them may read what is offered.
+    pub fn may_read(&self, offered: &Offered) -> bool
+        ensures { result ≡ false → AreUnread (definitions_of self.now.needed.value)
+            offered.now.full_name.items }
+    {
+        self.needed.may_read(&offered.full_name)
     }
 
     // The length of the longest of the names.

@@ -19,10 +19,12 @@
 //! ```
 #![tactic(auto)]
 
+mod bases;
 mod brief;
 mod changes;
 mod command;
 mod declaration;
+mod declaring;
 mod definitions;
 mod found;
 mod inside;
@@ -31,6 +33,7 @@ mod letters;
 mod needed;
 mod offer;
 mod past;
+mod saying;
 mod scale;
 mod scopes;
 mod signals;

@@ -3,8 +3,10 @@ ghost use Rattle.std.specs.Prelude.{◌≡◌, ◌⊎◌, ◌&&◌, ◌∷◌, �
 ghost use Rattle.std.specs.List.{list_all};
 ghost use Rattle.tre_trace.specs.Reading.{no_names};
 ghost use Rattle.tre_vcd.specs.VcdReading.{of_changes};
+ghost use Rattle.tre_vcd.specs.Bases.{HasSignals};
 ghost use Rattle.tre_vcd.specs.Sorted.{AreSorted, JoinsNames, wanted};
 
+use crate::bases::{Bases, bases_of};
 use crate::definitions::{copy_of, definition_of, of_changes, push_copy};
 use indexmap::IndexSet;
 use std::alloc::{AllocError, Global};
@@ -23,15 +25,20 @@ pub struct Needed {
     pub(crate) tests: Vec<SignalDefinition>,
     pub(crate) events: IndexSet<Vec<u8>>,
     pub(crate) changes: Vec<SignalDefinition>,
+    // Which signals they may read.
+    bases: Bases,
     ghost names_sorted: { AreSorted definitions.items (map (λ name. name.items) names.keys)
         tests.items },
     ghost events_sorted: { AreSorted (of_changes definitions.items)
         (map (λ name. name.items) events.keys) changes.items },
     ghost changing_is: { changing.items ≡ of_changes definitions.items },
+    ghost bases_has: { HasSignals bases definitions.items },
 }
 
 impl Needed {
+    ghost use Rattle.std.specs.Prelude.{false};
     ghost use Rattle.tre_vcd.specs.Needs.{definitions_of, needs};
+    ghost use Rattle.tre_vcd.specs.Unread.{AreUnread};
 
     /// No name must be declared, and none is defined.
     pub fn new(alloc: Global) -> Needed
@@ -45,6 +52,7 @@ impl Needed {
             tests: Vec::new(alloc),
             events: IndexSet::new(alloc),
             changes: Vec::new(alloc),
+            bases: Bases::new(alloc),
         }
     }
 
@@ -63,6 +71,7 @@ impl Needed {
         ensures definitions { IfOk result (λ needed. definitions_of needed ≡ definitions.now) }
         ensures needs { IfOk result (λ needed. needs needed ≡ no_names) }
     {
+        let bases = bases_of(alloc, definitions)?;
         let changing = of_changes(alloc, definitions)?;
         let definitions = copy_of(alloc, definitions)?;
         Ok(Needed {
@@ -72,6 +81,7 @@ impl Needed {
             tests: Vec::new(alloc),
             events: IndexSet::new(alloc),
             changes: Vec::new(alloc),
+            bases,
         })
     }
 
@@ -91,6 +101,13 @@ impl Needed {
             (map (λ name. name.items) self.now.events.keys) self.now.changes.items }
     {
         &self.changes
+    }
+
+    // Whether one of the definitions may read a signal of this full name.
+    pub(crate) fn may_read(&self, full_name: &[u8]) -> bool
+        ensures { result ≡ false → AreUnread (definitions_of self.now) full_name.now }
+    {
+        self.bases.may_read(full_name)
     }
 
     /// These names and events must be declared too.
@@ -177,7 +194,7 @@ fn add_definition(
 }
 
 // Puts a name into the set, if it isn't there yet.
-fn add_name(set: &mut IndexSet<Vec<u8>>, name: &[u8]) -> Result<(), AllocError>
+pub(crate) fn add_name(set: &mut IndexSet<Vec<u8>>, name: &[u8]) -> Result<(), AllocError>
     ensures err { OnErr result (set.new.keys ≡ set.old.keys) }
     ensures joins { OnOk result ((test : List ℕ → Bool) →
         list_all test (map (λ name. name.items) set.new.keys)

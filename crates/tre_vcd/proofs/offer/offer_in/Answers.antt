@@ -1,6 +1,6 @@
 use Rattle.std.proofs.Common.{◌∙◌, arith}
 use Rattle.std.proofs.lemmas.Result.{IfOk-weaker}
-use Rattle.tre_vcd.proofs.Declaring.{offered-five, offered-four}
+use Rattle.tre_vcd.proofs.Declarations.{offered-five, offered-four}
 use Rattle.tre_vcd.proofs.offer.offer_in.Goals as goal
 
 pub returns-in-len4 : goal.returns-in-len4

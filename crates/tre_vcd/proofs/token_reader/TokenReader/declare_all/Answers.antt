@@ -6,7 +6,7 @@ use Rattle.tre_vcd.specs.Kept.{plain_by}
 use Rattle.tre_vcd.specs.Offers.{KnowsOffers}
 use Rattle.tre_vcd.proofs.Needing.{within-same}
 use Rattle.tre_vcd.proofs.Undefined.{offers-empty, signals-undefined}
-use Rattle.tre_vcd.proofs.Declaring.{knows-moved, quiet-before, signals-moved}
+use Rattle.tre_vcd.proofs.Declarations.{knows-moved, quiet-before, signals-moved}
 use Rattle.tre_vcd.proofs.token_reader.TokenReader.declare_all.Goals as goal
 
 pub returns-then-is_empty-clause-knows : goal.returns-then-is_empty-clause-knows
