@@ -1,7 +1,7 @@
 -- How a whole input is read as traces.
 use Rattle.std.specs.Prelude.{◌≡◌, ◌≢◌, ℕ, ◌≤◌, Bool, true, List, length, map, All, None, Some, IsTrue}
 use Rattle.tre_io.specs.Faults.{count_after}
-use Rattle.tre_trace.specs.Reading.{Recording, Vocabulary, events_for, segments_for}
+use Rattle.tre_trace.specs.Reading.{Recording, Stretch, Vocabulary, events_for, segments_for}
 use Rattle.tre_trace.specs.Trace.{Timeline, timeline_of, IsTrace}
 use Rattle.tre_feed.specs.Comes.{InputComesTo, MayGoOn, Outcome, exceeds, refuses}
 use Rattle.tre_feed.specs.Input.{InputTold, AllReadsGood, AreAllBytes}
@@ -29,7 +29,8 @@ pub record IsWhole (asked : List Vocabulary) (recording : Bool → List ℕ → 
 pub record IsDecided (recording : Bool → List ℕ → Recording) (limit : ℕ) (input : InputTold)
     (outcome : Outcome) : Type 0 where
   pub opened : IsTrue input.now.opened
-  pub cause : InputComesTo recording limit input.before.file input.now.left outcome
+  pub stretches : List Stretch
+  pub cause : InputComesTo recording limit input outcome stretches
   pub reads : AllReadsGood input
 
 -- The input of this name couldn't be opened or read where it might go on.
