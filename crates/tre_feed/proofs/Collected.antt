@@ -106,16 +106,15 @@ module _ (recording : Bool → List ℕ → Recording) (limit : ℕ) (name : Lis
   )
   StopsReading-turn TooLong opened cause sound ends =
       record { opened = opened; stretches = _; cause = ends.finds; reads = cause }
-  StopsReading-turn {bytes = bytes} Read opened cause sound ends = record {
-    cause = cause;
-    unsound = λ good. absurd (sound good refl);
-    goes_on = record {
+  StopsReading-turn {bytes = bytes} Read opened cause sound ends = (
+    record { cause = cause; unsound = λ good. absurd (sound good refl) },
+    record {
       bytes = bytes;
       read = were_read input bytes opened (rw ends.finds.1 at ends.front);
       within = ends.finds.2;
       faultless = ends.finds.3;
-    };
-  }
+    },
+  )
   StopsReading-turn (TooManyZones zones) opened cause sound ends = absurd ends.finds
   StopsReading-turn Write opened cause sound ends = absurd ends.finds
   StopsReading-turn Memory opened cause sound ends = cause

@@ -6,7 +6,7 @@ use Rattle.tre_io.specs.Told.{SourceTold}
 use Rattle.tre_trace.specs.Reading.{Recording, Stretch}
 use Rattle.tre_feed.specs.Front.{IsReadOn}
 use Rattle.tre_feed.specs.Input.{InputTold, IsPiece, KeepsSource, TakesAtMost, input_told}
-use Rattle.tre_feed.specs.Stops.{IsOfReaders, IsPieceFed, StopsPiece, TakesIn}
+use Rattle.tre_feed.specs.Stops.{IsOfReaders, IsPieceFed, PieceIsRefused, StopsPiece, TakesIn}
 use Rattle.tre_feed.specs.Turn.{TurnIsFed, EndsTurn, KeepsWaiting as KeepsAll, TakesOn, TakesRead, TurnFinds}
 use Rattle.tre_feed.specs.declared.TheConstants.{PIECE}
 use Rattle.tre_feed.specs.declared.fault.Fault.{Fault}
@@ -175,28 +175,25 @@ module _ {were_fed : List ℕ → Type 0} {limit : ℕ} {input : InputTold} {cou
             bytes old new (Err fault)
         EndsTurn-stops grows none (Trace fault) stops = EndsTurn-read stops.piece false _
             stops.front (omega (arith, stops.short, some)) (omega (arith, stops.short, fits))
-            (λ e. cc) (adds_piece inside recording stops.piece stops.all) (
-              stops.kind,
+            (λ e. cc) (adds_piece inside recording stops.piece stops.takes.1) (
+              stops.takes.0,
               comes_fault recording limit (input_told input.before now) (bytes ++ stops.piece)
                   (Consumes-trans input.before.file input.now.left now.left bytes stops.piece
                   so_far.front stops.front) grows fault
-                  (rw (← IsFed-behind inside stops.piece) stops.told),
+                  (rw (← IsFed-behind inside stops.piece) stops.takes.2),
             )
-        EndsTurn-stops grows none TooLong stops = absurd stops
-        EndsTurn-stops grows none (TooManyZones zones) stops = absurd stops
-        EndsTurn-stops grows none Write stops = absurd stops
+        EndsTurn-stops grows none TooLong stops = absurd stops.takes
+        EndsTurn-stops grows none (TooManyZones zones) stops = absurd stops.takes
+        EndsTurn-stops grows none Write stops = absurd stops.takes
         EndsTurn-stops grows none Read stops = EndsTurn-read [] false _
             (Consumes-kept input.now.left input.now.left now.left [] (Consumes-nil input.now.left)
-            stops.left) (omega arith) (omega arith) (λ e. cc)
-            (rw (append-nil bytes) (TakesOn-nothing _ stops.kept)) (
-              refl,
-              append-nil bytes,
-              omega (arith, so_far.size, inside),
-              rw (IsFed-here inside) at none,
-            )
+            stops.0) (omega arith) (omega arith) (λ e. cc)
+            (rw (append-nil bytes) (TakesOn-nothing _ stops.1))
+            (refl, append-nil bytes, omega (arith, so_far.size, inside),
+            rw (IsFed-here inside) at none)
         EndsTurn-stops grows none Memory stops = EndsTurn-read stops.piece false _ stops.front
             (omega (arith, stops.short, some)) (omega (arith, stops.short, fits)) (λ e. cc)
-            stops.kept tt
+            stops.takes tt
 
     -- a turn whose read took no byte, and what the readers then took in at the end
     pub EndsTurn-end : (now : SourceTold) → Keeps now.found input.now.left → count ≤ limit
@@ -280,19 +277,28 @@ pub StopsPiece-refused : (recording : Bool → List ℕ → Recording) (allowed 
     → fed ≡ take allowed piece
     → TakesIn old new (recording false bytes) (recording false (bytes ++ fed)) (Err fault)
     → StopsPiece recording allowed room bytes before now old new fault
-StopsPiece-refused recording allowed room bytes piece fed before now old new (Trace fault) front
-    short is takes = search rules
-StopsPiece-refused recording allowed room bytes piece fed before now old new TooLong front short is
-    takes = absurd takes
-StopsPiece-refused recording allowed room bytes piece fed before now old new
-    (TooManyZones zones) front short is
-    takes = absurd takes
-StopsPiece-refused recording allowed room bytes piece fed before now old new Write front short is
-    takes = absurd takes
-StopsPiece-refused recording allowed room bytes piece fed before now old new Read front short is
-    takes = absurd takes
-StopsPiece-refused recording allowed room bytes piece fed before now old new Memory front short is
-    takes = search rules
+StopsPiece-refused recording allowed room bytes piece fed before now old new fault front short is
+    takes = of_fault fault refused takes
+  where
+    refused : PieceIsRefused recording allowed room bytes before now old new fault
+    refused = record {
+      piece = piece;
+      front = front;
+      short = short;
+      takes = subst (λ (more : List ℕ). TakesIn old new (recording false bytes)
+          (recording false (bytes ++ more)) (Err fault)) is takes;
+    }
+
+    of_fault : (fault : Fault)
+        → PieceIsRefused recording allowed room bytes before now old new fault
+        → TakesIn old new (recording false bytes) (recording false (bytes ++ fed)) (Err fault)
+        → StopsPiece recording allowed room bytes before now old new fault
+    of_fault (Trace first) refused takes = refused
+    of_fault TooLong refused takes = refused
+    of_fault (TooManyZones zones) refused takes = refused
+    of_fault Write refused takes = refused
+    of_fault Read refused takes = absurd takes
+    of_fault Memory refused takes = refused
 
 module _ {before now : SourceTold} {T U : Type 0} where
   -- whatever was told of a source that was read
