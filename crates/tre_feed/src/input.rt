@@ -54,8 +54,8 @@ impl<R: TraceReader + Drop> Input<R> {
     ghost use Rattle.std.specs.Prelude.{◌+◌, ◌++◌, ℕ, Bool, List, Option, Some, map, get_or, IsTrue, IsErrOf, IfErr, IfSome, OnOk, OnErr, false};
     ghost use Rattle.tre_trace.specs.Reading.{Stretch, Recording, Vocabulary, events_for, segment_for};
     ghost use Rattle.tre_io.specs.Told.{SourceTold};
-    ghost use Rattle.tre_feed.specs.Input.{HasReadCause, KeepsSource, TakesAtMost, input_told};
-    ghost use Rattle.tre_feed.specs.Standing.{AreFor, Asks, CanReadOn, HasEnded, HasPlace, HasTaken, IsAsked, IsNew, Wait, WereFed, limit_of, stretch_behind, recording_of, taken_of};
+    ghost use Rattle.tre_feed.specs.Input.{HasReadCause, HasTakenMore, KeepsSource, TakesAtMost, input_told};
+    ghost use Rattle.tre_feed.specs.Standing.{AreFor, Asks, CanReadOn, HasEnded, HasPlace, IsAsked, IsNew, Wait, WereFed, limit_of, stretch_behind, recording_of, taken_of};
     ghost use Rattle.tre_feed.specs.Packing.{ArePacked, CanPackMore, KeepsViews};
     ghost use Rattle.tre_feed.specs.Traces.{IsWhole, StopsReading, trace_for};
     ghost use Rattle.tre_feed.specs.Turn.{EndsTurn, TurnIsFed};
@@ -131,7 +131,8 @@ impl<R: TraceReader + Drop> Input<R> {
             (recording_of R.recording R.terms self.old) (limit_of self.old)
             (input_told before (S.told source.new)) (taken_of self.new) bytes
             (Wait R.names self.old) (Wait R.names self.new) result }
-        ensures taken { IfOk result (λ more. IsTrue more → HasTaken self.old self.new) }
+        ensures taken { IfOk result (λ more. IsTrue more →
+            HasTakenMore (limit_of self.new) (taken_of self.old) (taken_of self.new)) }
         ensures same { IsAsked R.names R.terms R.recording self.old self.new }
         ensures views { KeepsViews R.names self.old self.new }
         ensures source { KeepsSource (S.told source.old) (S.told source.new) result }
