@@ -429,10 +429,12 @@ module _ {request : Request} {input : InputTold} {bytes : List ℕ}
         read = were_read input bytes turn.opened (rw found.1 at turn.ends.front);
         within = found.2;
         faultless = found.3;
-        stands = rw (take_all request.job.max_bytes bytes found.2,
-            append-nil (before_turn request bytes).stretches) at
-            (stand_by turn ((before_turn request bytes).stretches ++ []) output writes
-            (written [] (unread_none turn)));
+        stands = subst
+            (λ (all : List ℕ). StandsSoFar request output (request.recording false all).stretches)
+            (take_all request.job.max_bytes bytes found.2)
+            (stand_by turn _ output writes
+            (rw (append-nil (before_turn request bytes).stretches) at
+            (written [] (unread_none turn))));
       }
   EndsTelling-stopped Memory turn output writes written =
       (turn.cause, first_stand turn output writes written)
@@ -505,14 +507,14 @@ module _ {request : Request} {input : InputTold} {bytes : List ℕ}
       )
 
   -- it was told with what the end completes, or a part of that
-  pub EndsTelling-end : (output : OutputTold) (told : Result (Unit {0}) Fault)
+  ends_told : (output : OutputTold) (told : Result (Unit {0}) Fault)
       → HasWriteCause output.before.faults output.now.faults told
       → ((waiting : List Stretch) → then_waits waiting
       → EndsClosing request.job.scale request.patterns
       (rows_for (all_names request.patterns) ((before_turn request bytes).stretches ++ waiting))
       whole_lasts output.before.written output.now.written told)
       → EndsTelling request input output told
-  EndsTelling-end output (Ok done) writes ends =
+  ends_told output (Ok done) writes ends =
       let told : HasClosed request.job.scale request.patterns _ _ output.before.written
       output.now.written = rw (sym takes_whole.beyond) at
       (ends takes_whole.added (takes_whole.then [] turn.none)) in
@@ -523,7 +525,7 @@ module _ {request : Request} {input : InputTold} {bytes : List ℕ}
         right = tells_whole told.accounts told.are told.closed;
         written = record { writes = writes; written = told.written };
       }
-  EndsTelling-end output (Err Write) writes ends =
+  ends_told output (Err Write) writes ends =
       let cut : ClosingIsCut request.job.scale request.patterns _ _ output.before.written
       output.now.written = rw (sym takes_whole.beyond) at
       (ends takes_whole.added (takes_whole.then [] turn.none)) in
@@ -534,13 +536,25 @@ module _ {request : Request} {input : InputTold} {bytes : List ℕ}
         right = inl (tells_whole cut.accounts cut.are cut.closed);
         cut = cut_by output _ _ writes cut.cut;
       }
-  EndsTelling-end output (Err Memory) writes ends =
+  ends_told output (Err Memory) writes ends =
       (turn.cause, first_stand turn output writes ends)
-  EndsTelling-end output (Err (Trace fault)) writes ends =
+  ends_told output (Err (Trace fault)) writes ends =
       absurd (ends takes_whole.added (takes_whole.then [] turn.none))
-  EndsTelling-end output (Err TooLong) writes ends =
+  ends_told output (Err TooLong) writes ends =
       absurd (ends takes_whole.added (takes_whole.then [] turn.none))
-  EndsTelling-end output (Err (TooManyZones zones)) writes ends =
+  ends_told output (Err (TooManyZones zones)) writes ends =
       absurd (ends takes_whole.added (takes_whole.then [] turn.none))
-  EndsTelling-end output (Err Read) writes ends =
+  ends_told output (Err Read) writes ends =
       absurd (ends takes_whole.added (takes_whole.then [] turn.none))
+
+  pub EndsTelling-end : (output : OutputTold) (told : Result (Unit {0}) Fault) (lasts : List ℕ)
+      → lasts ≡ whole_lasts → HasWriteCause output.before.faults output.now.faults told
+      → ((waiting : List Stretch) → then_waits waiting
+      → EndsClosing request.job.scale request.patterns
+      (rows_for (all_names request.patterns) ((before_turn request bytes).stretches ++ waiting))
+      lasts output.before.written output.now.written told)
+      → EndsTelling request input output told
+  EndsTelling-end output told lasts same writes ends = ends_told output told writes
+      (λ waiting wait. subst (λ (all : List ℕ). EndsClosing request.job.scale request.patterns
+      (rows_for (all_names request.patterns) ((before_turn request bytes).stretches ++ waiting))
+      all output.before.written output.now.written told) same (ends waiting wait))

@@ -1,4 +1,4 @@
-use Rattle.std.proofs.Common.{◌≡◌, ◌∙◌, ◌<◌, ℕ, List, Bool, false, true, Result, Ok, Err, Some, [], length, map, string_bytes, arith, refl, sym, ap}
+use Rattle.std.proofs.Common.{◌≡◌, ◌∙◌, ◌++◌, ℕ, List, Bool, false, true, Result, Ok, Err, Some, [], length, map, string_bytes, arith, refl, sym, ap}
 use Rattle.std.proofs.lemmas.List.{length-map}
 use Rattle.std.proofs.lemmas.Result.{err_from_is_err_and}
 use Rattle.tre_feed.specs.Input.{InputTold, input_told}
@@ -60,7 +60,9 @@ turn g c =
 -- the input asks for the names of all patterns
 asks : (g : Given.Over) (c : After-next-read g)
     → Asks g.R.TraceReader.names c.next-read.new.self (all_names (request g c).patterns)
-asks g c = c.next-read.ensures.same.asks _ (c.loop-room.invariant.same.asks _
+asks g c =
+    let all = all_names (request g c).patterns in
+    c.next-read.ensures.same.asks all (c.loop-room.invariant.same.asks all
     (rw (asked_sought (map string_bytes c.args.labels.now) c.args.patterns.now (same g c))
     c.requires.asks))
 
@@ -97,6 +99,7 @@ returns-in_err-open-clause-ends g c =
     let met = g.met.R.TraceReader in
     let laws = laws_of reader.recording reader.terms met.starts met.grows met.is_trace
     c.args.input.now.each.items in
+    let refused = c.in_err-open.ensures.refused in
     rw (p.1, p.2) (EndsTelling-unread (request_by c.args.job.now
     (map string_bytes c.args.labels.now) c.args.patterns.now
     (recording_of reader.recording reader.terms c.args.input.now)) laws.starts _ _
@@ -177,7 +180,8 @@ returns-in_err-watch-2 g c =
           (λ waiting wait. c.in_err-watch-2.ensures.stops (request g has).patterns _ waiting
           (g.O.Sink.told c.args.out.now).written (asks g has) wait inv.telling.told));
       bounded = λ opened. EndsTurn-bounded (turn g has).ends;
-      by_name = λ opened. c.open.ensures.by_name c.in_ok-open.ensures.opened;
+      by_name = λ opened. rw c.text.ensures at
+          (c.open.ensures.by_name c.in_ok-open.ensures.opened);
     }
 
 pub returns-in_err-read : goal.returns-in_err-read
@@ -193,7 +197,8 @@ returns-in_err-read g c =
           (λ waiting wait. (c.in_ok-watch-2.ensures.told (request g has).patterns _ waiting
           (g.O.Sink.told c.args.out.now).written (asks g has) wait inv.telling.told).told));
       bounded = λ opened. EndsTurn-bounded (turn g has).ends;
-      by_name = λ opened. c.open.ensures.by_name c.in_ok-open.ensures.opened;
+      by_name = λ opened. rw c.text.ensures at
+          (c.open.ensures.by_name c.in_ok-open.ensures.opened);
     }
 
 pub loop-room-preserved : goal.loop-room-preserved
@@ -239,7 +244,8 @@ returns-in_err-lasts g c =
             (g.O.Sink.told c.args.out.now).written (asks g has) wait inv.telling.told).told),
       );
       bounded = λ opened. EndsTurn-bounded (turn g has).ends;
-      by_name = λ opened. c.open.ensures.by_name c.in_ok-open.ensures.opened;
+      by_name = λ opened. rw c.text.ensures at
+          (c.open.ensures.by_name c.in_ok-open.ensures.opened);
     }
 
 pub tell_end-requires : goal.tell_end-requires
@@ -272,15 +278,16 @@ returns-in_err-tell_end g c =
     let lasts = c.in_ok-lasts.ensures _ _ (c.clear.ensures.same.asks _ (asks g has))
     (c.clear.ensures.ended _ ended.ends.finds.2) in
     record {
-      ends = rw (p.1, p.2) (EndsTelling-end ended _ (Err c.in_err-tell_end.field-0.0)
-          (HasWriteCause-from {T = Unit {0}} _ _ _ (Err c.in_err-tell_end.field-0.0)
+      ends = rw (p.1, p.2) (EndsTelling-end ended _ (Err c.in_err-tell_end.field-0.0) _
+          (c.deref.ensures.value ∙ lasts) (HasWriteCause-from {T = Unit {0}} _ _ _ (Err c.in_err-tell_end.field-0.0)
           (c.in_ok-watch-2.ensures.cause ∙ inv.good) c.in_err-tell_end.ensures.cause)
-          (λ waiting wait. rw (c.deref.ensures.value, lasts) at c.in_err-tell_end.ensures.tells
+          (λ waiting wait. c.in_err-tell_end.ensures.tells
           (request g has).patterns _ (g.O.Sink.told c.args.out.now).written
           (c.in_ok-watch-2.ensures.told (request g has).patterns _ waiting
           (g.O.Sink.told c.args.out.now).written (asks g has) wait inv.telling.told)));
       bounded = λ opened. EndsTurn-bounded (turn g has).ends;
-      by_name = λ opened. c.open.ensures.by_name c.in_ok-open.ensures.opened;
+      by_name = λ opened. rw c.text.ensures at
+          (c.open.ensures.by_name c.in_ok-open.ensures.opened);
     }
 
 pub returns : goal.returns
@@ -291,12 +298,13 @@ returns g c =
     let lasts = c.in_ok-lasts.ensures _ _ (c.clear.ensures.same.asks _ (asks g has))
     (c.clear.ensures.ended _ ended.ends.finds.2) in
     record {
-      ends = EndsTelling-end ended _ (Ok tt)
+      ends = EndsTelling-end ended _ (Ok tt) _ (c.deref.ensures.value ∙ lasts)
           (c.in_ok-tell_end.ensures.cause ∙ (c.in_ok-watch-2.ensures.cause ∙ inv.good))
-          (λ waiting wait. rw (c.deref.ensures.value, lasts) at c.in_ok-tell_end.ensures.tells
+          (λ waiting wait. c.in_ok-tell_end.ensures.tells
           (request g has).patterns _ (g.O.Sink.told c.args.out.now).written
           (c.in_ok-watch-2.ensures.told (request g has).patterns _ waiting
           (g.O.Sink.told c.args.out.now).written (asks g has) wait inv.telling.told));
       bounded = λ opened. EndsTurn-bounded (turn g has).ends;
-      by_name = λ opened. c.open.ensures.by_name c.in_ok-open.ensures.opened;
+      by_name = λ opened. rw c.text.ensures at
+          (c.open.ensures.by_name c.in_ok-open.ensures.opened);
     }
