@@ -112,6 +112,11 @@ IsAsked-next one two = record {
 -- what is known of what bytes say by the terms of a reader
 module _ {R Terms : Type 0} (recording : Terms → Bool → List ℕ → Recording) (terms : R → Terms)
   where
+    pub starts_of : ((all : Terms) → (recording all false []).stretches ≡ [])
+        → (each : List (Fed R)) → (recording_by recording terms each false []).stretches ≡ []
+    starts_of starts [] = refl
+    starts_of starts (fed ∷ others) = starts (terms fed.reader)
+
     pub laws_of : ((all : Terms) → (recording all false []).stretches ≡ [])
         → ((all : Terms) (closed : Bool) (first more : List ℕ)
         → Grows (recording all false first) (recording all closed (first ++ more)))

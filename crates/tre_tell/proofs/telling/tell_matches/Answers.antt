@@ -1,4 +1,4 @@
-use Rattle.std.proofs.Common.{◌≡◌, ◌∙◌, ◌++◌, ℕ, List, Bool, false, true, Result, Ok, Err, Some, [], length, map, string_bytes, arith, refl, sym, ap}
+use Rattle.std.proofs.Common.{◌≡◌, ◌∙◌, ◌++◌, ℕ, List, Bool, false, true, Result, Ok, Err, Some, [], length, map, string_bytes, arith, refl, sym, ap, rules}
 use Rattle.std.proofs.lemmas.List.{length-map}
 use Rattle.std.proofs.lemmas.Result.{err_from_is_err_and}
 use Rattle.tre_feed.specs.Input.{InputTold, input_told}
@@ -8,7 +8,7 @@ use Rattle.tre_feed.proofs.Pieces.{EndsTurn-bounded}
 use Rattle.tre_online.specs.declared.watch.Watch.{Watch}
 use Rattle.tre_tell.specs.Sought.{all_names, sought_by}
 use Rattle.tre_tell.specs.Request.{Request, request_by}
-use Rattle.tre_tell.proofs.Loop.{HasReadCause-from, HasWriteCause-from, HasTold-nothing, EndsTelling-unread, StandsAtMemory-unread, IsAsked-next, asked_sought, count_lasts, faultless_new, labels_count, laws_of, some_sought}
+use Rattle.tre_tell.proofs.Loop.{HasReadCause-from, HasWriteCause-from, HasTold-nothing, EndsTelling-unread, StandsAtMemory-unread, IsAsked-next, asked_sought, count_lasts, faultless_new, labels_count, laws_of, some_sought, starts_of}
 use Rattle.tre_tell.proofs.Tellings.{told_reads, AllWritten, HasLaws, IsTurn, CanTell-turn, EndsTelling-end, EndsTelling-stopped, EndsTelling-within, first_stand, known, whole_lasts}
 use Rattle.tre_tell.proofs.telling.tell_matches.Given
 use Rattle.tre_tell.proofs.telling.tell_matches.Goals as goal
@@ -28,33 +28,30 @@ same : (g : Given.Over) (c : After-next-read g)
     → length (map string_bytes c.args.labels.now) ≡ length c.args.patterns.now
 same g c = length-map c.args.labels.now string_bytes ∙ c.requires.labels
 
--- what the turn found
-abbrev Turn : (g : Given.Over) → After-next-read g → Type 0
-Turn g c = IsTurn (request g c) (told g c) c.loop-room.invariant.telling.bytes
+-- what the turn found, by what `next` answered
+turn : (g : Given.Over) (c : After-next-read g) (result : Result Bool Fault)
+    → c.next-read.result ≡ result
+    → IsTurn (request g c) (told g c) c.loop-room.invariant.telling.bytes
     (Wait g.R.TraceReader.names c.loop-room.input)
     (Wait g.R.TraceReader.names c.next-read.new.self)
     (WereFed g.R.TraceReader.terms g.R.TraceReader.represents c.next-read.new.self)
-    (HasEnded g.R.TraceReader.names c.next-read.new.self) (taken_of c.next-read.new.self)
-    c.next-read.result
-
-turn : (g : Given.Over) (c : After-next-read g) → Turn g c
-turn g c =
-    let reader = g.R.TraceReader in
+    (HasEnded g.R.TraceReader.names c.next-read.new.self) (taken_of c.next-read.new.self) result
+turn g c result is =
     let met = g.met.R.TraceReader in
     let inv = c.loop-room.invariant in
+    let source = c.next-read.ensures.source in
     record {
       comes = c.requires.comes;
       some = some_sought (map string_bytes c.args.labels.now) c.args.patterns.now (same g c)
           c.requires.some;
-      laws = laws_of reader.recording reader.terms met.starts met.grows met.is_trace
-          c.args.input.now.each.items;
-      ends = rw (inv.same.said, inv.same.limit, c.requires.limit) at c.next-read.ensures.ends
+      laws = laws_of g.R.TraceReader.recording g.R.TraceReader.terms met.starts met.grows
+          met.is_trace c.args.input.now.each.items;
+      ends = rw (inv.same.said, inv.same.limit, c.requires.limit, is) at c.next-read.ensures.ends
           (g.S.Source.told c.args.source.now) inv.telling.bytes inv.telling.fed;
       none = inv.none;
-      opened = c.next-read.ensures.source.same_opened ∙ inv.opened;
-      cause = HasReadCause-from _ _ _ c.next-read.result inv.no_fault
-          c.next-read.ensures.source.cause;
-      sound = λ good failed. c.next-read.ensures.source.no_failure (rw inv.sound good) failed;
+      opened = source.same_opened ∙ inv.opened;
+      cause = HasReadCause-from _ _ _ result inv.no_fault (rw is at source.cause);
+      sound = λ good failed. source.no_failure (rw inv.sound good) (rw is failed);
     }
 
 -- the input asks for the names of all patterns
@@ -66,29 +63,18 @@ asks g c =
     (rw (asked_sought (map string_bytes c.args.labels.now) c.args.patterns.now (same g c))
     c.requires.asks))
 
--- the turn, by what `next` answered
-turn_as : (g : Given.Over) (c : After-next-read g) (result : Result Bool Fault)
-    → c.next-read.result ≡ result
-    → IsTurn (request g c) (told g c) c.loop-room.invariant.telling.bytes
-    (Wait g.R.TraceReader.names c.loop-room.input)
-    (Wait g.R.TraceReader.names c.next-read.new.self)
-    (WereFed g.R.TraceReader.terms g.R.TraceReader.represents c.next-read.new.self)
-    (HasEnded g.R.TraceReader.names c.next-read.new.self) (taken_of c.next-read.new.self) result
-turn_as g c result is = rw is at (turn g c)
-
 pub returns-in_err-watch-clause-ends : goal.returns-in_err-watch-clause-ends
 returns-in_err-watch-clause-ends g c =
     let p = err_from_is_err_and c.from_residual.result c.from_residual.ensures.1 in
     let reader = g.R.TraceReader in
-    let met = g.met.R.TraceReader in
-    let laws = laws_of reader.recording reader.terms met.starts met.grows met.is_trace
-    c.args.input.now.each.items in
     rw (p.1, p.2) (
       refl,
       StandsAtMemory-unread (request_by c.args.job.now
           (map string_bytes c.args.labels.now) c.args.patterns.now
-          (recording_of reader.recording reader.terms c.args.input.now)) laws.starts _ _
-          (λ is_open. cc) (record { unwritten = refl; writes = refl }) (λ is_open. cc),
+          (recording_of reader.recording reader.terms c.args.input.now))
+          (starts_of reader.recording reader.terms g.met.R.TraceReader.starts
+          c.args.input.now.each.items) _ _ (λ is_open. cc)
+          (record { unwritten = refl; writes = refl }) (λ is_open. cc),
     )
 
 pub returns-in_err-open-clause-ends : goal.returns-in_err-open-clause-ends
@@ -97,12 +83,11 @@ returns-in_err-open-clause-ends g c =
     c.from_residual-in_err-open.ensures.1 in
     let reader = g.R.TraceReader in
     let met = g.met.R.TraceReader in
-    let laws = laws_of reader.recording reader.terms met.starts met.grows met.is_trace
-    c.args.input.now.each.items in
     let refused = c.in_err-open.ensures.refused in
     rw (p.1, p.2) (EndsTelling-unread (request_by c.args.job.now
     (map string_bytes c.args.labels.now) c.args.patterns.now
-    (recording_of reader.recording reader.terms c.args.input.now)) laws.starts _ _
+    (recording_of reader.recording reader.terms c.args.input.now))
+    (starts_of reader.recording reader.terms met.starts c.args.input.now.each.items) _ _
     (λ is_open. cc) (record { unwritten = refl; writes = refl }) c.in_err-open.field-0.0
     (told_reads c.args.job.now.mode c.requires.comes)
     (faultless_new reader.recording reader.terms reader.represents reader.names met.faultless
@@ -119,17 +104,13 @@ returns-in_err-open-clause-bounded g c =
 pub loop-room-init : goal.loop-room-init
 loop-room-init g c =
     let reader = g.R.TraceReader in
-    let met = g.met.R.TraceReader in
-    let laws = laws_of reader.recording reader.terms met.starts met.grows met.is_trace
-    c.args.input.now.each.items in
     record {
       telling = record {
         bytes = [];
         fed = rw c.requires.limit at (c.in_ok-open.ensures.fed c.requires.new);
-        told = HasTold-nothing (map string_bytes c.args.labels.now) c.args.patterns.now
-            (recording_of reader.recording reader.terms c.args.input.now)
-            c.args.job.now.max_bytes c.args.job.now.scale laws.starts c.in_ok-watch.watch
-            (g.O.Sink.told c.args.out.now).written
+        told = HasTold-nothing _ _ (recording_of reader.recording reader.terms c.args.input.now) _
+            _ (starts_of reader.recording reader.terms g.met.R.TraceReader.starts
+            c.args.input.now.each.items) _ _
             (length-map c.args.labels.now string_bytes ∙ c.requires.labels)
             c.in_ok-watch.ensures.stands c.in_ok-watch.ensures.ended c.in_ok-watch.ensures.trees;
       };
@@ -148,20 +129,24 @@ pub next-read-requires-clause-reads_on : goal.next-read-requires-clause-reads_on
 next-read-requires-clause-reads_on g c =
     let inv = c.loop-room.invariant in
     let fed = inv.telling.fed in
-    record { bytes = inv.telling.bytes; size = fed.size; fed = rw (inv.same.limit, c.requires.limit) fed.fed }
+    record {
+      bytes = inv.telling.bytes;
+      size = fed.size;
+      fed = rw (inv.same.limit, c.requires.limit) fed.fed;
+    }
 
 pub tell_blocks-requires : goal.tell_blocks-requires
 tell_blocks-requires g c =
     let has = (goal.at.tell_blocks-requires g c).After-next-read in
     let inv = c.loop-room.invariant in
-    let waiting = known (turn g has) in
+    let waiting = known (turn g has _ refl) in
     record {
       comes = record {
         asked = all_names (request g has).patterns;
         waiting = waiting.added;
         asks = asks g has;
         wait = waiting.wait;
-        can = CanTell-turn (turn g has) c.loop-room.watch inv.telling.told.stands;
+        can = CanTell-turn (turn g has _ refl) c.loop-room.watch inv.telling.told.stands;
       };
       labels = sym (length-map c.args.labels.now string_bytes) ∙ labels_count inv.telling.told;
       scale = c.requires.scale;
@@ -174,14 +159,13 @@ returns-in_err-watch-2 g c =
     let p = err_from_is_err_and c.from_residual-in_err-watch-2.result
     c.from_residual-in_err-watch-2.ensures.1 in
     record {
-      ends = rw (p.1, p.2) (EndsTelling-within c.next-read.result (turn g has) _
+      ends = rw (p.1, p.2) (EndsTelling-within c.next-read.result (turn g has _ refl) _
           c.in_err-watch-2.field-0.0 (HasWriteCause-from {T = Watch} _ _ _
           (Err c.in_err-watch-2.field-0.0) inv.good c.in_err-watch-2.ensures.cause)
           (λ waiting wait. c.in_err-watch-2.ensures.stops (request g has).patterns _ waiting
           (g.O.Sink.told c.args.out.now).written (asks g has) wait inv.telling.told));
-      bounded = λ opened. EndsTurn-bounded (turn g has).ends;
-      by_name = λ opened. rw c.text.ensures at
-          (c.open.ensures.by_name c.in_ok-open.ensures.opened);
+      bounded = λ opened. EndsTurn-bounded (turn g has _ refl).ends;
+      by_name = search rules;
     }
 
 pub returns-in_err-read : goal.returns-in_err-read
@@ -192,20 +176,19 @@ returns-in_err-read g c =
     c.from_residual-in_err-read.ensures.1 in
     record {
       ends = rw (p.1, p.2) (EndsTelling-stopped c.in_err-read.field-0.0
-          (turn_as g has (Err c.in_err-read.field-0.0) c.in_err-read.was) _
+          (turn g has (Err c.in_err-read.field-0.0) c.in_err-read.was) _
           (c.in_ok-watch-2.ensures.cause ∙ inv.good)
           (λ waiting wait. (c.in_ok-watch-2.ensures.told (request g has).patterns _ waiting
           (g.O.Sink.told c.args.out.now).written (asks g has) wait inv.telling.told).told));
-      bounded = λ opened. EndsTurn-bounded (turn g has).ends;
-      by_name = λ opened. rw c.text.ensures at
-          (c.open.ensures.by_name c.in_ok-open.ensures.opened);
+      bounded = λ opened. EndsTurn-bounded (turn g has _ refl).ends;
+      by_name = search rules;
     }
 
 pub loop-room-preserved : goal.loop-room-preserved
 loop-room-preserved g c =
     let has = (goal.at.loop-room-preserved g c).After-next-read in
     let inv = c.loop-room.invariant in
-    let more = turn_as g has (Ok true) (rw c.if-not-branch.false at c.in_ok-read.was) in
+    let more = turn g has (Ok true) (rw c.if-not-branch.false at c.in_ok-read.was) in
     let ends = more.ends in
     record {
       telling = record {
@@ -235,7 +218,7 @@ returns-in_err-lasts g c =
     let inv = c.loop-room.invariant in
     let p = err_from_is_err_and c.from_residual-in_err-lasts.result
     c.from_residual-in_err-lasts.ensures.1 in
-    let ended = turn_as g has (Ok false) (rw c.if-not-branch.true at c.in_ok-read.was) in
+    let ended = turn g has (Ok false) (rw c.if-not-branch.true at c.in_ok-read.was) in
     record {
       ends = rw (p.1, p.2) (
         ended.cause,
@@ -243,16 +226,15 @@ returns-in_err-lasts g c =
             (c.in_ok-watch-2.ensures.told (request g has).patterns _ waiting
             (g.O.Sink.told c.args.out.now).written (asks g has) wait inv.telling.told).told),
       );
-      bounded = λ opened. EndsTurn-bounded (turn g has).ends;
-      by_name = λ opened. rw c.text.ensures at
-          (c.open.ensures.by_name c.in_ok-open.ensures.opened);
+      bounded = λ opened. EndsTurn-bounded (turn g has _ refl).ends;
+      by_name = search rules;
     }
 
 pub tell_end-requires : goal.tell_end-requires
 tell_end-requires g c =
     let has = (goal.at.tell_end-requires g c).After-next-read in
     let inv = c.loop-room.invariant in
-    let ended = turn_as g has (Ok false) (rw c.if-not-branch.true at c.in_ok-read.was) in
+    let ended = turn g has (Ok false) (rw c.if-not-branch.true at c.in_ok-read.was) in
     let told = c.in_ok-watch-2.ensures.told (request g has).patterns _ _
     (g.O.Sink.told c.args.out.now).written (asks g has) (ended.ends.adds.then [] inv.none)
     inv.telling.told in
@@ -268,43 +250,21 @@ tell_end-requires g c =
       scale = c.requires.scale;
     }
 
-pub returns-in_err-tell_end : goal.returns-in_err-tell_end
-returns-in_err-tell_end g c =
-    let has = (goal.at.returns-in_err-tell_end g c).After-next-read in
-    let inv = c.loop-room.invariant in
-    let p = err_from_is_err_and c.from_residual-in_err-tell_end.result
-    c.from_residual-in_err-tell_end.ensures.1 in
-    let ended = turn_as g has (Ok false) (rw c.if-not-branch.true at c.in_ok-read.was) in
-    let lasts = c.in_ok-lasts.ensures _ _ (c.clear.ensures.same.asks _ (asks g has))
-    (c.clear.ensures.ended _ ended.ends.finds.2) in
-    record {
-      ends = rw (p.1, p.2) (EndsTelling-end ended _ (Err c.in_err-tell_end.field-0.0) _
-          (c.deref.ensures.value ∙ lasts) (HasWriteCause-from {T = Unit {0}} _ _ _ (Err c.in_err-tell_end.field-0.0)
-          (c.in_ok-watch-2.ensures.cause ∙ inv.good) c.in_err-tell_end.ensures.cause)
-          (λ waiting wait. c.in_err-tell_end.ensures.tells
-          (request g has).patterns _ (g.O.Sink.told c.args.out.now).written
-          (c.in_ok-watch-2.ensures.told (request g has).patterns _ waiting
-          (g.O.Sink.told c.args.out.now).written (asks g has) wait inv.telling.told)));
-      bounded = λ opened. EndsTurn-bounded (turn g has).ends;
-      by_name = λ opened. rw c.text.ensures at
-          (c.open.ensures.by_name c.in_ok-open.ensures.opened);
-    }
-
 pub returns : goal.returns
 returns g c =
     let has = (goal.at.returns g c).After-next-read in
     let inv = c.loop-room.invariant in
-    let ended = turn_as g has (Ok false) (rw c.if-not-branch.true at c.in_ok-read.was) in
-    let lasts = c.in_ok-lasts.ensures _ _ (c.clear.ensures.same.asks _ (asks g has))
-    (c.clear.ensures.ended _ ended.ends.finds.2) in
+    let ended = turn g has (Ok false) (rw c.if-not-branch.true at c.in_ok-read.was) in
     record {
-      ends = EndsTelling-end ended _ (Ok tt) _ (c.deref.ensures.value ∙ lasts)
-          (c.in_ok-tell_end.ensures.cause ∙ (c.in_ok-watch-2.ensures.cause ∙ inv.good))
-          (λ waiting wait. c.in_ok-tell_end.ensures.tells
-          (request g has).patterns _ (g.O.Sink.told c.args.out.now).written
+      ends = EndsTelling-end ended _ c.tell_end.result _ (c.deref.ensures.value
+          ∙ c.in_ok-lasts.ensures _ _ (c.clear.ensures.same.asks _ (asks g has))
+          (c.clear.ensures.ended _ ended.ends.finds.2))
+          (HasWriteCause-from _ _ _ c.tell_end.result (c.in_ok-watch-2.ensures.cause ∙ inv.good)
+          c.tell_end.ensures.cause)
+          (λ waiting wait. c.tell_end.ensures.tells (request g has).patterns _
+          (g.O.Sink.told c.args.out.now).written
           (c.in_ok-watch-2.ensures.told (request g has).patterns _ waiting
           (g.O.Sink.told c.args.out.now).written (asks g has) wait inv.telling.told));
-      bounded = λ opened. EndsTurn-bounded (turn g has).ends;
-      by_name = λ opened. rw c.text.ensures at
-          (c.open.ensures.by_name c.in_ok-open.ensures.opened);
+      bounded = λ opened. EndsTurn-bounded (turn g has _ refl).ends;
+      by_name = search rules;
     }
