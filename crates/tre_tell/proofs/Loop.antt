@@ -3,7 +3,7 @@ use Rattle.std.proofs.Common.{◌≡◌, ◌≢◌, ◌∙◌, ℕ, ◌+◌, ◌
 use Rattle.std.specs.Io.KnownBytes.{Keeps}
 use Rattle.std.proofs.KnownBytes.{Consumes-kept, Consumes-nil}
 use Rattle.std.proofs.lemmas.List.{length-map, take_all}
-use Rattle.tre_feed.specs.Input.{HasReadCause, InputTold, WereRead, TakesAtMost}
+use Rattle.tre_feed.specs.Input.{HasReadCause, InputTold, WereRead}
 use Rattle.tre_feed.specs.Each.{AllStand, recording_by}
 use Rattle.tre_feed.specs.Standing.{IsAsked, IsNew, WereFed, recording_of}
 use Rattle.tre_feed.specs.declared.each.Fed.{Fed}
@@ -22,32 +22,18 @@ use Rattle.tre_tell.specs.Outputs.{OutputTold, NothingWritten}
 use Rattle.tre_tell.specs.Sought.{Sought, all_names, sought_by}
 use Rattle.tre_tell.specs.Online.{BlocksStand}
 use Rattle.tre_tell.specs.Request.{Request}
-use Rattle.tre_tell.specs.Telling.{rows_for, HasTold, HasWriteCause}
+use Rattle.tre_tell.specs.Telling.{rows_for, HasTold}
 use Rattle.tre_feed.specs.declared.fault.Fault.{Fault}
 use Rattle.tre_feed.specs.declared.fault.Fault.TheVariants.{Trace, TooLong, TooManyZones, Read, Write, Memory}
 use Rattle.tre_tell.proofs.Closing.{BlocksStand-none, HasTold-start}
 use Rattle.tre_tell.proofs.Rows.{count_asked}
 use Rattle.tre_tell.proofs.Tellings.{HasLaws}
 
--- of an input of which nothing was read, nothing was taken
-pub TakesAtMost-none : (most : ℕ) (file left : Option (List ℕ)) → Keeps file left
-    → TakesAtMost most file left
-TakesAtMost-none most file left kept = record {
-  taken = [];
-  few = omega arith;
-  front = Consumes-kept file file left [] (Consumes-nil file) kept;
-}
-
--- causes, counted from where nothing was counted before
+-- a cause, counted from where nothing was counted before
 pub HasReadCause-from : {T : Type 0} (before before' now : ℕ) (result : Result T Fault)
     → before ≡ before' → HasReadCause before now result → HasReadCause before' now result
 HasReadCause-from before before' now result same cause =
     subst (λ n. HasReadCause n now result) same cause
-
-pub HasWriteCause-from : {T : Type 0} (before before' now : ℕ) (result : Result T Fault)
-    → before ≡ before' → HasWriteCause before now result → HasWriteCause before' now result
-HasWriteCause-from before before' now result same cause =
-    subst (λ n. HasWriteCause n now result) same cause
 
 -- These bytes were fed, and the blocks of the stretches that they say were written.
 pub record IsTelling (request : Request) (were_fed : List ℕ → Type 0) (input : InputTold)

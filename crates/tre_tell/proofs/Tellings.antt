@@ -356,11 +356,11 @@ module _ {request : Request} {input : InputTold} {bytes : List ℕ}
 
   pub EndsTelling-within : (result : Result Bool Fault)
       (turn : IsTurn request input bytes waits then_waits were_fed has_ended count result)
-      (output : OutputTold) (fault : Fault)
-      → HasWriteCause {T = Watch} output.before.faults output.now.faults (Err fault)
+      (output : OutputTold) (fault : Fault) {first : ℕ} → first ≡ output.before.faults
+      → HasWriteCause {T = Watch} first output.now.faults (Err fault)
       → StopsAtOne request then_waits output bytes fault
       → EndsTelling {T = Unit {0}} request input output (Err fault)
-  EndsTelling-within result turn output Write write one =
+  EndsTelling-within result turn output Write good write one =
       let waiting = known turn in
       let within = one waiting.added waiting.wait in
       let next = within.next in
@@ -385,25 +385,25 @@ module _ {request : Request} {input : InputTold} {bytes : List ℕ}
           front_is = refl;
           text_is = refl;
         });
-        cut = cut_by output _ _ write (rw (
+        cut = cut_by output _ _ (write ∙ ap count_after good) (rw (
           blocks_for-rows request.job.scale accounts told asked (some_asked turn),
           blocks_for-rows request.job.scale accounts (told ++ next ∷ []) asked (some_asked turn),
         ) (rw (pushed_for asked told next) at within.stops.cut));
       }
-  EndsTelling-within result turn output Memory write one =
+  EndsTelling-within result turn output Memory good write one =
       let waiting = known turn in
       let within = one waiting.added waiting.wait in (
         reads_good result Memory output turn one,
-        first_at turn output within.front (within.next ∷ within.rest) within.split write
+        first_at turn output within.front (within.next ∷ within.rest) within.split (write ∙ good)
             within.stops,
       )
-  EndsTelling-within result turn output (Trace fault) write one =
+  EndsTelling-within result turn output (Trace fault) good write one =
       absurd (one (known turn).added (known turn).wait).stops
-  EndsTelling-within result turn output TooLong write one =
+  EndsTelling-within result turn output TooLong good write one =
       absurd (one (known turn).added (known turn).wait).stops
-  EndsTelling-within result turn output (TooManyZones zones) write one =
+  EndsTelling-within result turn output (TooManyZones zones) good write one =
       absurd (one (known turn).added (known turn).wait).stops
-  EndsTelling-within result turn output Read write one =
+  EndsTelling-within result turn output Read good write one =
       absurd (one (known turn).added (known turn).wait).stops
 
   -- the input stopped, and all that it gave was told
@@ -548,13 +548,15 @@ module _ {request : Request} {input : InputTold} {bytes : List ℕ}
       absurd (ends takes_whole.added (takes_whole.then [] turn.none))
 
   pub EndsTelling-end : (output : OutputTold) (told : Result (Unit {0}) Fault) (lasts : List ℕ)
-      → lasts ≡ whole_lasts → HasWriteCause output.before.faults output.now.faults told
+      {first : ℕ} → lasts ≡ whole_lasts → first ≡ output.before.faults
+      → HasWriteCause first output.now.faults told
       → ((waiting : List Stretch) → then_waits waiting
       → EndsClosing request.job.scale request.patterns
       (rows_for (all_names request.patterns) ((before_turn request bytes).stretches ++ waiting))
       lasts output.before.written output.now.written told)
       → EndsTelling request input output told
-  EndsTelling-end output told lasts same writes ends = ends_told output told writes
+  EndsTelling-end output told lasts same good writes ends = ends_told output told
+      (subst (λ n. HasWriteCause n output.now.faults told) good writes)
       (λ waiting wait. subst (λ (all : List ℕ). EndsClosing request.job.scale request.patterns
       (rows_for (all_names request.patterns) ((before_turn request bytes).stretches ++ waiting))
       all output.before.written output.now.written told) same (ends waiting wait))

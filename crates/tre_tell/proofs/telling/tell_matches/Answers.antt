@@ -1,15 +1,14 @@
-use Rattle.std.proofs.Common.{◌≡◌, ◌∙◌, ◌++◌, ℕ, List, Bool, false, true, Result, Ok, Err, Some, [], length, map, string_bytes, arith, refl, sym, ap, rules}
+use Rattle.std.proofs.Common.{◌≡◌, ◌∙◌, ◌++◌, Bool, false, true, Result, Ok, Err, Some, [], map, string_bytes, arith, refl, sym, ap, rules}
 use Rattle.std.proofs.lemmas.List.{length-map}
 use Rattle.std.proofs.lemmas.Result.{err_from_is_err_and}
-use Rattle.tre_feed.specs.Input.{InputTold, input_told}
+use Rattle.tre_feed.specs.Input.{input_told}
 use Rattle.tre_feed.specs.Standing.{Asks, HasEnded, Wait, WereFed, recording_of, taken_of}
 use Rattle.tre_feed.specs.declared.fault.Fault.{Fault}
 use Rattle.tre_feed.proofs.Pieces.{EndsTurn-bounded}
-use Rattle.tre_online.specs.declared.watch.Watch.{Watch}
-use Rattle.tre_tell.specs.Sought.{all_names, sought_by}
+use Rattle.tre_tell.specs.Sought.{all_names}
 use Rattle.tre_tell.specs.Request.{Request, request_by}
-use Rattle.tre_tell.proofs.Loop.{HasReadCause-from, HasWriteCause-from, HasTold-nothing, EndsTelling-unread, StandsAtMemory-unread, IsAsked-next, asked_sought, count_lasts, faultless_new, labels_count, laws_of, some_sought, starts_of}
-use Rattle.tre_tell.proofs.Tellings.{told_reads, AllWritten, HasLaws, IsTurn, CanTell-turn, EndsTelling-end, EndsTelling-stopped, EndsTelling-within, first_stand, known, whole_lasts}
+use Rattle.tre_tell.proofs.Loop.{HasReadCause-from, HasTold-nothing, EndsTelling-unread, StandsAtMemory-unread, IsAsked-next, asked_sought, count_lasts, faultless_new, labels_count, laws_of, some_sought, starts_of}
+use Rattle.tre_tell.proofs.Tellings.{told_reads, IsTurn, CanTell-turn, EndsTelling-end, EndsTelling-stopped, EndsTelling-within, first_stand, known}
 use Rattle.tre_tell.proofs.telling.tell_matches.Given
 use Rattle.tre_tell.proofs.telling.tell_matches.Goals as goal
 use Rattle.tre_tell.proofs.telling.tell_matches.Goals.{After-next-read}
@@ -19,19 +18,12 @@ abbrev request : (g : Given.Over) → After-next-read g → Request
 request g c = request_by c.args.job.now (map string_bytes c.args.labels.now) c.args.patterns.now
     (recording_of g.R.TraceReader.recording g.R.TraceReader.terms c.args.input.now)
 
--- what the source told before it was opened, and then
-abbrev told : (g : Given.Over) → After-next-read g → InputTold
-told g c = input_told (g.S.Source.told c.args.source.now) (g.S.Source.told c.next-read.new.source)
-
--- as many labels as patterns
-same : (g : Given.Over) (c : After-next-read g)
-    → length (map string_bytes c.args.labels.now) ≡ length c.args.patterns.now
-same g c = length-map c.args.labels.now string_bytes ∙ c.requires.labels
-
 -- what the turn found, by what `next` answered
 turn : (g : Given.Over) (c : After-next-read g) (result : Result Bool Fault)
     → c.next-read.result ≡ result
-    → IsTurn (request g c) (told g c) c.loop-room.invariant.telling.bytes
+    → IsTurn (request g c)
+    (input_told (g.S.Source.told c.args.source.now) (g.S.Source.told c.next-read.new.source))
+    c.loop-room.invariant.telling.bytes
     (Wait g.R.TraceReader.names c.loop-room.input)
     (Wait g.R.TraceReader.names c.next-read.new.self)
     (WereFed g.R.TraceReader.terms g.R.TraceReader.represents c.next-read.new.self)
@@ -42,8 +34,8 @@ turn g c result is =
     let source = c.next-read.ensures.source in
     record {
       comes = c.requires.comes;
-      some = some_sought (map string_bytes c.args.labels.now) c.args.patterns.now (same g c)
-          c.requires.some;
+      some = some_sought _ c.args.patterns.now
+          (length-map c.args.labels.now string_bytes ∙ c.requires.labels) c.requires.some;
       laws = laws_of g.R.TraceReader.recording g.R.TraceReader.terms met.starts met.grows
           met.is_trace c.args.input.now.each.items;
       ends = rw (inv.same.said, inv.same.limit, c.requires.limit, is) at c.next-read.ensures.ends
@@ -60,8 +52,8 @@ asks : (g : Given.Over) (c : After-next-read g)
 asks g c =
     let all = all_names (request g c).patterns in
     c.next-read.ensures.same.asks all (c.loop-room.invariant.same.asks all
-    (rw (asked_sought (map string_bytes c.args.labels.now) c.args.patterns.now (same g c))
-    c.requires.asks))
+    (rw (asked_sought (map string_bytes c.args.labels.now) c.args.patterns.now
+    (length-map c.args.labels.now string_bytes ∙ c.requires.labels)) c.requires.asks))
 
 pub returns-in_err-watch-clause-ends : goal.returns-in_err-watch-clause-ends
 returns-in_err-watch-clause-ends g c =
@@ -97,9 +89,7 @@ returns-in_err-open-clause-ends g c =
     (named ∙ ap Some (sym c.text.ensures)) (ap Err is)))
 
 pub returns-in_err-open-clause-bounded : goal.returns-in_err-open-clause-bounded
-returns-in_err-open-clause-bounded g c =
-    let refused = c.in_err-open.ensures.refused in
-    λ opened. cc
+returns-in_err-open-clause-bounded g c = λ opened. let refused = c.in_err-open.ensures.refused in cc
 
 pub loop-room-init : goal.loop-room-init
 loop-room-init g c =
@@ -122,17 +112,16 @@ loop-room-init g c =
       good = refl;
     }
 
-pub next-read-requires-clause-opened : goal.next-read-requires-clause-opened
-next-read-requires-clause-opened g c = c.loop-room.invariant.opened
-
-pub next-read-requires-clause-reads_on : goal.next-read-requires-clause-reads_on
-next-read-requires-clause-reads_on g c =
+pub next-read-requires : goal.next-read-requires
+next-read-requires g c =
     let inv = c.loop-room.invariant in
-    let fed = inv.telling.fed in
     record {
-      bytes = inv.telling.bytes;
-      size = fed.size;
-      fed = rw (inv.same.limit, c.requires.limit) fed.fed;
+      opened = inv.opened;
+      reads_on = record {
+        bytes = inv.telling.bytes;
+        size = inv.telling.fed.size;
+        fed = rw (inv.same.limit, c.requires.limit) inv.telling.fed.fed;
+      };
     }
 
 pub tell_blocks-requires : goal.tell_blocks-requires
@@ -160,10 +149,9 @@ returns-in_err-watch-2 g c =
     c.from_residual-in_err-watch-2.ensures.1 in
     record {
       ends = rw (p.1, p.2) (EndsTelling-within c.next-read.result (turn g has _ refl) _
-          c.in_err-watch-2.field-0.0 (HasWriteCause-from {T = Watch} _ _ _
-          (Err c.in_err-watch-2.field-0.0) inv.good c.in_err-watch-2.ensures.cause)
-          (λ waiting wait. c.in_err-watch-2.ensures.stops (request g has).patterns _ waiting
-          (g.O.Sink.told c.args.out.now).written (asks g has) wait inv.telling.told));
+          c.in_err-watch-2.field-0.0 inv.good c.in_err-watch-2.ensures.cause
+          (λ waiting wait. c.in_err-watch-2.ensures.stops _ _ waiting _ (asks g has) wait
+          inv.telling.told));
       bounded = λ opened. EndsTurn-bounded (turn g has _ refl).ends;
       by_name = search rules;
     }
@@ -178,8 +166,8 @@ returns-in_err-read g c =
       ends = rw (p.1, p.2) (EndsTelling-stopped c.in_err-read.field-0.0
           (turn g has (Err c.in_err-read.field-0.0) c.in_err-read.was) _
           (c.in_ok-watch-2.ensures.cause ∙ inv.good)
-          (λ waiting wait. (c.in_ok-watch-2.ensures.told (request g has).patterns _ waiting
-          (g.O.Sink.told c.args.out.now).written (asks g has) wait inv.telling.told).told));
+          (λ waiting wait. (c.in_ok-watch-2.ensures.told _ _ waiting _ (asks g has) wait
+          inv.telling.told).told));
       bounded = λ opened. EndsTurn-bounded (turn g has _ refl).ends;
       by_name = search rules;
     }
@@ -200,8 +188,7 @@ loop-room-preserved g c =
           few = omega (arith, ends.finds.1, ends.few, c.clear.ensures.taken);
           fed = c.clear.ensures.fed _ ends.finds.2;
         };
-        told = rw (rw ends.finds.0 at ends.adds.beyond) (c.in_ok-watch-2.ensures.told
-            (request g has).patterns _ ends.adds.added (g.O.Sink.told c.args.out.now).written
+        told = rw (rw ends.finds.0 at ends.adds.beyond) (c.in_ok-watch-2.ensures.told _ _ _ _
             (asks g has) (ends.adds.then [] inv.none) inv.telling.told);
       };
       none = c.clear.ensures.none;
@@ -223,8 +210,7 @@ returns-in_err-lasts g c =
       ends = rw (p.1, p.2) (
         ended.cause,
         first_stand ended _ (c.in_ok-watch-2.ensures.cause ∙ inv.good) (λ waiting wait.
-            (c.in_ok-watch-2.ensures.told (request g has).patterns _ waiting
-            (g.O.Sink.told c.args.out.now).written (asks g has) wait inv.telling.told).told),
+            (c.in_ok-watch-2.ensures.told _ _ waiting _ (asks g has) wait inv.telling.told).told),
       );
       bounded = λ opened. EndsTurn-bounded (turn g has _ refl).ends;
       by_name = search rules;
@@ -235,17 +221,14 @@ tell_end-requires g c =
     let has = (goal.at.tell_end-requires g c).After-next-read in
     let inv = c.loop-room.invariant in
     let ended = turn g has (Ok false) (rw c.if-not-branch.true at c.in_ok-read.was) in
-    let told = c.in_ok-watch-2.ensures.told (request g has).patterns _ _
-    (g.O.Sink.told c.args.out.now).written (asks g has) (ended.ends.adds.then [] inv.none)
+    let told = c.in_ok-watch-2.ensures.told _ _ _ _ (asks g has) (ended.ends.adds.then [] inv.none)
     inv.telling.told in
+    let lasts = c.in_ok-lasts.ensures _ _ (c.clear.ensures.same.asks _ (asks g has))
+    (c.clear.ensures.ended _ ended.ends.finds.2) in
     record {
       reads = record { rows = _; stands = told.stands };
-      count = rw (
-        c.deref.ensures.value,
-        c.in_ok-lasts.ensures _ _ (c.clear.ensures.same.asks _ (asks g has))
-            (c.clear.ensures.ended _ ended.ends.finds.2),
-        c.in_ok-watch-2.ensures.trees,
-      ) (count_lasts c.loop-room.watch _ _ _ inv.telling.told.stands);
+      count = rw (c.deref.ensures.value, lasts, c.in_ok-watch-2.ensures.trees)
+          (count_lasts c.loop-room.watch _ _ _ inv.telling.told.stands);
       labels = sym (length-map c.args.labels.now string_bytes) ∙ labels_count told;
       scale = c.requires.scale;
     }
@@ -259,12 +242,9 @@ returns g c =
       ends = EndsTelling-end ended _ c.tell_end.result _ (c.deref.ensures.value
           ∙ c.in_ok-lasts.ensures _ _ (c.clear.ensures.same.asks _ (asks g has))
           (c.clear.ensures.ended _ ended.ends.finds.2))
-          (HasWriteCause-from _ _ _ c.tell_end.result (c.in_ok-watch-2.ensures.cause ∙ inv.good)
-          c.tell_end.ensures.cause)
-          (λ waiting wait. c.tell_end.ensures.tells (request g has).patterns _
-          (g.O.Sink.told c.args.out.now).written
-          (c.in_ok-watch-2.ensures.told (request g has).patterns _ waiting
-          (g.O.Sink.told c.args.out.now).written (asks g has) wait inv.telling.told));
+          (c.in_ok-watch-2.ensures.cause ∙ inv.good) c.tell_end.ensures.cause
+          (λ waiting wait. c.tell_end.ensures.tells _ _ _
+          (c.in_ok-watch-2.ensures.told _ _ waiting _ (asks g has) wait inv.telling.told));
       bounded = λ opened. EndsTurn-bounded (turn g has _ refl).ends;
       by_name = search rules;
     }
