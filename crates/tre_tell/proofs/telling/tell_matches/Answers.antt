@@ -23,8 +23,7 @@ turn : (g : Given.Over) (c : After-next-read g) (result : Result Bool Fault)
     → c.next-read.result ≡ result
     → IsTurn (request g c)
     (input_told (g.S.Source.told c.args.source.now) (g.S.Source.told c.next-read.new.source))
-    c.loop-room.invariant.telling.bytes
-    (Wait g.R.TraceReader.names c.loop-room.input)
+    c.loop-room.invariant.telling.bytes (Wait g.R.TraceReader.names c.loop-room.input)
     (Wait g.R.TraceReader.names c.next-read.new.self)
     (WereFed g.R.TraceReader.terms g.R.TraceReader.represents c.next-read.new.self)
     (HasEnded g.R.TraceReader.names c.next-read.new.self) (taken_of c.next-read.new.self) result
