@@ -174,11 +174,11 @@ module _ (request : Request) (input : InputTold) (offline : request.job.mode ≡
   StopsAs-unread (TooManyZones zones) stops = absurd stops
   StopsAs-unread Read stops = λ output unwritten. record {
     reads_input = reads_here;
-    unread = record { cause = stops.cause; unsound = stops.unsound };
-    bytes = stops.goes_on.bytes;
-    read = stops.goes_on.read;
-    within = stops.goes_on.within;
-    faultless = stops.goes_on.faultless;
+    unread = stops.0;
+    bytes = stops.1.bytes;
+    read = stops.1.read;
+    within = stops.1.within;
+    faultless = stops.1.faultless;
     stands = nothing_so_far output _ unwritten;
   }
   StopsAs-unread Write stops = absurd stops

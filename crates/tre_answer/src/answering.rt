@@ -17,12 +17,12 @@ use crate::columns::column_input;
 use crate::offline::find_matches;
 use crate::printing::{piece_room, write_matches};
 use std::alloc::{AllocError, Global};
-use tre_feed::{Fault, Input, dump_input, text_input};
+use tre_feed::{Fault, Input, dump_input, text_input, write_text};
 use tre_generate::summary;
 use tre_io::{Sink, Source};
 use tre_show::pattern_text;
 use tre_syntax::Pattern;
-use tre_tell::{tell_matches, write_text};
+use tre_tell::tell_matches;
 use tre_trace::TraceReader;
 use tre_words::{Format, Job, Mode};
 

@@ -7,10 +7,9 @@ ghost use Rattle.tre_show.specs.Line.{lines_of, offline_text};
 ghost use Rattle.tre_tell.specs.Outputs.{output_told};
 
 use std::alloc::{AllocError, Global};
-use tre_feed::Fault;
+use tre_feed::{Fault, write_bytes};
 use tre_io::Sink;
 use tre_show::{LINE_MAX, Zones, write_lines, write_time};
-use tre_tell::write_bytes;
 
 /// How many bytes of the text are written at once, at the most.
 pub const PIECE: usize = 65_536;

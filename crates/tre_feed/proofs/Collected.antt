@@ -1,17 +1,16 @@
 -- What was read of an input, from no bytes to its end.
-use Rattle.std.proofs.Common.{◌≡◌, ◌≢◌, ◌+◌, ◌<◌, ℕ, Bool, true, false, List, [], ◌∷◌, ◌++◌, All, length, get_or, map, take, Option, None, Some, IsTrue, Result, Err, refl, sym, subst, arith, rules}
+use Rattle.std.proofs.Common.{◌≡◌, ◌≢◌, ◌∙◌, ◌+◌, ◌<◌, ℕ, Bool, true, false, List, [], ◌∷◌, ◌++◌, All, length, get_or, map, take, Option, None, Some, IsTrue, Result, Ok, Err, refl, sym, subst, arith, rules}
 use Rattle.std.specs.Io.KnownBytes.{Consumes, IsAtEnd}
 use Rattle.std.proofs.lemmas.List.{length-map}
 use Rattle.tre_trace.specs.Reading.{Recording, Stretch, Vocabulary, no_names, reading_for, segments_for}
 use Rattle.tre_trace.specs.Trace.{Timeline, IsTrace}
 use Rattle.tre_feed.specs.Each.{recording_by}
-use Rattle.tre_feed.specs.Input.{InputTold, WereRead, AllReadsGood, AreAllBytes, TakesAtMost, HasReadCause}
+use Rattle.tre_feed.specs.Input.{InputTold, WereRead, AllReadsGood, AreAllBytes, HasReadCause}
 use Rattle.tre_feed.specs.Traces.{IsWhole, StopsReading, trace_for}
-use Rattle.tre_feed.specs.Turn.{TurnIsFed, HasRead, TurnGoesOn, TurnIsEnded, StopsTurn, TakesOn}
+use Rattle.tre_feed.specs.Turn.{TurnIsFed, EndsTurn, TakesOn}
 use Rattle.tre_feed.specs.declared.fault.Fault.{Fault}
 use Rattle.tre_feed.specs.declared.fault.Fault.TheVariants.{Trace, TooLong, TooManyZones, Read, Write, Memory}
 use Rattle.tre_feed.specs.declared.each.Fed.{Fed}
-use Rattle.tre_feed.proofs.Cuts.{take-over}
 use Rattle.tre_feed.proofs.Seeing.{at_mapped}
 
 module _ {R Terms : Type 0} (terms : R → Terms) (recording : Terms → Bool → List ℕ → Recording)
@@ -32,10 +31,10 @@ module _ {R Terms : Type 0} (terms : R → Terms) (recording : Terms → Bool �
 
 -- These bytes were fed, and what they say is packed.
 pub record IsCollected (were_fed : List ℕ → Type 0) (waits : List Stretch → Type 0)
-    (recording : Bool → List ℕ → Recording) (limit : ℕ) (file left found : Option (List ℕ))
-    (count : ℕ) : Type 0 where
+    (recording : Bool → List ℕ → Recording) (limit : ℕ) (input : InputTold) (count : ℕ)
+    : Type 0 where
   pub bytes : List ℕ
-  pub fed : TurnIsFed were_fed limit file left found count bytes
+  pub fed : TurnIsFed were_fed limit input count bytes
   pub told : waits (recording false (take limit bytes)).stretches
 
 -- what is packed before a byte is read
@@ -52,32 +51,33 @@ pub told_more : (packs : List Stretch → Type 0) {waits then_waits : List Stret
 told_more packs takes none pack = search rules
 
 -- a turn went on, and what it completed was packed
-pub IsCollected-more : {were_fed then_fed : List ℕ → Type 0}
-    (recording : Bool → List ℕ → Recording) (limit : ℕ) (file left found : Option (List ℕ))
-    (count taken : ℕ) (bytes : List ℕ) (packs : List Stretch → Type 0)
-    {waits then_waits : List Stretch → Type 0} → TurnGoesOn were_fed recording limit file left found count bytes waits then_waits → waits []
-    → ((added : List Stretch) → then_waits added
+pub IsCollected-more : {were_fed then_fed : List ℕ → Type 0} {has_ended : (List ℕ → Bool) → Type 0}
+    (recording : Bool → List ℕ → Recording) (limit : ℕ) (input : InputTold) (count taken : ℕ)
+    (bytes : List ℕ) (packs : List Stretch → Type 0) {waits then_waits : List Stretch → Type 0}
+    → EndsTurn were_fed has_ended recording limit input count bytes waits then_waits (Ok true)
+    → waits [] → ((added : List Stretch) → then_waits added
     → packs ((recording false (take limit bytes)).stretches ++ added))
     → ((fed : List ℕ) → were_fed fed → then_fed fed) → taken ≡ count
-    → IsCollected then_fed packs recording limit file left found taken
-IsCollected-more recording limit file left found count taken bytes packs more none pack kept same =
-    search rules
+    → IsCollected then_fed packs recording limit input taken
+IsCollected-more recording limit input count taken bytes packs ends none pack kept same = record {
+  bytes = bytes ++ ends.piece;
+  fed = record {
+    front = ends.front;
+    last = ends.last;
+    size = ends.finds.1 ∙ sym same;
+    few = omega (arith, ends.finds.1, ends.few, same);
+    fed = kept _ ends.finds.2;
+  };
+  told = rw ends.finds.0 at (told_more packs ends.adds none pack);
+}
 
 -- so it is by what is asked now, which is the same
 pub IsCollected-as : (were_fed : List ℕ → Type 0) (packs : List Timeline → List Stretch → Type 0)
     (said now : Bool → List ℕ → Recording) (limit most : ℕ) (traces items : List Timeline)
-    {file left found : Option (List ℕ)} {taken : ℕ} → now ≡ said → most ≡ limit → items ≡ traces
-    → IsCollected were_fed (packs traces) said limit file left found taken
-    → IsCollected were_fed (packs items) now most file left found taken
+    {input : InputTold} {taken : ℕ} → now ≡ said → most ≡ limit → items ≡ traces
+    → IsCollected were_fed (packs traces) said limit input taken
+    → IsCollected were_fed (packs items) now most input taken
 IsCollected-as were_fed packs said now limit most traces items same limited are read = search rules
-
--- however a turn ended, what was taken is at most one byte past the limit
-pub HasRead-bounded : {recording : Bool → List ℕ → Recording} {limit : ℕ}
-    {file left found : Option (List ℕ)} {bytes : List ℕ} {waits then_waits : List Stretch → Type 0}
-    {result : Result Bool Fault}
-    → HasRead recording limit file left found bytes waits then_waits result
-    → TakesAtMost (limit + 1) file left
-HasRead-bounded {bytes = bytes} has = search rules
 
 -- the bytes of an open input
 were_read : (input : InputTold) (bytes : List ℕ) → input.now.opened ≡ true
@@ -93,31 +93,31 @@ AreAllBytes-read input bytes opened front all = search rules
 module _ (recording : Bool → List ℕ → Recording) (limit : ℕ) (name : List ℕ)
     (input : InputTold) where
   -- a turn stopped
-  pub StopsReading-turn : (bytes : List ℕ) (waits then_waits : List Stretch → Type 0)
-      (fault : Fault) → input.now.opened ≡ true
+  pub StopsReading-turn : {were_fed : List ℕ → Type 0} {has_ended : (List ℕ → Bool) → Type 0}
+      {count : ℕ} {bytes : List ℕ} {waits then_waits : List Stretch → Type 0} (fault : Fault)
+      → input.now.opened ≡ true
       → HasReadCause {T = Bool} input.before.faults input.now.faults (Err fault)
       → (IsTrue input.before.sound → fault ≢ Read)
-      → (recording false (take limit bytes)).fault ≡ None
-      → StopsTurn recording limit input.before.file input.now.left bytes waits then_waits fault
+      → EndsTurn were_fed has_ended recording limit input count bytes waits then_waits (Err fault)
       → StopsReading recording limit name input fault
-  StopsReading-turn bytes waits then_waits (Trace fault) opened cause sound none stops =
-      (stops.0, record { opened = opened; cause = stops.1.cause; reads = cause })
-  StopsReading-turn bytes waits then_waits TooLong opened cause sound none stops = search rules
-  StopsReading-turn bytes waits then_waits Read opened cause sound none stops = record {
-    cause = cause;
-    unsound = λ good. absurd (sound good refl);
-    goes_on = record {
+  StopsReading-turn (Trace fault) opened cause sound ends = (
+    ends.finds.0,
+    record { opened = opened; stretches = _; cause = ends.finds.1; reads = cause },
+  )
+  StopsReading-turn TooLong opened cause sound ends =
+      record { opened = opened; stretches = _; cause = ends.finds; reads = cause }
+  StopsReading-turn {bytes = bytes} Read opened cause sound ends = (
+    record { cause = cause; unsound = λ good. absurd (sound good refl) },
+    record {
       bytes = bytes;
-      read = were_read input bytes opened stops.front;
-      within = stops.within;
-      faultless = subst (λ all. (recording false all).fault ≡ None)
-          (take-over limit bytes stops.within) none;
-    };
-  }
-  StopsReading-turn bytes waits then_waits (TooManyZones zones) opened cause sound none stops =
-      absurd stops
-  StopsReading-turn bytes waits then_waits Write opened cause sound none stops = absurd stops
-  StopsReading-turn bytes waits then_waits Memory opened cause sound none stops = cause
+      read = were_read input bytes opened (rw ends.finds.1 at ends.front);
+      within = ends.finds.2;
+      faultless = ends.finds.3;
+    },
+  )
+  StopsReading-turn (TooManyZones zones) opened cause sound ends = absurd ends.finds
+  StopsReading-turn Write opened cause sound ends = absurd ends.finds
+  StopsReading-turn Memory opened cause sound ends = cause
 
   -- the input couldn't be opened
   pub StopsReading-unread : (fault : Fault) → fault ≡ Read
@@ -143,12 +143,23 @@ traces_each said asked traces = λ k d below.
 
 -- the whole input was read, and these are the traces of all its bytes
 pub IsWhole-ended : (asked : List Vocabulary) (recording : Bool → List ℕ → Recording)
-    (limit : ℕ) (input : InputTold) (bytes : List ℕ) (traces : List Timeline)
-    {waits then_waits : List Stretch → Type 0} {has_ended : (List ℕ → Bool) → Type 0}
-    → input.now.opened ≡ true → AllReadsGood input
-    → TurnIsEnded recording limit input.before.file input.now.left bytes waits then_waits has_ended
-    → traces ≡ map (trace_for (recording true bytes)) asked
-    → ((names : Vocabulary) → IsTrace (segments_for names (recording true bytes).stretches))
+    (limit : ℕ) (input : InputTold) (traces : List Timeline) {were_fed : List ℕ → Type 0}
+    {has_ended : (List ℕ → Bool) → Type 0} {count : ℕ} {bytes : List ℕ}
+    {waits then_waits : List Stretch → Type 0} → input.now.opened ≡ true → AllReadsGood input
+    → (ends : EndsTurn were_fed has_ended recording limit input count bytes waits then_waits
+    (Ok false))
+    → traces ≡ map (trace_for (recording true (bytes ++ ends.piece))) asked
+    → ((names : Vocabulary) → IsTrace (segments_for names
+    (recording true (bytes ++ ends.piece)).stretches))
     → IsWhole asked recording limit input traces
-IsWhole-ended asked recording limit input bytes traces opened reads ended are is_trace =
-    search (rules, bytes, AreAllBytes-read, traces_each, ended.front)
+IsWhole-ended asked recording limit input traces {bytes = bytes} opened reads ends are is_trace =
+    let end = ends.ended ends.finds.0 in
+    record {
+      reads = reads;
+      bytes = bytes ++ ends.piece;
+      all = AreAllBytes-read input (bytes ++ ends.piece) opened ends.front end.0;
+      within = end.1;
+      faultless = ends.finds.1;
+      reads_as = are;
+      are_traces = rw are (traces_each (recording true (bytes ++ ends.piece)) asked is_trace);
+    }

@@ -1,13 +1,13 @@
 -- What the bytes of an input come to, and what all bytes of it say.
-use Rattle.std.proofs.Common.{◌≡◌, ◌∙◌, ◌-◌, ◌<◌, ◌≤◌, ℕ, nat_le, Bool, true, false, List, [], ◌++◌, length, take, Option, None, Some, IfSome, refl, sym, ap, subst, arith, length-append, rules}
+use Rattle.std.proofs.Common.{◌≡◌, ◌∙◌, ◌-◌, ◌<◌, ◌≤◌, ℕ, nat_le, Bool, true, false, List, [], ◌++◌, length, take, Option, None, Some, IfSome, refl, sym, ap, subst, arith, length-append, append-nil, rules}
 use Rattle.std.proofs.lemmas.Bool.Decides.{nat_tests}
 use Rattle.std.proofs.lemmas.List.{take-append-le}
 use Rattle.std.proofs.KnownBytes.{Consumes-whole}
 use Rattle.std.specs.Io.KnownBytes.{Consumes, IsAtEnd}
-use Rattle.tre_trace.specs.Reading.{Recording, Stretch, Grows}
+use Rattle.tre_trace.specs.Reading.{Recording, Grows}
 use Rattle.tre_trace.specs.declared.fault.TraceFault.{TraceFault}
-use Rattle.tre_feed.specs.Comes.{refuses, exceeds, outcome_of, outcome_from, recording_within}
-use Rattle.tre_feed.specs.Turn.{TakesOn, TellsAll}
+use Rattle.tre_feed.specs.Comes.{InputComesTo, Outcome, refuses, exceeds, outcome_of, outcome_from, recording_within}
+use Rattle.tre_feed.specs.Input.{InputTold}
 use Rattle.tre_feed.proofs.Cuts.{take-over, take_split}
 
 pub within : (count limit : ℕ) → count ≤ limit → nat_le count limit ≡ true
@@ -54,12 +54,6 @@ module _ (recording : Bool → List ℕ → Recording) (limit : ℕ) where
         take-append-le limit taken rest inside,
       ) refl
 
-  -- of the bytes that were read themselves
-  here : (taken : List ℕ) (other : Recording)
-      → recording_within recording limit (taken ++ []) ≡ other
-      → recording_within recording limit taken ≡ other
-  here taken other same = search rules
-
   -- all bytes, closed
   closed_within : (bytes : List ℕ) → length bytes ≤ limit
       → recording_within recording limit bytes ≡ recording true bytes
@@ -80,71 +74,57 @@ module _ (recording : Bool → List ℕ → Recording) (limit : ℕ) where
   unfolding outcome_of
   exceeds_here bytes now same none over = search rules
 
-  module _ (file left : Option (List ℕ)) where
-    -- a turn that found a fault in what it read: before it are all stretches before that of the
-    -- whole
-    pub TellsAll-fault : GrowsOn recording → (bytes taken : List ℕ)
-        (old new : List Stretch → Type 0)
-        (fault : TraceFault) → Consumes file left taken
-        → TakesOn old new (recording false (take limit bytes)) (recording false (take limit taken))
-        → (recording false (take limit taken)).fault ≡ Some fault
-        → TellsAll recording limit file left bytes old new (refuses fault)
-    TellsAll-fault grows bytes taken old new fault front all told =
-        let alike : recording_within recording limit taken ≡ recording false (take limit taken) =
-        here taken _ (fault_within grows taken [] fault told) in
-        record {
-          cause = record {
-            bytes = taken;
-            front = front;
-            comes = refuses_here taken _ fault alike told;
-            whole = IfSome-front file left taken _ front (λ rest. refuses_here (taken ++ rest) _
-                fault (fault_within grows taken rest fault told) told);
-            same = IfSome-front file left taken _ front (λ rest. ap (λ (r : Recording). r.stretches)
-                (fault_within grows taken rest fault told ∙ sym alike));
-          };
-          all = subst (TakesOn old new (recording false (take limit bytes))) (sym alike) all;
-        }
-
-    -- a turn that found that the limit is passed, and took nothing
-    pub TellsAll-exceeds : (bytes : List ℕ) (old : List Stretch → Type 0)
-        → Consumes file left bytes → limit < length bytes
-        → (recording false (take limit bytes)).fault ≡ None
-        → TakesOn old old (recording false (take limit bytes)) (recording false (take limit bytes))
-        → TellsAll recording limit file left bytes old old exceeds
-    TellsAll-exceeds bytes old front over none all =
-        let alike : recording_within recording limit bytes ≡ recording false (take limit bytes) =
-        here bytes _ (exceed_within bytes [] over) in
-        record {
-          cause = record {
-            bytes = bytes;
-            front = front;
-            comes = exceeds_here bytes _ alike none over;
-            whole = IfSome-front file left bytes _ front (λ rest. exceeds_here (bytes ++ rest) _
-                (exceed_within bytes rest over) none
-                (omega (arith, over, length-append bytes rest)));
-            same = IfSome-front file left bytes _ front (λ rest. ap (λ (r : Recording). r.stretches)
-                (exceed_within bytes rest over ∙ sym alike));
-          };
-          all = subst (TakesOn old old (recording false (take limit bytes))) (sym alike) all;
-        }
-
-    -- a turn that found a fault at the end: the whole input was fed
-    pub TellsAll-end : (bytes : List ℕ) (old new : List Stretch → Type 0)
-        (fault : TraceFault) → Consumes file left bytes → IsAtEnd left → length bytes ≤ limit
-        → TakesOn old new (recording false bytes) (recording true bytes)
-        → (recording true bytes).fault ≡ Some fault
-        → TellsAll recording limit file left bytes old new (refuses fault)
-    TellsAll-end bytes old new fault front all inside adds told = record {
-      cause = record {
-        bytes = bytes;
-        front = front;
-        comes = refuses_here bytes _ fault (closed_within bytes inside) told;
-        whole = Consumes-whole file left bytes _ front all
-            (refuses_here bytes _ fault (closed_within bytes inside) told);
-        same = Consumes-whole file left bytes _ front all refl;
-      };
-      all = rw (within (length bytes) limit inside, take-over limit bytes inside) adds;
+  module _ (input : InputTold) (taken : List ℕ)
+      (front : Consumes input.before.file input.now.left taken) where
+    -- whatever is left
+    comes_front : (outcome : Outcome) (said : Recording)
+        → ((rest : List ℕ) → recording_within recording limit (taken ++ rest) ≡ said)
+        → ((rest : List ℕ) → outcome_of recording limit (taken ++ rest) ≡ outcome)
+        → InputComesTo recording limit input outcome said.stretches
+    comes_front outcome said same comes = record {
+      bytes = taken;
+      front = front;
+      comes = rw (append-nil taken) at (comes []);
+      here = ap (λ (r : Recording). r.stretches) (rw (append-nil taken) at (same []));
+      whole = IfSome-front input.before.file input.now.left taken _ front comes;
+      same = IfSome-front input.before.file input.now.left taken _ front
+          (λ rest. ap (λ (r : Recording). r.stretches) (same rest));
     }
+
+    -- what was read has a fault
+    pub comes_fault : GrowsOn recording → (fault : TraceFault)
+        → (recording false (take limit taken)).fault ≡ Some fault
+        → InputComesTo recording limit input (refuses fault)
+        (recording false (take limit taken)).stretches
+    comes_fault grows fault told = comes_front (refuses fault) (recording false (take limit taken))
+        (λ rest. fault_within grows taken rest fault told)
+        (λ rest. refuses_here (taken ++ rest) _ fault (fault_within grows taken rest fault told)
+        told)
+
+    -- it has none, and is more than the limit
+    pub comes_exceeds : limit < length taken → (recording false (take limit taken)).fault ≡ None
+        → InputComesTo recording limit input exceeds (recording false (take limit taken)).stretches
+    comes_exceeds over none = comes_front exceeds (recording false (take limit taken))
+        (λ rest. exceed_within taken rest over)
+        (λ rest. exceeds_here (taken ++ rest) _ (exceed_within taken rest over) none
+        (omega (arith, over, length-append taken rest)))
+
+    -- it is the whole input, and has a fault at its end
+    pub comes_end : (fault : TraceFault) → IsAtEnd input.now.left → length taken ≤ limit
+        → (recording true taken).fault ≡ Some fault
+        → InputComesTo recording limit input (refuses fault) (recording true taken).stretches
+    comes_end fault all inside told =
+        let same = closed_within taken inside in
+        let comes = refuses_here taken _ fault same told in
+        let here = ap (λ (r : Recording). r.stretches) same in
+        record {
+          bytes = taken;
+          front = front;
+          comes = comes;
+          here = here;
+          whole = Consumes-whole input.before.file input.now.left taken _ front all comes;
+          same = Consumes-whole input.before.file input.now.left taken _ front all here;
+        }
 
 -- the bytes that were fed, with one more piece
 pub fed_more : (limit : ℕ) (taken piece : List ℕ) → length taken ≤ limit

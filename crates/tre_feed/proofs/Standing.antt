@@ -6,8 +6,7 @@ use Rattle.tre_trace.specs.Reading.{Recording, Stretch, Vocabulary, Adds, Grows,
 use Rattle.tre_trace.specs.declared.segment.Segment.{Segment}
 use Rattle.tre_trace.specs.declared.fault.TraceFault.{TraceFault}
 use Rattle.tre_trace.specs.declared.fault.TraceKind.TheVariants.{Memory as NoMemory}
-use Rattle.tre_feed.specs.Asked.{Asked, asked_by}
-use Rattle.tre_feed.specs.Each.{AllStand, AllWereFed, RowsAre, RowsBegin, TakesOne, all_asked, groups_in, recording_by}
+use Rattle.tre_feed.specs.Each.{AllStand, AllWereFed, ReadBy, RowsAre, RowsBegin, TakesOne, all_asked, asked_by, groups_in, recording_by}
 use Rattle.tre_feed.specs.Stops.{IsToldOf, TakesIn}
 use Rattle.tre_feed.specs.Turn.{TakesOn}
 use Rattle.tre_feed.specs.declared.fault.Fault.{Fault}
@@ -40,7 +39,7 @@ module _ {R Terms : Type 0} (names : R → Vocabulary) (terms : R → Terms) whe
       let first : asked_by names terms n.reader ≡ asked_by names terms o.reader = cc same in
       let others : all_asked names terms new ≡ all_asked names terms old = cc same in
       ap₂ (λ (group : Vocabulary) (groups : List Vocabulary). group ∷ groups)
-      (ap (λ (asked : Asked Terms). asked.names) first) (groups_same new old others)
+      (ap (λ (asked : ReadBy Terms). asked.names) first) (groups_same new old others)
 
 module _ {R Terms : Type 0} (terms : R → Terms) (recording : Terms → Bool → List ℕ → Recording)
   where

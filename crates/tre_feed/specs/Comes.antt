@@ -1,7 +1,7 @@
 -- What the bytes of an input come to.
 use Rattle.std.specs.Prelude.{◌≡◌, ℕ, ◌≤◌, nat_le, Bool, true, false, List, length, take, Option, None, Some, IfSome}
 use Rattle.std.specs.Io.KnownBytes.{Consumes}
-use Rattle.tre_trace.specs.Reading.{Recording}
+use Rattle.tre_trace.specs.Reading.{Recording, Stretch}
 use Rattle.tre_trace.specs.declared.fault.TraceFault.{TraceFault}
 use Rattle.tre_feed.specs.Input.{InputTold, WereRead}
 
@@ -26,15 +26,16 @@ unfoldable pub outcome_of : (Bool → List ℕ → Recording) → ℕ → List �
 outcome_of recording limit bytes =
     outcome_from (nat_le (length bytes) limit) (recording_within recording limit bytes).fault
 
--- What was read comes to this, and so do all bytes, with the same stretches within the limit.
-pub record InputComesTo (recording : Bool → List ℕ → Recording) (limit : ℕ)
-    (file left : Option (List ℕ)) (outcome : Outcome) : Type 0 where
+-- What was read comes to this, and so do all bytes, with these stretches within the limit.
+pub record InputComesTo (recording : Bool → List ℕ → Recording) (limit : ℕ) (input : InputTold)
+    (outcome : Outcome) (stretches : List Stretch) : Type 0 where
   pub bytes : List ℕ
-  pub front : Consumes file left bytes
+  pub front : Consumes input.before.file input.now.left bytes
   pub comes : outcome_of recording limit bytes ≡ outcome
-  pub whole : IfSome file (λ all. outcome_of recording limit all ≡ outcome)
-  pub same : IfSome file (λ all. (recording_within recording limit all).stretches
-      ≡ (recording_within recording limit bytes).stretches)
+  pub here : (recording_within recording limit bytes).stretches ≡ stretches
+  pub whole : IfSome input.before.file (λ all. outcome_of recording limit all ≡ outcome)
+  pub same : IfSome input.before.file (λ all.
+      (recording_within recording limit all).stretches ≡ stretches)
 
 -- The bytes that were read are within the limit and have no fault, so the input may go on.
 pub record MayGoOn (recording : Bool → List ℕ → Recording) (limit : ℕ) (input : InputTold)

@@ -4,13 +4,20 @@ use Rattle.std.specs.List.{AllByRecursion}
 use Rattle.tre_trace.specs.Reading.{Recording, Stretch, Vocabulary, Adds, AddsSome, events_for, segments_for}
 use Rattle.tre_trace.specs.declared.fault.TraceFault.{TraceFault}
 use Rattle.tre_trace.specs.declared.segment.Segment.{Segment}
-use Rattle.tre_feed.specs.Asked.{Asked, asked_by}
 use Rattle.tre_feed.specs.Outcome.{IsInputKind}
 use Rattle.tre_feed.specs.declared.each.Fed.{Fed}
 
+-- What a reader reads by: its names, and the terms of its format.
+pub record ReadBy (Terms : Type 0) : Type 0 where
+  pub names : Vocabulary
+  pub terms : Terms
+
+abbrev pub asked_by : {R Terms : Type 0} → (R → Vocabulary) → (R → Terms) → R → ReadBy Terms
+asked_by names terms reader = record { names = names reader; terms = terms reader }
+
 -- what each reads by
 abbrev pub all_asked : {R Terms : Type 0} → (R → Vocabulary) → (R → Terms) → List (Fed R) →
-    List (Asked Terms)
+    List (ReadBy Terms)
 all_asked names terms each = map (λ fed. asked_by names terms fed.reader) each
 
 -- the readers alone
@@ -74,18 +81,18 @@ pub record AllEnded {R : Type 0} (names : R → Vocabulary) (each : List (Fed R)
   pub lasts : LastsAre names each last
 
 -- It is the first fault of the input, and no want of memory.
-pub record IsFaultOf (now : Recording) (found : Option TraceFault) : Type 0 where
+pub record HasFirstFault (now : Recording) (found : Option TraceFault) : Type 0 where
   pub told : now.fault ≡ found
   pub kind : IfSome found (λ fault. IsInputKind fault.kind)
 
 -- Each has told the first fault of the input, or none.
 abbrev pub FaultsAre : {R : Type 0} → Recording → List (Fed R) → Type 0
-FaultsAre now each = AllByRecursion (λ fed. IsFaultOf now fed.fault) each
+FaultsAre now each = AllByRecursion (λ fed. HasFirstFault now fed.fault) each
 
 -- How a call ended that had one reader read on from one recording to another. It says whether there
 -- was memory.
 abbrev pub TakesOne : Vocabulary → List Segment → List Segment → Recording → Recording →
     Option TraceFault → Bool → Type 0
 TakesOne asked old new before now found true =
-    Adds asked old new before now × IsFaultOf now found
+    Adds asked old new before now × HasFirstFault now found
 TakesOne asked old new before now found false = AddsSome asked old new before now

@@ -1,5 +1,5 @@
 -- What was read of an input.
-use Rattle.std.specs.Prelude.{◌≡◌, ℕ, ◌+◌, ◌<◌, ◌≤◌, false, List, [], ◌++◌, length, take, Option, IfSome, IsTrue, IsErrOf, Result, Ok, Err}
+use Rattle.std.specs.Prelude.{◌≡◌, ℕ, ◌+◌, ◌<◌, ◌≤◌, false, List, [], length, take, Option, IfSome, IsTrue, IsErrOf, Result, Ok, Err}
 use Rattle.std.specs.Io.KnownBytes.{Consumes, IsAtEnd}
 use Rattle.tre_io.specs.Faults.{count_after}
 use Rattle.tre_io.specs.Told.{SourceTold}
@@ -29,21 +29,6 @@ pub record AreAllBytes (input : InputTold) (bytes : List ℕ) : Type 0 where
   pub read : WereRead input bytes
   pub all_read : IsAtEnd input.now.left
   pub whole : IfSome input.before.file (λ told. told ≡ bytes)
-
--- The input was read to its end, and this is so of its bytes.
-pub record OfAllBytes (input : InputTold) (IsSo : List ℕ → Type 0) : Type 0 where
-  pub bytes : List ℕ
-  pub all : AreAllBytes input bytes
-  pub is_so : IsSo bytes
-
--- What was read is what had been read when the last read began, and the piece that it gave.
-pub record HasLastPiece (input : InputTold) (bytes : List ℕ) : Type 0 where
-  pub earlier : List ℕ
-  pub piece : List ℕ
-  pub split : bytes ≡ earlier ++ piece
-  pub short : length piece ≤ PIECE
-  pub behind : IsTrue input.now.opened →
-      IfSome input.before.file (λ all. IfSome input.now.found (λ rest. all ≡ earlier ++ rest))
 
 -- Of the file's bytes at most this many were taken, from its front.
 pub record TakesAtMost (most : ℕ) (file left : Option (List ℕ)) : Type 0 where

@@ -12,7 +12,6 @@ pub mod Places
 pub mod Shares
 pub mod Shown
 -- What the functions inside promise each other.
-pub mod Asked
 pub mod Each
 pub mod Seen
 pub mod Packing

@@ -1,5 +1,5 @@
 -- How an input stands: what it is asked, what its bytes say, and what of it waits.
-use Rattle.std.specs.Prelude.{◌≡◌, ℕ, ◌+◌, ◌<◌, ◌≤◌, Bool, false, List, [], length, take}
+use Rattle.std.specs.Prelude.{◌≡◌, ℕ, ◌<◌, Bool, false, List, [], length, take}
 use Rattle.std.specs.List.{AllZip}
 use Rattle.tre_feed.specs.Shares.{IsViewOf}
 use Rattle.tre_feed.specs.declared.view.View.{View}
@@ -56,11 +56,6 @@ pub record CanReadOn {R Terms : Type 0} (terms : R → Terms) (represents : R �
   pub bytes : List ℕ
   pub size : length bytes ≡ taken_of input
   pub fed : WereFed terms represents input (take (limit_of input) bytes)
-
--- More of it was read, and at most a byte past the limit.
-pub record HasTaken {R : Type 0} (old new : Input R) : Type 0 where
-  pub more : taken_of old < taken_of new
-  pub few : taken_of new ≤ limit_of new + 1
 
 -- It asks as it did, and its bytes say what they did.
 pub record IsAsked {R Terms : Type 0} (names : R → Vocabulary) (terms : R → Terms)

@@ -3,7 +3,6 @@
 use Rattle.std.specs.Prelude.{◌≡◌, ℕ, ◌≤◌, Bool, false, List, ◌++◌, length, take, Option, None, Some, Result, Ok, Err}
 use Rattle.std.specs.Io.KnownBytes.{Consumes, Keeps as KeepsBytes}
 use Rattle.tre_trace.specs.Reading.{Recording, Stretch}
-use Rattle.tre_trace.specs.declared.fault.TraceFault.{TraceFault}
 use Rattle.tre_feed.specs.Outcome.{IsInputKind}
 use Rattle.tre_feed.specs.Turn.{KeepsWaiting, TakesOn}
 use Rattle.tre_feed.specs.declared.fault.Fault.{Fault}
@@ -34,43 +33,23 @@ IsToldOf now (Ok done) = now.fault ≡ None
 IsToldOf now (Err (Trace fault)) = IsInputKind fault.kind × (now.fault ≡ Some fault)
 IsToldOf now (Err fault) = ⊥
 
--- A piece was read behind these bytes that has this first fault, and the stretches are all those
--- that it completes.
-pub record TurnHasFault (recording : Bool → List ℕ → Recording) (allowed room : ℕ) (bytes : List ℕ)
-    (before now : Option (List ℕ)) (waits then_waits : List Stretch → Type 0)
-    (fault : TraceFault) : Type 0 where
-  pub kind : IsInputKind fault.kind
+-- The readers refused a piece that was read behind these bytes.
+pub record PieceIsRefused (recording : Bool → List ℕ → Recording) (allowed room : ℕ)
+    (bytes : List ℕ) (before now : Option (List ℕ)) (waits then_waits : List Stretch → Type 0)
+    (fault : Fault) : Type 0 where
   pub piece : List ℕ
   pub front : Consumes before now piece
   pub short : length piece ≤ room
-  pub all : TakesOn waits then_waits
-      (recording false bytes) (recording false (bytes ++ take allowed piece))
-  pub told : (recording false (bytes ++ take allowed piece)).fault ≡ Some fault
+  pub takes : TakesIn waits then_waits (recording false bytes)
+      (recording false (bytes ++ take allowed piece)) (Err fault)
 
--- A piece was read, and there was no memory for what it says.
-pub record IsLost (room : ℕ) (before now : Option (List ℕ))
-    (waits then_waits : List Stretch → Type 0) : Type 0 where
-  pub piece : List ℕ
-  pub front : Consumes before now piece
-  pub short : length piece ≤ room
-  pub kept : KeepsWaiting waits then_waits
-
--- A read failed: it took no byte.
-pub record ReadsNothing (before now : Option (List ℕ))
-    (waits then_waits : List Stretch → Type 0) : Type 0 where
-  pub left : KeepsBytes before now
-  pub kept : KeepsWaiting waits then_waits
-
--- Why a piece behind these bytes wasn't fed.
+-- Why a piece behind these bytes wasn't fed: a read that fails takes no byte.
 abbrev pub StopsPiece : (Bool → List ℕ → Recording) → ℕ → ℕ → List ℕ → Option (List ℕ) →
     Option (List ℕ) → (List Stretch → Type 0) → (List Stretch → Type 0) → Fault → Type 0
-StopsPiece recording allowed room bytes before now waits then_waits (Trace fault) =
-    TurnHasFault recording allowed room bytes before now waits then_waits fault
 StopsPiece recording allowed room bytes before now waits then_waits Read =
-    ReadsNothing before now waits then_waits
-StopsPiece recording allowed room bytes before now waits then_waits Memory =
-    IsLost room before now waits then_waits
-StopsPiece recording allowed room bytes before now waits then_waits fault = ⊥
+    KeepsBytes before now × KeepsWaiting waits then_waits
+StopsPiece recording allowed room bytes before now waits then_waits fault =
+    PieceIsRefused recording allowed room bytes before now waits then_waits fault
 
 -- A piece was fed behind these bytes as far as it may be: the stretches are those that it
 -- completes.

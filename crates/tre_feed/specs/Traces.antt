@@ -1,9 +1,9 @@
 -- How a whole input is read as traces.
-use Rattle.std.specs.Prelude.{◌≡◌, ◌≢◌, ℕ, ◌≤◌, Bool, true, List, length, map, All, None, Some, IsTrue}
-use Rattle.tre_io.specs.Faults.{count_after}
-use Rattle.tre_trace.specs.Reading.{Recording, Vocabulary, events_for, segments_for}
+use Rattle.std.specs.Prelude.{◌≡◌, ℕ, ◌≤◌, Bool, true, List, length, map, All, None, Some, IsTrue}
+use Rattle.tre_trace.specs.Reading.{Recording, Stretch, Vocabulary, events_for, segments_for}
 use Rattle.tre_trace.specs.Trace.{Timeline, timeline_of, IsTrace}
 use Rattle.tre_feed.specs.Comes.{InputComesTo, MayGoOn, Outcome, exceeds, refuses}
+use Rattle.tre_feed.specs.Front.{IsUnreadable}
 use Rattle.tre_feed.specs.Input.{InputTold, AllReadsGood, AreAllBytes}
 use Rattle.tre_feed.specs.Outcome.{IsInputKind}
 use Rattle.tre_feed.specs.declared.fault.Fault.{Fault}
@@ -29,22 +29,18 @@ pub record IsWhole (asked : List Vocabulary) (recording : Bool → List ℕ → 
 pub record IsDecided (recording : Bool → List ℕ → Recording) (limit : ℕ) (input : InputTold)
     (outcome : Outcome) : Type 0 where
   pub opened : IsTrue input.now.opened
-  pub cause : InputComesTo recording limit input.before.file input.now.left outcome
+  pub stretches : List Stretch
+  pub cause : InputComesTo recording limit input outcome stretches
   pub reads : AllReadsGood input
 
--- The input of this name couldn't be opened or read where it might go on.
-pub record IsUnread (recording : Bool → List ℕ → Recording) (limit : ℕ) (name : List ℕ)
-    (input : InputTold) : Type 0 where
-  pub cause : input.now.faults ≡ count_after input.before.faults
-  pub unsound : IsTrue input.before.sound → input.before.name ≢ Some name
-  pub goes_on : MayGoOn recording limit input
-
--- Why an input of this name was read as no traces within the limit.
+-- Why an input of this name was read as no traces within the limit. A read fails only where the
+-- input might have gone on.
 abbrev pub StopsReading : (Bool → List ℕ → Recording) → ℕ → List ℕ → InputTold → Fault →
     Type 0
 StopsReading recording limit name input (Trace fault) =
     IsInputKind fault.kind × IsDecided recording limit input (refuses fault)
 StopsReading recording limit name input TooLong = IsDecided recording limit input exceeds
-StopsReading recording limit name input Read = IsUnread recording limit name input
+StopsReading recording limit name input Read =
+    IsUnreadable name input × MayGoOn recording limit input
 StopsReading recording limit name input Memory = AllReadsGood input
 StopsReading recording limit name input fault = ⊥

@@ -115,10 +115,7 @@ fn dump_readers(
 {
     let mut readers = Vec::new(alloc);
     for group in groups {
-        put_last(
-            &mut readers,
-            dump_reader(alloc, group, needed, scale)?,
-        )?;
+        put_last(&mut readers, dump_reader(alloc, group, needed, scale)?)?;
     }
     Ok(readers)
 }

@@ -3,8 +3,7 @@ ghost use Rattle.std.specs.Prelude.{◌≡◌, ℕ, ◌+◌, ◌<◌, ◌≤◌,
 ghost use Rattle.std.specs.List.{AllByRecursion};
 ghost use Rattle.tre_trace.specs.Reading.{Recording, Stretch, events_for};
 ghost use Rattle.tre_trace.specs.declared.reader.TheConstants.{FED_MAX};
-ghost use Rattle.tre_feed.specs.Asked.{asked_by};
-ghost use Rattle.tre_feed.specs.Each.{AllEnded, AllStand, AllWait, AllWereFed, FaultsAre, LastsAre, RowsAre, RowsBegin, TakesOne, all_asked, recording_by};
+ghost use Rattle.tre_feed.specs.Each.{AllEnded, AllStand, AllWait, AllWereFed, FaultsAre, LastsAre, RowsAre, RowsBegin, TakesOne, all_asked, asked_by, recording_by};
 ghost use Rattle.tre_feed.specs.Stops.{IsOfReaders, IsToldOf, TakesIn};
 
 use crate::fault::Fault;

@@ -53,11 +53,12 @@ fn fed_each<R: TraceReader + Drop>(
 impl<R: TraceReader + Drop> Input<R> {
     ghost use Rattle.std.specs.Prelude.{◌+◌, ◌++◌, ℕ, Bool, List, Option, Some, map, get_or, IsTrue, IsErrOf, IfErr, IfSome, OnOk, OnErr, false};
     ghost use Rattle.tre_trace.specs.Reading.{Stretch, Recording, Vocabulary, events_for, segment_for};
-    ghost use Rattle.tre_feed.specs.Input.{HasReadCause, TakesAtMost, input_told};
-    ghost use Rattle.tre_feed.specs.Standing.{AreFor, Asks, CanReadOn, HasEnded, HasPlace, HasTaken, IsAsked, IsNew, Wait, WereFed, limit_of, stretch_behind, recording_of, taken_of};
+    ghost use Rattle.tre_io.specs.Told.{SourceTold};
+    ghost use Rattle.tre_feed.specs.Input.{HasReadCause, HasTakenMore, KeepsSource, TakesAtMost, input_told};
+    ghost use Rattle.tre_feed.specs.Standing.{AreFor, Asks, CanReadOn, HasEnded, HasPlace, IsAsked, IsNew, Wait, WereFed, limit_of, stretch_behind, recording_of, taken_of};
     ghost use Rattle.tre_feed.specs.Packing.{ArePacked, CanPackMore, KeepsViews};
     ghost use Rattle.tre_feed.specs.Traces.{IsWhole, StopsReading, trace_for};
-    ghost use Rattle.tre_feed.specs.Turn.{EndsTurn, HasRead, TurnIsFed};
+    ghost use Rattle.tre_feed.specs.Turn.{EndsTurn, TurnIsFed};
 
     /// An input of which at most `limit` bytes count, and nothing was read. Each who asks has a
     /// view of the group that one of the readers reads, counted from 0.
@@ -102,8 +103,7 @@ impl<R: TraceReader + Drop> Input<R> {
         ensures opened { OnOk result (IsTrue (S.told source.new).opened) }
         ensures fed { IsNew R.terms R.represents R.names self.now → OnOk result
             (TurnIsFed (WereFed R.terms R.represents self.now) (limit_of self.now)
-            (S.told source.old).file (S.told source.new).left (S.told source.new).found
-            (taken_of self.now) []) }
+            (input_told (S.told source.old) (S.told source.new)) (taken_of self.now) []) }
         ensures by_name { IsTrue (S.told source.new).opened →
             IfSome (S.told source.old).name (λ told. told ≡ name.now) }
         ensures read { IfErr result (λ fault. fault ≡ Fault.Read) }
@@ -124,26 +124,18 @@ impl<R: TraceReader + Drop> Input<R> {
     pub fn next<S: Source>(&mut self, source: &mut S) -> Result<bool, Fault>
         requires opened { IsTrue (S.told source.old).opened }
         requires reads_on { CanReadOn R.terms R.represents self.old }
-        ensures read { (file : Option (List ℕ)) (bytes : List ℕ) →
-            TurnIsFed (WereFed R.terms R.represents self.old) (limit_of self.old) file
-            (S.told source.old).left (S.told source.old).found (taken_of self.old) bytes →
-            HasRead (recording_of R.recording R.terms self.old) (limit_of self.old) file
-            (S.told source.new).left (S.told source.new).found bytes (Wait R.names self.old)
-            (Wait R.names self.new) result }
-        ensures ends { (file : Option (List ℕ)) (bytes : List ℕ) →
-            TurnIsFed (WereFed R.terms R.represents self.old) (limit_of self.old) file
-            (S.told source.old).left (S.told source.old).found (taken_of self.old) bytes →
-            EndsTurn (WereFed R.terms R.represents self.new)
-            (recording_of R.recording R.terms self.old) (limit_of self.old) file
-            (S.told source.new).left (S.told source.new).found (taken_of self.new) bytes
-            (Wait R.names self.old) (Wait R.names self.new) (HasEnded R.names self.new) result }
-        ensures taken { IfOk result (λ more. IsTrue more → HasTaken self.old self.new) }
+        ensures ends { (before : SourceTold) (bytes : List ℕ) →
+            TurnIsFed (WereFed R.terms R.represents self.old) (limit_of self.old)
+            (input_told before (S.told source.old)) (taken_of self.old) bytes →
+            EndsTurn (WereFed R.terms R.represents self.new) (HasEnded R.names self.new)
+            (recording_of R.recording R.terms self.old) (limit_of self.old)
+            (input_told before (S.told source.new)) (taken_of self.new) bytes
+            (Wait R.names self.old) (Wait R.names self.new) result }
+        ensures taken { IfOk result (λ more. IsTrue more →
+            HasTakenMore (limit_of self.new) (taken_of self.old) (taken_of self.new)) }
         ensures same { IsAsked R.names R.terms R.recording self.old self.new }
         ensures views { KeepsViews R.names self.old self.new }
-        ensures cause { HasReadCause (S.told source.old).faults (S.told source.new).faults result }
-        ensures sound { IsTrue (S.told source.old).sound → IsErrOf result Fault.Read → ⊥ }
-        ensures same_opened { (S.told source.new).opened ≡ (S.told source.old).opened }
-        ensures same_sound { (S.told source.new).sound ≡ (S.told source.old).sound }
+        ensures source { KeepsSource (S.told source.old) (S.told source.new) result }
     {
         feed_next(
             self.limit,

@@ -15,7 +15,8 @@
 //! those stretches wait behind the others that the recording has beyond the earlier, and
 //! [`Input::column`] gives each of them as it is for the names of each who asks.
 //! [`Input::read_traces`] takes all turns and gives the traces. [`read_front`] gives the bytes of a
-//! file that is read for its own sake, up to a limit.
+//! file that is read for its own sake, up to a limit. [`write_bytes`] writes what is told of an input,
+//! with the same [`Fault`] for all that may end this work.
 //!
 //! ```text
 //! let mut input = text_input(alloc, &patterns, scale, limit)?;
@@ -33,6 +34,7 @@ mod front;
 mod group;
 mod input;
 mod lists;
+mod output;
 mod piece;
 mod places;
 mod seen;
@@ -46,6 +48,7 @@ pub use fault::Fault;
 pub use front::read_front;
 pub use group::Group;
 pub use input::Input;
+pub use output::{write_bytes, write_text};
 pub use shares::{Shares, alone, share};
 pub use text::text_input;
 pub use view::View;

@@ -35,20 +35,6 @@ impl Shares {
     ghost use Rattle.tre_feed.specs.Shares.{groups_of, views_of};
     ghost use Rattle.tre_trace.specs.Reading.{Vocabulary};
 
-    /// The names that each reader reads.
-    pub fn groups(&self) -> &[Group]
-        ensures { result.now ≡ groups_of self.now }
-    {
-        &self.groups
-    }
-
-    /// The views, one for each pattern, in the order of the patterns.
-    pub fn views(&self) -> &[View]
-        ensures { result.now ≡ views_of self.now }
-    {
-        &self.views
-    }
-
     /// The names that each reader reads, and the views.
     pub fn into_parts(self) -> (Vec<Group>, Vec<View>)
         ensures groups { result.0.items ≡ groups_of self }

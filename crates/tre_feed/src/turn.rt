@@ -1,12 +1,13 @@
 // A turn of reading an input: one read, and what the readers are given of it.
-ghost use Rattle.std.specs.Prelude.{◌≡◌, ℕ, ◌+◌, ◌<◌, ◌≤◌, List, length, Option, IsTrue, IfOk};
+ghost use Rattle.std.specs.Prelude.{◌≡◌, ℕ, ◌+◌, ◌<◌, ◌≤◌, List, length, IsTrue, IfOk};
 ghost use Rattle.std.specs.Io.KnownBytes.{Keeps};
 ghost use Rattle.std.specs.List.{AllByRecursion};
+ghost use Rattle.tre_io.specs.Told.{SourceTold};
 ghost use Rattle.tre_trace.specs.declared.reader.TheConstants.{FED_MAX};
 ghost use Rattle.tre_feed.specs.Each.{AllEnded, AllWait, AllWereFed, WereGiven, all_asked, recording_by};
-ghost use Rattle.tre_feed.specs.Input.{HasPieceRoom, HasTakenMore, IsPiece, KeepsSource};
+ghost use Rattle.tre_feed.specs.Input.{HasPieceRoom, HasTakenMore, IsPiece, KeepsSource, input_told};
 ghost use Rattle.tre_feed.specs.Stops.{EndsPiece};
-ghost use Rattle.tre_feed.specs.Turn.{EndsTurn, HasRead, TurnIsFed};
+ghost use Rattle.tre_feed.specs.Turn.{EndsTurn, TurnIsFed};
 
 use crate::each::{Fed, feed_all, finish_all};
 use crate::fault::Fault;
@@ -55,19 +56,13 @@ pub fn feed_next<S: Source, R: TraceReader + Drop>(
     requires fits { limit ≤ FED_MAX }
     requires readers { WereGiven R.fed_of taken.old each.old }
     requires buffer { HasPieceRoom buffer.old }
-    ensures read { (file : Option (List ℕ)) (bytes : List ℕ) →
-        TurnIsFed (AllWereFed R.terms R.represents each.old) limit file (S.told source.old).left
-        (S.told source.old).found taken.old bytes →
-        HasRead (recording_by R.recording R.terms each.old) limit file (S.told source.new).left
-        (S.told source.new).found bytes (AllWait R.names each.old) (AllWait R.names each.new)
-        result }
-    ensures ends { (file : Option (List ℕ)) (bytes : List ℕ) →
-        TurnIsFed (AllWereFed R.terms R.represents each.old) limit file (S.told source.old).left
-        (S.told source.old).found taken.old bytes →
-        EndsTurn (AllWereFed R.terms R.represents each.new)
-        (recording_by R.recording R.terms each.old) limit file (S.told source.new).left
-        (S.told source.new).found taken.new bytes (AllWait R.names each.old)
-        (AllWait R.names each.new) (AllEnded R.names each.new) result }
+    ensures ends { (before : SourceTold) (bytes : List ℕ) →
+        TurnIsFed (AllWereFed R.terms R.represents each.old) limit
+        (input_told before (S.told source.old)) taken.old bytes →
+        EndsTurn (AllWereFed R.terms R.represents each.new) (AllEnded R.names each.new)
+        (recording_by R.recording R.terms each.old) limit
+        (input_told before (S.told source.new)) taken.new bytes (AllWait R.names each.old)
+        (AllWait R.names each.new) result }
     ensures taken { IfOk result (λ more. IsTrue more → HasTakenMore limit taken.old taken.new) }
     ensures same { all_asked R.names R.terms each.new ≡ all_asked R.names R.terms each.old }
     ensures length { length buffer.new ≡ length buffer.old }

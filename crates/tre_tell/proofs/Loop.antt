@@ -1,14 +1,14 @@
 -- An input that is told, from before it is opened to its end.
 use Rattle.std.proofs.Common.{◌≡◌, ◌≢◌, ◌∙◌, ℕ, ◌+◌, ◌<◌, Bool, true, false, List, [], ◌∷◌, ◌++◌, length, take, map, MatchBool, Option, None, Some, IfErr, IsTrue, Result, Ok, Err, refl, sym, ap, subst, arith}
 use Rattle.std.specs.Io.KnownBytes.{Keeps}
-use Rattle.std.proofs.KnownBytes.{Consumes-nil}
+use Rattle.std.proofs.KnownBytes.{Consumes-kept, Consumes-nil}
 use Rattle.std.proofs.lemmas.List.{length-map, take_all}
-use Rattle.tre_feed.specs.Input.{HasReadCause, InputTold, WereRead, TakesAtMost}
+use Rattle.tre_feed.specs.Input.{HasReadCause, InputTold, WereRead}
 use Rattle.tre_feed.specs.Each.{AllStand, recording_by}
 use Rattle.tre_feed.specs.Standing.{IsAsked, IsNew, WereFed, recording_of}
 use Rattle.tre_feed.specs.declared.each.Fed.{Fed}
 use Rattle.tre_feed.specs.declared.input.Input.{Input}
-use Rattle.tre_feed.proofs.Pieces.{Consumes-keeps, found_behind}
+use Rattle.tre_feed.proofs.Pieces.{found_behind}
 use Rattle.tre_online.specs.Watch.{trees_of, ended_of_each, Watches}
 use Rattle.tre_online.specs.declared.watch.Watch.{Watch}
 use Rattle.tre_syntax.specs.Pattern.{names_of, pattern_tree}
@@ -17,69 +17,33 @@ use Rattle.tre_trace.specs.Reading.{Grows, Recording, Stretch, Vocabulary, event
 use Rattle.tre_trace.specs.Trace.{IsTrace}
 use Rattle.tre_trace.specs.declared.segment.Segment.{Segment}
 use Rattle.tre_tell.specs.Ends.{EndsTelling, ReadsInput, StandsAtMemory, as_it_comes}
-use Rattle.tre_feed.specs.Turn.{EndsTurn, HasRead, TurnIsFed, StopsTurn}
+use Rattle.tre_feed.specs.Turn.{TurnIsFed}
 use Rattle.tre_tell.specs.Outputs.{OutputTold, NothingWritten}
 use Rattle.tre_tell.specs.Sought.{Sought, all_names, sought_by}
 use Rattle.tre_tell.specs.Online.{BlocksStand}
 use Rattle.tre_tell.specs.Request.{Request}
-use Rattle.tre_tell.specs.Telling.{rows_for, HasTold, HasWriteCause}
+use Rattle.tre_tell.specs.Telling.{rows_for, HasTold}
 use Rattle.tre_feed.specs.declared.fault.Fault.{Fault}
 use Rattle.tre_feed.specs.declared.fault.Fault.TheVariants.{Trace, TooLong, TooManyZones, Read, Write, Memory}
 use Rattle.tre_tell.proofs.Closing.{BlocksStand-none, HasTold-start}
 use Rattle.tre_tell.proofs.Rows.{count_asked}
 use Rattle.tre_tell.proofs.Tellings.{HasLaws}
 
--- of an input of which nothing was read, nothing was taken
-pub TakesAtMost-none : (most : ℕ) (file left : Option (List ℕ)) → Keeps file left
-    → TakesAtMost most file left
-TakesAtMost-none most file left kept = record {
-  taken = [];
-  few = omega arith;
-  front = Consumes-keeps file file left [] (Consumes-nil file) kept;
-}
-
--- however a turn ended, what was taken is at most one byte past the limit
-pub TakesAtMost-read : {recording : Bool → List ℕ → Recording} {limit : ℕ}
-    {file left found : Option (List ℕ)} {bytes : List ℕ} {waits then_waits : List Stretch → Type 0}
-    {result : Result Bool Fault}
-    → HasRead recording limit file left found bytes waits then_waits result
-    → TakesAtMost (limit + 1) file left
-TakesAtMost-read {bytes = bytes} has =
-    record { taken = bytes ++ has.piece; few = has.few; front = has.front }
-
--- how a turn stopped that did
-pub turn_stops : (were_fed : List ℕ → Type 0) (recording : Bool → List ℕ → Recording) (limit : ℕ)
-    (file left found : Option (List ℕ)) (count : ℕ) (bytes : List ℕ)
-    (waits then_waits : List Stretch → Type 0) (has_ended : (List ℕ → Bool) → Type 0)
-    (result : Result Bool Fault)
-    → EndsTurn were_fed recording limit file left found count bytes waits then_waits has_ended
-    result
-    → IfErr result (StopsTurn recording limit file left bytes waits then_waits)
-turn_stops were_fed recording limit file left found count bytes waits then_waits has_ended (Ok more)
-    ends = tt
-turn_stops were_fed recording limit file left found count bytes waits then_waits has_ended
-    (Err fault) ends = ends
-
--- causes, counted from where nothing was counted before
+-- a cause, counted from where nothing was counted before
 pub HasReadCause-from : {T : Type 0} (before before' now : ℕ) (result : Result T Fault)
     → before ≡ before' → HasReadCause before now result → HasReadCause before' now result
 HasReadCause-from before before' now result same cause =
     subst (λ n. HasReadCause n now result) same cause
 
-pub HasWriteCause-from : {T : Type 0} (before before' now : ℕ) (result : Result T Fault)
-    → before ≡ before' → HasWriteCause before now result → HasWriteCause before' now result
-HasWriteCause-from before before' now result same cause =
-    subst (λ n. HasWriteCause n now result) same cause
-
 -- These bytes were fed, and the blocks of the stretches that they say were written.
-pub record IsTelling (request : Request) (were_fed : List ℕ → Type 0)
-    (file left found : Option (List ℕ)) (count : ℕ) (watch : Watch) (labels : List (List ℕ))
-    (before now : Option (List ℕ)) : Type 0 where
-  pub bytes : List ℕ
-  pub fed : TurnIsFed were_fed request.job.max_bytes file left found count bytes
-  pub told : HasTold watch labels request.job.scale request.patterns
-      (rows_for (all_names request.patterns)
-      (request.recording false (take request.job.max_bytes bytes)).stretches) before now
+pub record IsTelling (request : Request) (were_fed : List ℕ → Type 0) (input : InputTold)
+    (count : ℕ) (watch : Watch) (labels : List (List ℕ)) (before now : Option (List ℕ)) : Type 0
+  where
+    pub bytes : List ℕ
+    pub fed : TurnIsFed were_fed request.job.max_bytes input count bytes
+    pub told : HasTold watch labels request.job.scale request.patterns
+        (rows_for (all_names request.patterns)
+        (request.recording false (take request.job.max_bytes bytes)).stretches) before now
 
 -- there are as many labels as patterns
 pub labels_count : {watch : Watch} {labels : List (List ℕ)} {scale : ℕ} {patterns : List Sought}
@@ -134,6 +98,11 @@ IsAsked-next one two = record {
 -- what is known of what bytes say by the terms of a reader
 module _ {R Terms : Type 0} (recording : Terms → Bool → List ℕ → Recording) (terms : R → Terms)
   where
+    pub starts_of : ((all : Terms) → (recording all false []).stretches ≡ [])
+        → (each : List (Fed R)) → (recording_by recording terms each false []).stretches ≡ []
+    starts_of starts [] = refl
+    starts_of starts (fed ∷ others) = starts (terms fed.reader)
+
     pub laws_of : ((all : Terms) → (recording all false []).stretches ≡ [])
         → ((all : Terms) (closed : Bool) (first more : List ℕ)
         → Grows (recording all false first) (recording all closed (first ++ more)))
@@ -152,25 +121,18 @@ module _ {R Terms : Type 0} (recording : Terms → Bool → List ℕ → Recordi
       is_trace = is_trace (terms fed.reader);
     }
 
-    pub faultless_by : (represents : R → List ℕ → Type 0)
-        → ((reader : R) (bytes : List ℕ) → represents reader bytes
-        → (recording (terms reader) false bytes).fault ≡ None)
-        → (input : Input R) (bytes : List ℕ) → WereFed terms represents input bytes
-        → (recording_of recording terms input false bytes).fault ≡ None
-    faultless_by represents faultless input bytes fed = each input.each.items fed.stand
-      where
-        each : (readers : List (Fed R)) → AllStand terms represents fed.all bytes readers
-            → (recording_by recording terms readers false bytes).fault ≡ None
-        each [] stand = refl
-        each (first ∷ others) stand = faultless first.reader bytes stand.0.1
-
+    -- readers that were fed nothing found no fault
     pub faultless_new : (represents : R → List ℕ → Type 0) (names : R → Vocabulary)
         → ((reader : R) (bytes : List ℕ) → represents reader bytes
         → (recording (terms reader) false bytes).fault ≡ None)
         → (input : Input R) → IsNew terms represents names input
         → (recording_of recording terms input false []).fault ≡ None
-    faultless_new represents names faultless input new =
-        faultless_by represents faultless input [] new.fed
+    faultless_new represents names faultless input new = each input.each.items new.fed.stand
+      where
+        each : (readers : List (Fed R)) → AllStand terms represents new.fed.all [] readers
+            → (recording_by recording terms readers false []).fault ≡ None
+        each [] stand = refl
+        each (first ∷ others) stand = faultless first.reader [] stand.0.1
 
 none_taken : (limit : ℕ) → take {A = ℕ} limit [] ≡ []
 none_taken limit = take_all {A = ℕ} limit [] (omega arith)
@@ -178,7 +140,7 @@ none_taken limit = take_all {A = ℕ} limit [] (omega arith)
 none_read : (input : InputTold) → (IsTrue input.now.opened → Keeps input.before.file input.now.left)
     → WereRead input []
 none_read input kept = record {
-  of_open = λ is_open. Consumes-keeps input.before.file input.before.file input.now.left []
+  of_open = λ is_open. Consumes-kept input.before.file input.before.file input.now.left []
       (Consumes-nil input.before.file)
       (kept is_open);
   of_closed = λ closed. refl;

@@ -73,7 +73,7 @@ pub record IsTold (request : Request) (input : InputTold) (output : OutputTold) 
   pub written : WroteText output text
 
 -- A write failed, within the block of a stretch or behind all blocks.
-pub record IsCut (request : Request) (input : InputTold) (output : OutputTold) : Type 0 where
+pub record IsToldInPart (request : Request) (input : InputTold) (output : OutputTold) : Type 0 where
   pub reads : AllReadsGood input
   pub front : List ℕ
   pub text : List ℕ
@@ -87,7 +87,7 @@ EndsTelling request input output (Err (Trace fault)) =
     IsInputKind fault.kind × EndsAtInput (refuses fault) request input output
 EndsTelling request input output (Err TooLong) = EndsAtInput exceeds request input output
 EndsTelling request input output (Err Read) = EndsReadFault request input output
-EndsTelling request input output (Err Write) = IsCut request input output
+EndsTelling request input output (Err Write) = IsToldInPart request input output
 EndsTelling request input output (Err Memory) =
     AllReadsGood input × StandsAtMemory request input output
 EndsTelling request input output (Err fault) = ⊥

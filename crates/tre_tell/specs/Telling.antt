@@ -155,11 +155,14 @@ pub record ClosingIsCut (scale : ℕ) (patterns : List Sought) (rows : List (Lis
       (blocks_text scale accounts (first_row rows) ++ ending_text scale accounts (first_row rows))
       before now
 
--- What stands there where the ends of the traces weren't told, or a first part of it was.
-abbrev pub StopsAtEnd : ℕ → List Sought → List (List Segment) → List Timeline → Option (List ℕ) →
-    Option (List ℕ) → Fault → Type 0
-StopsAtEnd scale patterns rows traces before now Write =
-    ClosingIsCut scale patterns rows traces before now
-StopsAtEnd scale patterns rows traces before now Memory =
+-- How it ended to tell what the ends of the rows complete, and where they are: where memory was
+-- wanting nothing of it was written.
+abbrev pub EndsClosing : ℕ → List Sought → List (List Segment) → List ℕ → Option (List ℕ) →
+    Option (List ℕ) → Result (Unit {0}) Fault → Type 0
+EndsClosing scale patterns rows lasts before now (Ok done) =
+    HasClosed scale patterns rows (timelines rows lasts) before now
+EndsClosing scale patterns rows lasts before now (Err Write) =
+    ClosingIsCut scale patterns rows (timelines rows lasts) before now
+EndsClosing scale patterns rows lasts before now (Err Memory) =
     BlocksWritten scale patterns rows before now
-StopsAtEnd scale patterns rows traces before now fault = ⊥
+EndsClosing scale patterns rows lasts before now (Err fault) = ⊥

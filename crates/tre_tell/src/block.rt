@@ -1,14 +1,13 @@
 // The block of a column, and what stands behind all blocks, given to the output as one text each.
-ghost use Rattle.std.specs.Prelude.{◌≡◌, ◌≤◌, ℕ, List, Option, IfOk, IfErr, OnOk, length, map, string_bytes};
+ghost use Rattle.std.specs.Prelude.{◌≡◌, ◌≤◌, ℕ, List, Option, IfOk, IfErr, length, map, string_bytes};
 ghost use Rattle.tre_decimal.specs.declared.TheConstants.{SCALE_MAX};
 ghost use Rattle.tre_online.specs.Watch.{trees_of, ended_of_each, Watches, pushed_each, TellEach};
 ghost use Rattle.tre_tell.specs.Sought.{Sought};
-ghost use Rattle.tre_tell.specs.Telling.{timelines, CanTell, HasRows, HasTold, StopsAtColumn, HasWriteCause, HasClosed, StopsAtEnd};
+ghost use Rattle.tre_tell.specs.Telling.{CanTell, HasRows, HasTold, StopsAtColumn, HasWriteCause, EndsClosing};
 ghost use Rattle.tre_trace.specs.declared.segment.Segment.{Segment};
 
-use crate::output::write_bytes;
 use crate::text::{write_sets, write_told};
-use tre_feed::Fault;
+use tre_feed::{Fault, write_bytes};
 use tre_io::Sink;
 use tre_online::{Watch, want_of_memory};
 use tre_trace::Segment;
@@ -79,18 +78,11 @@ pub fn tell_end<O: Sink>(
     requires count { length lasts.now ≡ length (trees_of watch) }
     requires labels { length labels.now ≡ length (trees_of watch) }
     requires scale { scale ≤ SCALE_MAX }
-    ensures told { (patterns : List Sought) (rows : List (List Segment))
+    ensures tells { (patterns : List Sought) (rows : List (List Segment))
         (before : Option (List ℕ)) →
         HasTold watch (map string_bytes labels.now) scale patterns rows before
         (O.told out.old).written →
-        OnOk result (HasClosed scale patterns rows (timelines rows lasts.now) before
-        (O.told out.new).written) }
-    ensures stops { (patterns : List Sought) (rows : List (List Segment))
-        (before : Option (List ℕ)) →
-        HasTold watch (map string_bytes labels.now) scale patterns rows before
-        (O.told out.old).written →
-        IfErr result (StopsAtEnd scale patterns rows (timelines rows lasts.now) before
-        (O.told out.new).written) }
+        EndsClosing scale patterns rows lasts.now before (O.told out.new).written result }
     ensures cause { HasWriteCause (O.told out.old).faults (O.told out.new).faults result }
 {
     let end = watch.at();

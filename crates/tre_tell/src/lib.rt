@@ -15,9 +15,7 @@
 
 mod block;
 pub mod laws;
-mod output;
 mod telling;
 mod text;
 
-pub use output::{write_bytes, write_text};
 pub use telling::tell_matches;

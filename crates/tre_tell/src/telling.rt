@@ -113,6 +113,5 @@ pub fn tell_matches<S: Source, R: TraceReader + Drop, O: Sink>(
         }
     }
     let lasts = input.lasts(alloc)?;
-    tell_end(&lasts, labels, job.scale, watch, &mut room.text, out)?;
-    Ok(())
+    tell_end(&lasts, labels, job.scale, watch, &mut room.text, out)
 }

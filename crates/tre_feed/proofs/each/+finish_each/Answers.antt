@@ -1,6 +1,6 @@
 use Rattle.std.proofs.Common.{◌≡◌, ◌++◌, true, false, length, take, refl, ap, sym, subst, rules}
 use Rattle.tre_trace.specs.Reading.{Vocabulary, segments_for}
-use Rattle.tre_feed.specs.Asked.{Asked}
+use Rattle.tre_feed.specs.Each.{ReadBy}
 use Rattle.tre_feed.proofs.Standing.{asked_again, row_begins, row_more, rows_begin}
 use Rattle.tre_feed.proofs.Begun.{none_left}
 use Rattle.tre_feed.proofs.each.+finish_each.Goals as goal
@@ -22,7 +22,7 @@ returns-clause-rows g t c = λ terms bytes added waiting stand beyond rows ok.
     let cases = c.in-Some.ensures.cases.0 in
     let all = rw cases at stand in
     let are = rw cases at rows in
-    let same = ap (λ (asked : Asked g.R.TraceReader.Terms). asked.names) c.finish.ensures.same in
+    let same = ap (λ (asked : ReadBy g.R.TraceReader.Terms). asked.names) c.finish.ensures.same in
     let takes = rw all.0.0 at (c.if-not-finish.ensures.takes bytes all.0.1) in (
       subst (λ (names : Vocabulary). c.finish.new.self.row.items
           ≡ segments_for names (waiting ++ added)) (sym same)
@@ -42,7 +42,7 @@ returns-clause-front g t c = λ terms bytes waiting stand rows.
     let cases = c.in-Some.ensures.cases.0 in
     let all = rw cases at stand in
     let are = rw cases at rows in
-    let same = ap (λ (asked : Asked g.R.TraceReader.Terms). asked.names) c.finish.ensures.same in (
+    let same = ap (λ (asked : ReadBy g.R.TraceReader.Terms). asked.names) c.finish.ensures.same in (
       subst (λ (names : Vocabulary). take (length waiting) c.finish.new.self.row.items
           ≡ segments_for names waiting) (sym same)
           (row_begins _ _ _ _ _ _ _ (c.finish.ensures.takes bytes all.0.1) waiting are.0),

@@ -12,8 +12,8 @@ write_sets-requires-clause-count g c =
     ∙ (count_told _ _ _ _ _ (c.in_ok-told.ensures c.requires.reads.rows c.requires.reads.stands)
     ∙ sym c.requires.labels)
 
-pub returns-in_err-write_bytes-clause-stops : goal.returns-in_err-write_bytes-clause-stops
-returns-in_err-write_bytes-clause-stops g c =
+pub returns-in_err-write_bytes-clause-tells : goal.returns-in_err-write_bytes-clause-tells
+returns-in_err-write_bytes-clause-tells g c =
     let p = err_from_is_err_and c.from_residual-in_err-write_bytes.result
     c.from_residual-in_err-write_bytes.ensures.1 in
     λ patterns rows before so_far.
@@ -25,8 +25,8 @@ returns-in_err-write_bytes-clause-stops g c =
     (from_place _ _ _ c.deref-2.ensures.value c.in_ok-begin.ensures.within)
     c.in_err-write_bytes.ensures.part))
 
-pub returns-clause-told : goal.returns-clause-told
-returns-clause-told g c = λ patterns rows before so_far. HasClosed-told c.args.lasts.now _ _ _
+pub returns-clause-tells : goal.returns-clause-tells
+returns-clause-tells g c = λ patterns rows before so_far. HasClosed-told c.args.lasts.now _ _ _
     so_far (c.in_ok-told.ensures rows so_far.stands)
     (rw (c.deref.ensures.value, c.into_sets.ensures, c.at-end.ensures) at c.in_ok-begin.ensures.text)
     (subst (λ bytes. Appends (g.O.Sink.told c.args.out.now).written

@@ -1,4 +1,5 @@
 use Rattle.std.proofs.Common.{◌≡◌, ◌+◌, ◌-◌, [], map, string_bytes, true}
+use Rattle.tre_feed.specs.Input.{input_told}
 use Rattle.tre_feed.specs.Standing.{IsAsked, Wait, WereFed, limit_of, recording_of, taken_of}
 use Rattle.tre_tell.specs.Request.{request_by}
 use Rattle.tre_tell.proofs.Loop.{IsTelling}
@@ -14,8 +15,8 @@ invariant-loop-room g l =
     record {
       telling : IsTelling (request_by l.job (map string_bytes l.labels) l.patterns
           (recording_of reader.recording reader.terms l.fn.input))
-          (WereFed reader.terms reader.represents l.input) (source.told l.fn.source).file
-          (source.told l.source).left (source.told l.source).found (taken_of l.input) l.watch
+          (WereFed reader.terms reader.represents l.input)
+          (input_told (source.told l.fn.source) (source.told l.source)) (taken_of l.input) l.watch
           (map string_bytes l.labels) (sink.told l.fn.out).written (sink.told l.out).written;
       none : Wait reader.names l.input [];
       same : IsAsked reader.names reader.terms reader.recording l.fn.input l.input;

@@ -4,7 +4,8 @@ use Rattle.tre_trace.specs.Trace.{IsTrace}
 use Rattle.tre_feed.specs.Input.{input_told}
 use Rattle.tre_feed.specs.Packing.{ArePacked}
 use Rattle.tre_feed.specs.Standing.{Wait, WereFed, recording_of}
-use Rattle.tre_feed.proofs.Collected.{HasRead-bounded, IsCollected-as, IsCollected-more, IsWhole-ended, StopsReading-turn, StopsReading-unread, starts_by, told_more, told_start, traces_by}
+use Rattle.tre_feed.proofs.Collected.{IsCollected-as, IsCollected-more, IsWhole-ended, StopsReading-turn, StopsReading-unread, starts_by, told_more, told_start, traces_by}
+use Rattle.tre_feed.proofs.Pieces.{EndsTurn-bounded, said_whole}
 use Rattle.tre_feed.proofs.Seeing.{ArePacked-kept}
 use Rattle.tre_feed.proofs.input.Input.collect.Goals as goal
 
@@ -43,7 +44,7 @@ returns-in_err-more-clause-stops g c =
 
 pub returns-in_err-more-clause-bounded : goal.returns-in_err-more-clause-bounded
 returns-in_err-more-clause-bounded g c =
-    search (rules, HasRead-bounded, c.loop-more.invariant, c.in_err-more.ensures.read)
+    search (rules, EndsTurn-bounded, c.loop-more.invariant, c.in_err-more.ensures.ends)
 
 pub pack-requires : goal.pack-requires
 pack-requires g c =
@@ -51,8 +52,8 @@ pack-requires g c =
     let inv = c.loop-more.invariant in
     let so_far = inv.collected in
     let old = c.loop-more.self in
-    let file = (g.S.Source.told c.args.source.now).file in
-    let read = c.in_ok-more.ensures.read file so_far.bytes so_far.fed in
+    let read = c.in_ok-more.ensures.ends (g.S.Source.told c.args.source.now) so_far.bytes so_far.fed
+    in
     record {
       told = (recording_of reader.recording reader.terms old false
           (take old.limit so_far.bytes)).stretches;
@@ -68,7 +69,7 @@ pack-requires g c =
 
 pub returns-in_err-pack-clause-bounded : goal.returns-in_err-pack-clause-bounded
 returns-in_err-pack-clause-bounded g c =
-    search (rules, HasRead-bounded, c.loop-more.invariant, c.in_ok-more.ensures.read)
+    search (rules, EndsTurn-bounded, c.loop-more.invariant, c.in_ok-more.ensures.ends)
 
 pub loop-more-preserved : goal.loop-more-preserved
 loop-more-preserved g c =
@@ -76,7 +77,6 @@ loop-more-preserved g c =
     let source = g.S.Source in
     let inv = c.loop-more.invariant in
     let so_far = inv.collected in
-    let file = (source.told c.args.source.now).file in
     let old = c.loop-more.self in
     let mid = c.next.new.self in
     let new = c.clear.new.self in
@@ -91,10 +91,10 @@ loop-more-preserved g c =
     c.clear.ensures.views (c.in_ok-pack.ensures told added packed wait) in
     let same = c.in_ok-more.ensures.same in
     let cleared = c.clear.ensures.same in
-    let read = IsCollected-more said old.limit file (source.told c.next.new.source).left
-    (source.told c.next.new.source).found mid.taken new.taken so_far.bytes
-    (ArePacked reader.names new c.pack.new.traces)
-    (rw c.if-not-more.false at (c.in_ok-more.ensures.ends file so_far.bytes so_far.fed)) inv.none
+    let before = source.told c.args.source.now in
+    let read = IsCollected-more said old.limit (input_told before (source.told c.next.new.source))
+    mid.taken new.taken so_far.bytes (ArePacked reader.names new c.pack.new.traces)
+    (rw c.if-not-more.false at (c.in_ok-more.ensures.ends before so_far.bytes so_far.fed)) inv.none
     pack c.clear.ensures.fed c.clear.ensures.taken in
     record {
       collected = IsCollected-as (WereFed reader.terms reader.represents new)
@@ -107,14 +107,16 @@ loop-more-preserved g c =
         said = cleared.said ∙ same.said ∙ inv.same.said;
         limit = cleared.limit ∙ same.limit ∙ inv.same.limit;
       };
-      opened = c.next.ensures.same_opened ∙ inv.opened;
-      sound = c.next.ensures.same_sound ∙ inv.sound;
-      no_fault = c.in_ok-more.ensures.cause ∙ inv.no_fault;
+      opened = c.next.ensures.source.same_opened ∙ inv.opened;
+      sound = c.next.ensures.source.same_sound ∙ inv.sound;
+      no_fault = c.in_ok-more.ensures.source.cause ∙ inv.no_fault;
     }
 
 pub returns-clause-bounded : goal.returns-clause-bounded
 returns-clause-bounded g c =
-    search (rules, c.loop-more.invariant, g.S.Source.told, c.in_ok-more.ensures.read)
+    let inv = c.loop-more.invariant in
+    λ opened. rw inv.same.limit at
+    (EndsTurn-bounded (c.in_ok-more.ensures.ends _ _ inv.collected.fed))
 
 pub returns-clause-read : goal.returns-clause-read
 returns-clause-read g c =
@@ -122,7 +124,6 @@ returns-clause-read g c =
     let source = g.S.Source in
     let inv = c.loop-more.invariant in
     let so_far = inv.collected in
-    let file = (source.told c.args.source.now).file in
     let old = c.loop-more.self in
     let mid = c.next.new.self in
     let new = c.clear.new.self in
@@ -135,19 +136,22 @@ returns-clause-read g c =
     → ArePacked reader.names new c.pack.new.traces (told ++ added) =
     λ added wait. ArePacked-kept reader.names mid new c.pack.new.traces (told ++ added)
     c.clear.ensures.views (c.in_ok-pack.ensures told added packed wait) in
-    let input = input_told (source.told c.args.source.now) (source.told c.next.new.source) in
-    let ended = rw c.if-not-more.true at
-    (c.in_ok-more.ensures.ends file so_far.bytes so_far.fed) in
-    let whole = said true so_far.bytes in
-    let all = told_more (ArePacked reader.names new c.pack.new.traces) ended.all inv.none pack in
+    let before = source.told c.args.source.now in
+    let ends = rw c.if-not-more.true at
+    (c.in_ok-more.ensures.ends before so_far.bytes so_far.fed) in
+    let whole = said true (so_far.bytes ++ ends.piece) in
+    let all = rw (said_whole ends) at
+    (told_more (ArePacked reader.names new c.pack.new.traces) ends.adds inv.none pack) in
     λ asked asks.
-    rw (← inv.same.said, ← inv.same.limit) (IsWhole-ended asked said old.limit input so_far.bytes _
-    (c.next.ensures.same_opened ∙ inv.opened) (c.in_ok-more.ensures.cause ∙ inv.no_fault) ended
+    rw (← inv.same.said, ← inv.same.limit) (IsWhole-ended asked said old.limit
+    (input_told before (source.told c.next.new.source)) _
+    (c.next.ensures.source.same_opened ∙ inv.opened)
+    (c.in_ok-more.ensures.source.cause ∙ inv.no_fault) ends
     (c.end_traces.ensures asked whole (c.clear.ensures.same.asks asked
     (c.in_ok-more.ensures.same.asks asked (inv.same.asks asked asks))) all
-    (c.clear.ensures.ended whole.last ended.ended))
+    (c.clear.ensures.ended whole.last ends.finds.2))
     (traces_by reader.terms reader.recording g.met.R.TraceReader.is_trace old.each.items true
-    so_far.bytes))
+    (so_far.bytes ++ ends.piece)))
 
 pub returns-in_err-more-clause-by_name : goal.returns-in_err-more-clause-by_name
 returns-in_err-more-clause-by_name g c =

@@ -1,4 +1,5 @@
 use Rattle.std.proofs.Common.{◌≡◌, ◌+◌, ◌-◌, [], true}
+use Rattle.tre_feed.specs.Input.{input_told}
 use Rattle.tre_feed.specs.Packing.{ArePacked}
 use Rattle.tre_feed.specs.Standing.{IsAsked, Wait, WereFed, recording_of}
 use Rattle.tre_feed.proofs.Collected.{IsCollected}
@@ -14,9 +15,7 @@ invariant-loop-more g l =
       collected : IsCollected (WereFed reader.terms reader.represents l.self)
           (ArePacked reader.names l.self l.traces)
           (recording_of reader.recording reader.terms l.self)
-          l.self.limit (source.told l.fn.source).file (source.told l.source).left
-          (source.told l.source).found
-          l.self.taken;
+          l.self.limit (input_told (source.told l.fn.source) (source.told l.source)) l.self.taken;
       none : Wait reader.names l.self [];
       same : IsAsked reader.names reader.terms reader.recording l.fn.self l.self;
       opened : (source.told l.source).opened ≡ true;

@@ -30,29 +30,16 @@ returns-clause-views g c =
     (ap asked (with_items_is own fed same)
     ∙ (c.feed_next.ensures.same ∙ ap asked c.deref_mut-2.ensures.value)) refl
 
-pub returns-clause-read : goal.returns-clause-read
-returns-clause-read g c =
+pub returns-clause-ends : goal.returns-clause-ends
+returns-clause-ends g c =
     let own = c.args.self.now.each in
     let fed = c.feed_next.new.each in
     let same : length fed ≡ own.len =
     omega (arith, c.feed_next.auto.each, c.deref_mut-2.ensures.len) in
-    rw (with_items_is own fed same) (rw c.deref_mut-2.ensures.value at c.feed_next.ensures.read)
+    rw (with_items_is own fed same) (rw c.deref_mut-2.ensures.value at c.feed_next.ensures.ends)
 
-pub returns-clause-ends : goal.returns-clause-ends
-returns-clause-ends g c =
-    search (rules, with_items_is, c.args.self.now.each, c.feed_next.new.each)
-
-pub returns-clause-cause : goal.returns-clause-cause
-returns-clause-cause g c = c.feed_next.ensures.source.cause
-
-pub returns-clause-sound : goal.returns-clause-sound
-returns-clause-sound g c = c.feed_next.ensures.source.no_failure
-
-pub returns-clause-same_opened : goal.returns-clause-same_opened
-returns-clause-same_opened g c = c.feed_next.ensures.source.same_opened
-
-pub returns-clause-same_sound : goal.returns-clause-same_sound
-returns-clause-same_sound g c = c.feed_next.ensures.source.same_sound
+pub returns-clause-source : goal.returns-clause-source
+returns-clause-source g c = c.feed_next.ensures.source
 
 pub invariant_of-self : goal.invariant_of-self
 invariant_of-self g c =

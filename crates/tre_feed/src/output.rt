@@ -1,10 +1,10 @@
-// What is written.
+// What is written to an output, with the fault that ends the work where it fails.
 ghost use Rattle.std.specs.Prelude.{◌≡◌, IfErr, OnOk, OnErr};
 ghost use Rattle.std.specs.Io.KnownBytes.{Appends};
 ghost use Rattle.tre_io.specs.Faults.{count_after};
 ghost use Rattle.tre_io.specs.Written.{AppendsPart};
 
-use tre_feed::Fault;
+use crate::fault::Fault;
 use tre_io::{Sink, put_all};
 
 /// Writes a text, in one call of `put_all`.
