@@ -4,7 +4,7 @@ use Rattle.std.proofs.lemmas.Result.{IfOk-weaker}
 use Rattle.tre_pairs.specs.Pairs.{Pairs, Composed, Either, Both, Lasting, Chain}
 use Rattle.tre_pairs.proofs.Laws.{IsOrdered, IsInstant, Agree}
 use Rattle.tre_pairs.proofs.Agreement.{Agree-Composed, Agree-Chain, Agree-Lasting}
-use Rattle.tre_pairs.proofs.Chains.{Chain-none}
+use Rattle.tre_pairs.proofs.Chains.{Composed-assoc, Chain-none}
 use Rattle.tre_pairs.proofs.Order.{IsOrdered-Lasting, IsOrdered-Chain}
 use Rattle.tre_pairs.proofs.Shortening.{Agree-trans, Lasting-Composed, Lasting-Chain, Lasting-Either}
 use Rattle.tre_zone.specs.Interval.{IntervalEnds, LastsWithin}
@@ -18,7 +18,9 @@ use Rattle.tre_trace.specs.Trace.{end_of}
 use Rattle.tre_syntax.specs.Meaning.{MatchesRest}
 use Rattle.tre_syntax.specs.PatternTree.{PatternTree, atom, empty, sequence, alternation, intersection, repetition, restriction}
 use Rattle.tre_syntax.specs.Rest.{Rest, AtomMatches}
+use Rattle.tre_syntax.proofs.Atoms.{Scales-Atom}
 use Rattle.tre_syntax.proofs.CutMeaning.{IsOrdered-rest}
+use Rattle.tre_syntax.proofs.MeaningLaws.{Scales-Meaning}
 use Rattle.tre_syntax.proofs.Repeating.{repetition_nested}
 use Rattle.tre_offline.specs.Lengths.{LastUpTo, IsRepetition, IsOwnIteration, Spans}
 use Rattle.tre_offline.proofs.Iterating.{repetition_once, repetition_option}
@@ -211,6 +213,18 @@ iterated_exact longest first second rest zones own again held =
     (sym again)
     (same_exact longest first (sequence first (repetition first)) rest zones
     (λ a b n. let same = own.same rest a b n in (same.1, same.0)) held)
+
+-- A sequence of three is found from its end too.
+pub turned_exact : (longest : Option ℕ) (begin middle right : PatternTree) (rest : Rest)
+    (zones : List ZoneBounds) → HoldExactly zones (Short longest (sequence begin (sequence middle right)) rest)
+    → HoldExactly zones (Short longest (sequence (sequence begin middle) right) rest)
+turned_exact longest begin middle right rest zones =
+    same_exact longest (sequence begin (sequence middle right))
+    (sequence (sequence begin middle) right) rest zones
+    (λ a b n.
+    let same = Composed-assoc (MatchesRest begin rest) (MatchesRest middle rest)
+    (MatchesRest right rest) (Scales-Meaning (AtomMatches rest) (Scales-Atom rest) begin)
+    (Scales-Meaning (AtomMatches rest) (Scales-Atom rest) right) a b n in (same.1, same.0))
 
 -- A repetition or the empty stretch is the repetition.
 pub option_exact : (longest : Option ℕ) (left right : PatternTree) (rest : Rest)

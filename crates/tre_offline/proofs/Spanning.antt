@@ -2,7 +2,7 @@
 use Rattle.std.proofs.Common.{◌≡◌, ◌↔◌, ◌+◌, ◌*◌, ◌≤◌, ◌∙◌, ℕ, List, [], ◌∷◌, ⊎_elim, inl, inr, refl, sym, subst, arith}
 use Rattle.std.proofs.Math.Nat.{mul_assoc, mul_left_comm, mul-pos, mul-le-mul_left}
 use Rattle.tre_pairs.specs.Pairs.{Pairs, Composed, LeadTo, Chain}
-use Rattle.tre_pairs.proofs.Laws.{Scales, IsOrdered}
+use Rattle.tre_pairs.proofs.Laws.{Scales}
 use Rattle.tre_pairs.proofs.Scaling.{moved}
 use Rattle.tre_pairs.proofs.Chains.{Composed-at, Chain-none, Chain-one, Chain-cases}
 use Rattle.tre_state.specs.StateTree.{always, HoldsOn}
@@ -81,8 +81,12 @@ module _ (left right : PatternTree) (rest : Rest) (a b c d n : ℕ) (le : b ≤ 
     midpoint = f * other.midpoint;
     left = spans.each rest (k * f * a) (k * one.midpoint) (k * f * c) (f * other.midpoint)
         (k * f * n)
-        (omega (arith, further, (IsOrdered-rest right rest).le (k * one.midpoint) (k * f * b)
-        (k * f * n) first_right))
+        (omega (
+          arith,
+          further,
+          (IsOrdered-rest right rest).le (k * one.midpoint) (k * f * b)
+              (k * f * n) first_right,
+        ))
         first_left second_left;
     right = second_right;
   }
@@ -95,8 +99,12 @@ module _ (left right : PatternTree) (rest : Rest) (a b c d n : ℕ) (le : b ≤ 
     left = first_left;
     right = spans.each rest (k * one.midpoint) (k * f * b) (f * other.midpoint) (k * f * d)
         (k * f * n)
-        (omega (arith, further, (IsOrdered-rest left rest).le (k * f * c) (f * other.midpoint)
-        (k * f * n) second_left))
+        (omega (
+          arith,
+          further,
+          (IsOrdered-rest left rest).le (k * f * c) (f * other.midpoint)
+              (k * f * n) second_left,
+        ))
         first_right second_right;
   }
 

@@ -32,6 +32,13 @@ pub(crate) fn spans(expr: &Expr) -> bool
     }
 }
 
+/// Whether a sequence that ends with the two is found from its end: where anything may come last, and
+/// not before it, what begins with the part before last is few, and what it ends is much. What is
+/// found depends on it in no way.
+pub(crate) fn comes_last(before: &Expr, last: &Expr) -> bool {
+    spans(last) && !spans(before)
+}
+
 fn is_yes(state: &State) -> bool
     ensures { IsTrue result → states.tree_of state.now ≡ always }
 {

@@ -14,7 +14,7 @@ ghost use Rattle.tre_offline.specs.MatchSet.{IsMatchSet, AreMatchesAmong};
 
 use crate::atoms::Atoms;
 use crate::edged::{edged, unlimited};
-use crate::iterated::{is_eps, is_iterated, repeats, spans};
+use crate::iterated::{comes_last, is_eps, is_iterated, repeats, spans};
 use crate::lengths::{goes_first, is_repetition, longest_beside, longest_for};
 use crate::operators::{followed, iterated, joined, met, repeated, restricted, shortened};
 use std::alloc::{AllocError, Global};
@@ -159,6 +159,15 @@ pub(crate) fn matches_of<A: Atoms>(
                 let step = matches_of(alloc, left, atoms, longest);
                 return iterated(alloc, step, atoms.begin(), atoms.end(), longest);
             }
+            if let Expr::Seq(begin, middle) = &**left {
+                if comes_last(middle, right) {
+                    let first = matches_of(alloc, begin, atoms, longest)?;
+                    let second = matches_of(alloc, middle, atoms, longest)?;
+                    let third = matches_of(alloc, right, atoms, longest);
+                    let behind = followed(alloc, &second, third, longest);
+                    return followed(alloc, &first, behind, longest);
+                }
+            }
             let first = matches_of(alloc, left, atoms, longest)?;
             let second = matches_of(alloc, right, atoms, longest);
             followed(alloc, &first, second, longest)
@@ -247,6 +256,15 @@ fn last_matches_of<T: AnyTrace + Drop>(
                 let end = Atoms::end(&&trace);
                 let step = last_matches_of(alloc, left, trace, longest);
                 return iterated(alloc, step, begin, end, longest);
+            }
+            if let Expr::Seq(begin, middle) = &**left {
+                if comes_last(middle, right) {
+                    let first = matches_of(alloc, begin, &&trace, longest)?;
+                    let second = matches_of(alloc, middle, &&trace, longest)?;
+                    let third = last_matches_of(alloc, right, trace, longest);
+                    let behind = followed(alloc, &second, third, longest);
+                    return followed(alloc, &first, behind, longest);
+                }
             }
             let first = matches_of(alloc, left, &&trace, longest)?;
             let second = last_matches_of(alloc, right, trace, longest);

@@ -280,62 +280,62 @@ AreStepsOf-limit steps zones zone limit canonical chains are = record {
 -- Steps that are one step or more of the zones themselves, beside the zones: one or more of them are
 -- one or more of the zones.
 module _ (steps zones : List ZoneBounds) (E : Pairs) (e : Scales E) (are : AreStepsOf steps zones)
-    where
-  abbrev R : Pairs
-  R = SetHolds zones
+  where
+    abbrev R : Pairs
+    R = SetHolds zones
 
-  abbrev S : Pairs
-  S = SetHolds steps
+    abbrev S : Pairs
+    S = SetHolds steps
 
-  r : Scales R
-  r = Scales-SetHolds zones
+    r : Scales R
+    r = Scales-SetHolds zones
 
-  longer : (a b n : ℕ) → 0 < n → Chain S E a b n ↔ Chain R E a b n
-  longer = (Chain-longer R S E r e
-      (λ a b n some h. Chain-step R SameTime r Scales-SameTime a b n (are.long a b n some h))
-      are.more).at
+    longer : (a b n : ℕ) → 0 < n → Chain S E a b n ↔ Chain R E a b n
+    longer = (Chain-longer R S E r e
+        (λ a b n some h. Chain-step R SameTime r Scales-SameTime a b n (are.long a b n some h))
+        are.more).at
 
-  onto : Implies (Composed (Chain R SameTime) (Chain R E)) (Chain R E)
-  onto = record {
-    at = λ a b n h. (Scales-Chain R E r e).down h.factor a b n h.positive
-        (Chain-onto R SameTime E r Scales-SameTime e IsInstant-SameTime (h.factor * a) h.midpoint
-        (h.factor * b) (h.factor * n) h.left h.right);
-  }
+    onto : Implies (Composed (Chain R SameTime) (Chain R E)) (Chain R E)
+    onto = record {
+      at = λ a b n h. (Scales-Chain R E r e).down h.factor a b n h.positive
+          (Chain-onto R SameTime E r Scales-SameTime e IsInstant-SameTime (h.factor * a) h.midpoint
+          (h.factor * b) (h.factor * n) h.left h.right);
+    }
 
-  fewer : (a b n : ℕ) → 0 < n → SomeSteps S E a b n → SomeSteps R E a b n
-  fewer a b n some h =
-      let fine : 0 < h.factor * n = mul-pos h.positive some in
-      let all : Composed (SomeSteps R SameTime) (Chain R E) a b n = record {
-        factor = h.factor;
-        positive = h.positive;
-        midpoint = h.midpoint;
-        left = are.long (h.factor * a) h.midpoint (h.factor * n) fine h.left;
-        right = (longer h.midpoint (h.factor * b) (h.factor * n) fine).0 h.right;
-      } in
-      (Implies-Composed R R (Composed (Chain R SameTime) (Chain R E)) (Chain R E)
-      (record { at = λ a b n x. x }) onto).at a b n
-      (Composed-assoc_right R (Chain R SameTime) (Chain R E) (Scales-Chain R E r e) a b n all)
+    fewer : (a b n : ℕ) → 0 < n → SomeSteps S E a b n → SomeSteps R E a b n
+    fewer a b n some h =
+        let fine : 0 < h.factor * n = mul-pos h.positive some in
+        let all : Composed (SomeSteps R SameTime) (Chain R E) a b n = record {
+          factor = h.factor;
+          positive = h.positive;
+          midpoint = h.midpoint;
+          left = are.long (h.factor * a) h.midpoint (h.factor * n) fine h.left;
+          right = (longer h.midpoint (h.factor * b) (h.factor * n) fine).0 h.right;
+        } in
+        (Implies-Composed R R (Composed (Chain R SameTime) (Chain R E)) (Chain R E)
+        (record { at = λ a b n x. x }) onto).at a b n
+        (Composed-assoc_right R (Chain R SameTime) (Chain R E) (Scales-Chain R E r e) a b n all)
 
-  more : (a b n : ℕ) → 0 < n → SomeSteps R E a b n → SomeSteps S E a b n
-  more a b n some h =
-      let fine : 0 < h.factor * n = mul-pos h.positive some in
-      record {
-        factor = h.factor;
-        positive = h.positive;
-        midpoint = h.midpoint;
-        left = are.more (h.factor * a) h.midpoint (h.factor * n) fine h.left;
-        right = (longer h.midpoint (h.factor * b) (h.factor * n) fine).1 h.right;
-      }
+    more : (a b n : ℕ) → 0 < n → SomeSteps R E a b n → SomeSteps S E a b n
+    more a b n some h =
+        let fine : 0 < h.factor * n = mul-pos h.positive some in
+        record {
+          factor = h.factor;
+          positive = h.positive;
+          midpoint = h.midpoint;
+          left = are.more (h.factor * a) h.midpoint (h.factor * n) fine h.left;
+          right = (longer h.midpoint (h.factor * b) (h.factor * n) fine).1 h.right;
+        }
 
-  -- A set of the short ones of such steps, one or more, is one of those of the zones.
-  pub longer_steps : (D : ℕ → ℕ → Type 0) (set : List ZoneBounds)
-      → HoldExactly set (Lasting D (SomeSteps S E)) → HoldExactly set (Lasting D (SomeSteps R E))
-  longer_steps D set held = record {
-    exact = λ a b n some le.
-        let one = held.exact a b n some le in (
-          (λ h.
-              let steps = one.0 h in
-              record { related = fewer a b n some steps.related; admitted = steps.admitted }),
-          (λ h. one.1 (record { related = more a b n some h.related; admitted = h.admitted })),
-        );
-  }
+    -- A set of the short ones of such steps, one or more, is one of those of the zones.
+    pub longer_steps : (D : ℕ → ℕ → Type 0) (set : List ZoneBounds)
+        → HoldExactly set (Lasting D (SomeSteps S E)) → HoldExactly set (Lasting D (SomeSteps R E))
+    longer_steps D set held = record {
+      exact = λ a b n some le.
+          let one = held.exact a b n some le in (
+            (λ h.
+                let steps = one.0 h in
+                record { related = fewer a b n some steps.related; admitted = steps.admitted }),
+            (λ h. one.1 (record { related = more a b n some h.related; admitted = h.admitted })),
+          );
+    }

@@ -123,8 +123,8 @@ fn push_found(chains: &mut ZoneSet, found: Option<Zone>) -> Result<(), AllocErro
     }
 }
 
-// The composition of the two as far as it lasts at most `longest`.
-fn composed_up_to(first: &Zone, second: &Zone, longest: Option<u64>) -> Option<Zone>
+/// The composition of the two as far as it lasts at most `longest`.
+pub(crate) fn composed_up_to(first: &Zone, second: &Zone, longest: Option<u64>) -> Option<Zone>
     requires { IsLongest longest }
     ensures { GivesZone result
         (Lasting (LastsUpTo longest) (Composed (ZoneHolds first.now) (ZoneHolds second.now))) }

@@ -26,3 +26,4 @@ mod limits;
 mod one_way;
 mod parts;
 mod power_limit;
+mod tails;

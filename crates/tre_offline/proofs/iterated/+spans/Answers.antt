@@ -1,8 +1,8 @@
-use Rattle.std.proofs.Common.{◌≡◌, ap, subst, sym, IsTrue}
+use Rattle.std.proofs.Common.{◌≡◌, ap, subst, sym}
 use Rattle.tre_state.specs.State as states
-use Rattle.tre_state.specs.StateTree.{StateTree, always}
+use Rattle.tre_state.specs.StateTree.{StateTree}
 use Rattle.tre_syntax.specs.Expr.{tree_of}
-use Rattle.tre_syntax.specs.PatternTree.{PatternTree, atom, literal, sequence}
+use Rattle.tre_syntax.specs.PatternTree.{atom, literal, sequence}
 use Rattle.tre_offline.specs.Lengths.{Spans}
 use Rattle.tre_offline.proofs.Spanning.{Spans-always, Spans-left, Spans-right}
 use Rattle.tre_offline.proofs.iterated.+spans.Goals as goal

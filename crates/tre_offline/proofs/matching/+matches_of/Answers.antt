@@ -1,10 +1,11 @@
 -- The operator at the top is the tree's, and its parts are those of the tree.
 use Rattle.std.proofs.Common.{◌≡◌, ◌∙◌, ap, refl}
 use Rattle.tre_state.specs.State as states
+use Rattle.std.proofs.lemmas.Result.{IfOk-weaker}
 use Rattle.tre_syntax.specs.Expr.{tree_of}
 use Rattle.tre_syntax.specs.PatternTree.{PatternTree, atom, empty, literal, rise, fall, event, sequence, alternation, intersection, repetition, restriction}
 use Rattle.tre_offline.specs.Lengths.{IsRepetition, IsOwnIteration, Spans}
-use Rattle.tre_offline.proofs.Operations.{nested_exact, iteration_exact, iterated_exact, option_exact, options_exact, spanned_exact, short_of_form}
+use Rattle.tre_offline.proofs.Operations.{nested_exact, iteration_exact, iterated_exact, option_exact, options_exact, spanned_exact, turned_exact, short_of_form}
 use Rattle.tre_offline.proofs.matching.+matches_of.Goals as goal
 
 pub returns-then-goes_first : goal.returns-then-goes_first
@@ -129,17 +130,17 @@ returns-then-repeats g t c =
     (λ zones exact. exact left rest c.begin.ensures c.end.ensures.end c.matches_of-step.ensures)
     c.iterated.ensures
 
-pub returns-in_ok-first-in-Seq : goal.returns-in_ok-first-in-Seq
-returns-in_ok-first-in-Seq g t c =
+pub returns-in_ok-first-in-Seq-2 : goal.returns-in_ok-first-in-Seq-2
+returns-in_ok-first-in-Seq-2 g t c =
     let rest = g.A.Atoms.rest c.args.atoms.now in
-    let left = tree_of c.deref-in-Seq-4.result.now in
-    let right = tree_of c.deref-in-Seq-5.result.now in
+    let left = tree_of c.deref-in-Seq-5.result.now in
+    let right = tree_of c.deref-in-Seq-6.result.now in
     let tree : tree_of c.args.expr.now ≡ sequence left right =
-    rw (c.deref-in-Seq-4.ensures, c.deref-in-Seq-5.ensures) (ap tree_of c.in-Seq.is) in
-    short_of_form c.followed.result c.args.longest rest tree _
-    (λ zones exact. exact left right rest c.in_ok-first-in-Seq.ensures
+    rw (c.deref-in-Seq-5.ensures, c.deref-in-Seq-6.ensures) (ap tree_of c.in-Seq.is) in
+    short_of_form c.followed-in-Seq.result c.args.longest rest tree _
+    (λ zones exact. exact left right rest c.in_ok-first-in-Seq-2.ensures
     c.matches_of-second.ensures)
-    c.followed.ensures
+    c.followed-in-Seq.ensures
 
 pub returns-then-is_eps : goal.returns-then-is_eps
 returns-then-is_eps g t c =
@@ -185,18 +186,18 @@ returns-then-is_repetition-2 g t c =
 pub returns-then-repeats-2 : goal.returns-then-repeats-2
 returns-then-repeats-2 g t c =
     let rest = g.A.Atoms.rest c.args.atoms.now in
-    let once = tree_of c.deref-in-Seq-deref-2.result.now in
+    let once = tree_of c.deref-in-Seq-deref-2-3.result.now in
     let more = tree_of c.deref-then-repeats-2.result.now in
     let step : tree_of c.deref-in-Star-2.result.now ≡ sequence once more =
-    rw (c.deref-in-Seq-deref-2.ensures, c.deref-then-repeats-2.ensures)
-    (ap tree_of c.in-Seq-deref.is) in
+    rw (c.deref-in-Seq-deref-2-3.ensures, c.deref-then-repeats-2.ensures)
+    (ap tree_of c.in-Seq-deref-2.is) in
     let star : tree_of c.args.expr.now ≡ repetition (tree_of c.deref-in-Star-2.result.now) =
     rw c.deref-in-Star-2.ensures (ap tree_of c.in-Star.is) in
     let tree : tree_of c.args.expr.now ≡ repetition (sequence once more) =
     star ∙ ap (λ (t : PatternTree). repetition t) step in
     let again : more ≡ repetition once =
-    rw (c.deref-in-Seq-deref.ensures, ← c.deref-then-repeats-2.ensures) at
-    (c.repeats-in-Seq-deref.ensures c.if-repeats-2.true) in
+    rw (c.deref-in-Seq-deref-2-2.ensures, ← c.deref-then-repeats-2.ensures) at
+    (c.repeats-in-Seq-deref-2.ensures c.if-repeats-2.true) in
     short_of_form c.matches_of-then-repeats-2.result c.args.longest rest tree _
     (λ zones exact. iteration_exact c.args.longest once more rest zones again exact)
     c.matches_of-then-repeats-2.ensures
@@ -266,8 +267,8 @@ returns-else-spans g t c =
     (λ zones exact. exact step rest c.begin-in-Star.ensures c.end-in-Star.ensures.end c.matches_of-step-in-Star.ensures)
     c.repeated-in-Star.ensures
 
-pub returns-in_default-deref-3 : goal.returns-in_default-deref-3
-returns-in_default-deref-3 g t c =
+pub returns-in_default-deref-4 : goal.returns-in_default-deref-4
+returns-in_default-deref-4 g t c =
     let rest = g.A.Atoms.rest c.args.atoms.now in
     let all = tree_of c.deref-in-Within-2.result.now in
     let tree : tree_of c.args.expr.now ≡ restriction all c.in-Within.interval =
@@ -276,3 +277,25 @@ returns-in_default-deref-3 g t c =
     (λ zones exact. exact c.up_to-inner.result c.args.longest all rest c.up_to-inner.ensures.same
     c.matches_of-all.ensures)
     c.restricted.ensures
+
+pub returns-then-comes_last : goal.returns-then-comes_last
+returns-then-comes_last g t c =
+    let rest = g.A.Atoms.rest c.args.atoms.now in
+    let begin = tree_of c.deref-then-comes_last.result.now in
+    let middle = tree_of c.deref-then-comes_last-2.result.now in
+    let right = tree_of c.deref-then-comes_last-3.result.now in
+    let inner : tree_of c.deref-in-Seq-4.result.now ≡ sequence begin middle =
+    rw (c.deref-then-comes_last.ensures, c.deref-then-comes_last-2.ensures)
+    (ap tree_of c.in-Seq-deref.is) in
+    let outer : tree_of c.args.expr.now ≡ sequence (tree_of c.deref-in-Seq-4.result.now) right =
+    rw (c.deref-in-Seq-4.ensures, c.deref-then-comes_last-3.ensures) (ap tree_of c.in-Seq.is) in
+    let tree : tree_of c.args.expr.now ≡ sequence (sequence begin middle) right =
+    outer ∙ ap (λ (t : PatternTree). sequence t right) inner in
+    short_of_form c.followed.result c.args.longest rest tree _
+    (λ zones exact. turned_exact c.args.longest begin middle right rest zones
+    (exact begin (sequence middle right) rest c.in_ok-first-in-Seq.ensures
+    (IfOk-weaker c.followed-behind.result _ _
+    (λ behind told. told middle right rest c.in_ok-second-in-Seq.ensures
+    c.matches_of-third.ensures)
+    c.followed-behind.ensures)))
+    c.followed.ensures
