@@ -5,7 +5,7 @@ use Rattle.std.proofs.lemmas.Int.{ints}
 use Rattle.std.proofs.lemmas.List.{get_or-map, get_or-take, length-map, length-take-le, take_all, take-map}
 use Rattle.std.specs.Prelude.{ℤ, pos, negsuc, ◌<ℤ◌, ◌≤ℤ◌, slice_index_or}
 use Rattle.tre_lanes.specs.Rows.{Reaches, HasNone}
-use Rattle.tre_index.specs.Turn.{IsNoEarlier, AreInTurnTo, AreInTurn, IsEarly, IsLate, AreNotLate, IsFirst, IsAround, IsStretch}
+use Rattle.tre_index.specs.Turn.{IsNoEarlier, AreInTurnTo, AreInTurn, IsEarly, IsLate, AreNotLate, IsFirst, IsStretch}
 
 -- The row of the item at a place.
 pub row_at : {X : Type 0} (f : X → List ℤ) (items : List X) (place : ℕ) (item : X) (row : List ℤ)

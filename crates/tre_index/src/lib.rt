@@ -16,7 +16,7 @@
 pub use row::{HasRow, Row};
 pub use row_index::RowIndex;
 pub use search::next_of_few;
-pub use turn::{Stretch, are_in_turn, count_in_turn, find_stretch};
+pub use turn::{Stretch, are_in_turn, count_in_turn, find_first, find_late, find_stretch};
 pub use zone_index::ZoneIndex;
 pub use zone_keys::{key_after, key_before, key_meeting};
 

@@ -48,10 +48,19 @@ pub fn find_stretch<T: HasRow>(items: &[T], near: usize, key: &Row) -> Stretch
     requires { AreInTurn (map T.row_of items.now) }
     ensures { IsStretch (map T.row_of items.now) key.now result }
 {
-    let early = back_to_early(items, near, key);
-    let from = first_not_early(items, early, key);
-    let to = first_late(items, from, key);
+    let from = find_first(items, near, key);
+    let to = find_late(items, from, items.len(), key);
     Stretch { from, to }
+}
+
+/// The place of the first item that doesn't begin too early to reach the key. The search begins at
+/// the place `near`, and is short where it stands near it.
+pub fn find_first<T: HasRow>(items: &[T], near: usize, key: &Row) -> usize
+    requires { AreInTurn (map T.row_of items.now) }
+    ensures { IsFirst (map T.row_of items.now) key.now result }
+{
+    let early = back_to_early(items, near, key);
+    first_not_early(items, early, key)
 }
 
 // A place, at most `near`, before which each item is too early. Each step back is twice as long as
@@ -118,21 +127,24 @@ fn around_first<T: HasRow>(items: &[T], from: usize, key: &Row) -> Stretch
     }
 }
 
-// The first place from `from` on whose item is too late.
-fn first_late<T: HasRow>(items: &[T], from: usize, key: &Row) -> usize
+/// The first place from `from` on whose item begins too late to reach the key, or the place `most`
+/// behind `from`, where it comes before.
+pub fn find_late<T: HasRow>(items: &[T], from: usize, most: usize, key: &Row) -> usize
     requires turn { AreInTurn (map T.row_of items.now) }
     requires within { from ≤ length items.now }
     ensures rising { from ≤ result }
     ensures within { result ≤ length items.now }
-    ensures none { HasNone (map T.row_of items.now) key.now result (length items.now) }
+    ensures none { result < from + most
+        → HasNone (map T.row_of items.now) key.now result (length items.now) }
     ensures near { AreNotLate (map T.row_of items.now) key.now from result }
 {
-    for place in from..items.len() {
+    let end = items.len().min(from.saturating_add(most));
+    for place in from..end {
         if is_late(&items[place].row(), key) {
             return place;
         }
     }
-    items.len()
+    end
 }
 
 fn is_no_earlier(row: &Row, before: &Row) -> bool

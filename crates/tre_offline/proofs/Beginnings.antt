@@ -1,8 +1,8 @@
 -- What has begun of each form of expression, from what its parts match and what has begun of them.
-use Rattle.std.proofs.Common.{◌≡◌, ◌∙◌, ◌↔◌, ◌<◌, ◌≤◌, ◌-◌, ◌*◌, ℕ, List, [], Option, Some, None, Result, IfOk, inl, inr, ⊎_elim, sym, subst, arith}
+use Rattle.std.proofs.Common.{◌≡◌, ◌∙◌, ◌↔◌, ◌<◌, ◌-◌, ◌*◌, ℕ, List, [], Option, Some, None, Result, IfOk, inl, inr, ⊎_elim, sym, subst, arith}
 use Rattle.std.proofs.lemmas.Result.{IfOk-weaker}
 use Rattle.tre_pairs.specs.Pairs.{Pairs, Composed, Either, Both, Lasting}
-use Rattle.tre_pairs.proofs.Laws.{IsOrdered, IsInstant, Agree}
+use Rattle.tre_pairs.proofs.Laws.{IsOrdered, IsInstant}
 use Rattle.tre_pairs.proofs.Agreement.{Agree-Composed, Agree-Lasting}
 use Rattle.tre_pairs.proofs.Order.{IsOrdered-Lasting}
 use Rattle.tre_pairs.proofs.Shortening.{Agree-trans, Lasting-Composed}

@@ -1,13 +1,13 @@
 -- One or more times, one or more times, is one or more times.
-use Rattle.std.proofs.Common.{ℕ, ◌*◌, ◌↔◌, ⊎_elim, refl, arith}
-use Rattle.tre_pairs.specs.Pairs.{Pairs, Composed, Chain}
+use Rattle.std.proofs.Common.{ℕ, ◌*◌, ◌↔◌, ⊎_elim, inl, refl, arith}
+use Rattle.tre_pairs.specs.Pairs.{Pairs, Composed, Either, Chain}
 use Rattle.tre_pairs.proofs.Laws.{Scales, IsInstant, Implies}
 use Rattle.tre_pairs.proofs.Scaling.{Scales-Chain}
 use Rattle.tre_pairs.proofs.Implication.{Implies-Composed, Implies-Chain}
 use Rattle.tre_pairs.proofs.Chains.{Composed-at, Composed-assoc_right, Chain-none, Chain-one, Chain-join, Chain-step, Chain-cases, Chain-flat}
 use Rattle.tre_trace.specs.Trace.{end_of}
 use Rattle.tre_syntax.specs.Meaning.{MatchesRest}
-use Rattle.tre_syntax.specs.PatternTree.{PatternTree, empty, sequence, repetition}
+use Rattle.tre_syntax.specs.PatternTree.{PatternTree, atom, empty, sequence, alternation, repetition}
 use Rattle.tre_syntax.specs.Rest.{Rest, AtomMatches, EmptyMatches}
 use Rattle.tre_syntax.proofs.Atoms.{Scales-Atom, IsBounded-Atom, IsOrdered-Atom, IsInstant-Empty}
 use Rattle.tre_syntax.proofs.MeaningLaws.{Scales-Meaning, IsBounded-Meaning, IsOrdered-Meaning}
@@ -57,14 +57,14 @@ module _ (R E : Pairs) (r : Scales R) (e : Scales E) (same : IsInstant E)
         (Chain-none Once E b b n (ends a b n (Chain-step R E r e a b n h))),
   )
 
--- the end of a repetition is a moment of the rest
-ends_within : (e : PatternTree) (rest : Rest) (a b n : ℕ) → MatchesRest (repetition e) rest a b n
+-- the end of a match is a moment of the rest
+pub ends_within : (tree : PatternTree) (rest : Rest) (a b n : ℕ) → MatchesRest tree rest a b n
     → EmptyMatches rest b b n
-ends_within e rest a b n h =
+ends_within tree rest a b n h =
     let bounds = IsBounded-Meaning (AtomMatches rest) rest.start (end_of rest.start rest.segments)
-    (IsBounded-Atom rest) (repetition e) in
+    (IsBounded-Atom rest) tree in
     let order = IsOrdered-Meaning (AtomMatches rest) (IsOrdered-Atom rest) (IsInstant-Empty rest)
-    (repetition e) in
+    tree in
     record {
       begin = omega (arith, bounds.begin a b n h, order.le a b n h);
       same = refl;
@@ -79,11 +79,34 @@ module _ (e : PatternTree) (rest : Rest) where
       → MatchesRest (repetition (sequence e (repetition e))) rest a b n
       ↔ MatchesRest (repetition e) rest a b n
   repetition_once a b n = Chain-once (MatchesRest e rest) (EmptyMatches rest) scales
-      (Scales-Atom rest empty) (IsInstant-Empty rest) (ends_within e rest) a b n
+      (Scales-Atom rest empty) (IsInstant-Empty rest) (ends_within (repetition e) rest) a b n
 
   pub sequence_once : (a b n : ℕ)
       → MatchesRest (sequence (sequence e (repetition e))
       (repetition (sequence e (repetition e)))) rest a b n
       ↔ MatchesRest (sequence e (repetition e)) rest a b n
   sequence_once a b n = Composed-once (MatchesRest e rest) (EmptyMatches rest) scales
-      (Scales-Atom rest empty) (IsInstant-Empty rest) (ends_within e rest) a b n
+      (Scales-Atom rest empty) (IsInstant-Empty rest) (ends_within (repetition e) rest) a b n
+
+  option : Implies (Either (MatchesRest e rest) (EmptyMatches rest)) (MatchesRest (repetition e) rest)
+  option = record {
+    at = λ a b n. ⊎_elim
+        (λ h. Chain-one (MatchesRest e rest) (EmptyMatches rest) a b n h
+        (ends_within e rest a b n h))
+        (Chain-none (MatchesRest e rest) (EmptyMatches rest) a b n);
+  }
+
+  -- any number of times a match or the empty stretch is any number of matches
+  pub repetition_option : (a b n : ℕ)
+      → MatchesRest (repetition (alternation e (atom empty))) rest a b n
+      ↔ MatchesRest (repetition e) rest a b n
+  repetition_option a b n = (
+    λ h. Chain-flat (MatchesRest e rest) (EmptyMatches rest) scales (Scales-Atom rest empty)
+        (IsInstant-Empty rest) a b n
+        ((Implies-Chain (Either (MatchesRest e rest) (EmptyMatches rest))
+        (MatchesRest (repetition e) rest) (EmptyMatches rest) (EmptyMatches rest) option
+        (record { at = λ a b n x. x })).at a b n h),
+    λ h. (Implies-Chain (MatchesRest e rest) (Either (MatchesRest e rest) (EmptyMatches rest))
+        (EmptyMatches rest) (EmptyMatches rest) (record { at = λ a b n x. inl x })
+        (record { at = λ a b n x. x })).at a b n h,
+  )

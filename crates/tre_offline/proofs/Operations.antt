@@ -4,7 +4,8 @@ use Rattle.std.proofs.lemmas.Result.{IfOk-weaker}
 use Rattle.tre_pairs.specs.Pairs.{Pairs, Composed, Either, Both, Lasting, Chain}
 use Rattle.tre_pairs.proofs.Laws.{IsOrdered, IsInstant, Agree}
 use Rattle.tre_pairs.proofs.Agreement.{Agree-Composed, Agree-Chain, Agree-Lasting}
-use Rattle.tre_pairs.proofs.Order.{IsOrdered-Lasting}
+use Rattle.tre_pairs.proofs.Chains.{Composed-assoc, Chain-none}
+use Rattle.tre_pairs.proofs.Order.{IsOrdered-Lasting, IsOrdered-Chain}
 use Rattle.tre_pairs.proofs.Shortening.{Agree-trans, Lasting-Composed, Lasting-Chain, Lasting-Either}
 use Rattle.tre_zone.specs.Interval.{IntervalEnds, LastsWithin}
 use Rattle.tre_zone.specs.Longest.{LastsUpTo}
@@ -15,12 +16,15 @@ use Rattle.tre_zone.specs.declared.zone_bounds.ZoneBounds.{ZoneBounds}
 use Rattle.tre_zoneset.specs.ZoneSet.{IsZoneSet}
 use Rattle.tre_trace.specs.Trace.{end_of}
 use Rattle.tre_syntax.specs.Meaning.{MatchesRest}
-use Rattle.tre_syntax.specs.PatternTree.{PatternTree, empty, sequence, alternation, intersection, repetition, restriction}
+use Rattle.tre_syntax.specs.PatternTree.{PatternTree, atom, empty, sequence, alternation, intersection, repetition, restriction}
 use Rattle.tre_syntax.specs.Rest.{Rest, AtomMatches}
+use Rattle.tre_syntax.proofs.Atoms.{Scales-Atom}
 use Rattle.tre_syntax.proofs.CutMeaning.{IsOrdered-rest}
+use Rattle.tre_syntax.proofs.MeaningLaws.{Scales-Meaning}
 use Rattle.tre_syntax.proofs.Repeating.{repetition_nested}
-use Rattle.tre_offline.specs.Lengths.{LastUpTo, IsRepetition, IsIteration}
-use Rattle.tre_offline.proofs.Iterating.{repetition_once, sequence_once}
+use Rattle.tre_offline.specs.Lengths.{LastUpTo, IsRepetition, IsOwnIteration, Spans}
+use Rattle.tre_offline.proofs.Iterating.{repetition_once, repetition_option}
+use Rattle.tre_offline.proofs.Spanning.{repetition_spanned}
 use Rattle.tre_offline.proofs.Unions.{Agree-held, HoldExactly-agree}
 
 -- The moments of a rest.
@@ -199,22 +203,66 @@ iteration_exact longest once more rest zones is held =
     let same = repetition_once once rest a b n in (same.1, same.0))
     (subst (λ (t : PatternTree). HoldExactly zones (Short longest t rest)) is held))
 
--- One or more times what is an expression one or more times is that.
+-- One or more times what is its own iteration is that.
 pub iterated_exact : (longest : Option ℕ) (first second : PatternTree) (rest : Rest)
-    (zones : List ZoneBounds) → IsIteration first → second ≡ repetition first
+    (zones : List ZoneBounds) → IsOwnIteration first → second ≡ repetition first
     → HoldExactly zones (Short longest first rest)
     → HoldExactly zones (Short longest (sequence first second) rest)
-iterated_exact longest first second rest zones is again held =
-    let whole = sequence is.step (repetition is.step) in
+iterated_exact longest first second rest zones own again held =
     subst (λ (t : PatternTree). HoldExactly zones (Short longest (sequence first t) rest))
     (sym again)
-    (subst (λ (t : PatternTree).
-    HoldExactly zones (Short longest (sequence t (repetition t)) rest))
-    (sym is.whole)
-    (same_exact longest whole (sequence whole (repetition whole)) rest zones
+    (same_exact longest first (sequence first (repetition first)) rest zones
+    (λ a b n. let same = own.same rest a b n in (same.1, same.0)) held)
+
+-- A sequence of three is found from its end too.
+pub turned_exact : (longest : Option ℕ) (begin middle right : PatternTree) (rest : Rest)
+    (zones : List ZoneBounds) → HoldExactly zones (Short longest (sequence begin (sequence middle right)) rest)
+    → HoldExactly zones (Short longest (sequence (sequence begin middle) right) rest)
+turned_exact longest begin middle right rest zones =
+    same_exact longest (sequence begin (sequence middle right))
+    (sequence (sequence begin middle) right) rest zones
     (λ a b n.
-    let once = sequence_once is.step rest a b n in (once.1, once.0))
-    (subst (λ (t : PatternTree). HoldExactly zones (Short longest t rest)) is.whole held)))
+    let same = Composed-assoc (MatchesRest begin rest) (MatchesRest middle rest)
+    (MatchesRest right rest) (Scales-Meaning (AtomMatches rest) (Scales-Atom rest) begin)
+    (Scales-Meaning (AtomMatches rest) (Scales-Atom rest) right) a b n in (same.1, same.0))
+
+-- A repetition or the empty stretch is the repetition.
+pub option_exact : (longest : Option ℕ) (left right : PatternTree) (rest : Rest)
+    (zones : List ZoneBounds) → IsRepetition left → right ≡ atom empty
+    → HoldExactly zones (Short longest left rest)
+    → HoldExactly zones (Short longest (alternation left right) rest)
+option_exact longest left right rest zones is none held =
+    subst (λ (t : PatternTree). HoldExactly zones (Short longest (alternation left t) rest))
+    (sym none)
+    (same_exact longest left (alternation left (atom empty)) rest zones
+    (λ a b n. (
+      λ h. inl h,
+      ⊎_elim (λ h. h)
+          (λ h.
+          subst (λ (t : PatternTree). MatchesRest t rest a b n) (sym is.whole)
+          (Chain-none (MatchesRest is.step rest) (AtomMatches rest empty) a b n h)),
+    ))
+    held)
+
+-- A repetition of an expression or the empty stretch is that of the expression.
+pub options_exact : (longest : Option ℕ) (once none : PatternTree) (rest : Rest)
+    (zones : List ZoneBounds) → none ≡ atom empty
+    → HoldExactly zones (Short longest (repetition once) rest)
+    → HoldExactly zones (Short longest (repetition (alternation once none)) rest)
+options_exact longest once none rest zones is held =
+    subst (λ (t : PatternTree).
+    HoldExactly zones (Short longest (repetition (alternation once t)) rest)) (sym is)
+    (same_exact longest (repetition once) (repetition (alternation once (atom empty))) rest zones
+    (λ a b n. let same = repetition_option once rest a b n in (same.1, same.0)) held)
+
+-- Any number of matches of what spans are the empty stretch or a match.
+pub spanned_exact : (longest : Option ℕ) (step : PatternTree) (rest : Rest)
+    (zones : List ZoneBounds) → Spans step
+    → HoldExactly zones (Short longest (alternation (atom empty) step) rest)
+    → HoldExactly zones (Short longest (repetition step) rest)
+spanned_exact longest step rest zones spans =
+    same_exact longest (alternation (atom empty) step) (repetition step) rest zones
+    (repetition_spanned step spans rest)
 
 module _ (longest : Option ℕ) (tree : PatternTree) (rest : Rest) (all zones : List ZoneBounds)
     (inner : HoldExactly all (Short longest tree rest)) where
@@ -249,6 +297,78 @@ module _ (longest : Option ℕ) (tree : PatternTree) (rest : Rest) (all zones : 
       (Lasting (LastsUpTo longest) (Chain (SetHolds all) (IsInstantBetween t t'))) in
       let from = subst (λ (t : ℕ). P t end) begins held in
       over (subst (λ (t : ℕ). P rest.start t) ends from) set
+
+  -- The short ones of one match or more, from those of one.
+  steps_over : Agree
+      (Lasting (LastsUpTo longest)
+      (Composed (Short longest tree rest) (Chain (Short longest tree rest)
+      (AtomMatches rest empty))))
+      (Short longest (sequence tree (repetition tree)) rest)
+  steps_over =
+      let D = LastsUpTo longest in
+      let R = Short longest tree rest in
+      let points = AtomMatches rest empty in
+      let all_chains = Chain R points in
+      let chains = Lasting D (MatchesRest (repetition tree) rest) in
+      let lasts = IsOrdered-short longest tree rest in
+      let cut = Lasting-Composed D (LastsUpTo-downward longest) (LastsUpTo-scales longest) R
+      all_chains lasts (IsOrdered-Chain R points lasts (IsInstant-moments rest)) in
+      let whole = Lasting-Composed D (LastsUpTo-downward longest) (LastsUpTo-scales longest)
+      (MatchesRest tree rest) (MatchesRest (repetition tree) rest) (IsOrdered-rest tree rest)
+      (IsOrdered-rest (repetition tree) rest) in
+      let inner = Lasting-Chain D (LastsUpTo-downward longest) (LastsUpTo-scales longest)
+      (MatchesRest tree rest) points (IsOrdered-rest tree rest) (IsInstant-moments rest) in
+      let parts = Agree-Lasting D (Composed (Lasting D R) (Lasting D all_chains))
+      (Composed R chains)
+      (Agree-Composed (Lasting D R) R (Lasting D all_chains) chains
+      (record {
+        at = λ a b n some. (
+          (λ h. h.related),
+          (λ h. record { related = h; admitted = h.admitted }),
+        );
+      })
+      inner) in
+      record {
+        at = λ a b n some. (
+          (λ h. (whole.at a b n some).0 ((parts.at a b n some).0 ((cut.at a b n some).1 h))),
+          (λ h. (cut.at a b n some).0 ((parts.at a b n some).1 ((whole.at a b n some).1 h))),
+        );
+      }
+
+  steps_found : HoldExactly zones (Lasting (LastsUpTo longest)
+      (Composed (SetHolds all)
+      (Chain (SetHolds all) (IsInstantBetween rest.start (end_of rest.start rest.segments)))))
+      → IsZoneSet all → HoldExactly zones (Short longest (sequence tree (repetition tree)) rest)
+  steps_found held set =
+      let moments = IsInstantBetween rest.start (end_of rest.start rest.segments) in
+      let points = AtomMatches rest empty in
+      let short = Short longest tree rest in
+      let same = Agree-held all short set (IsOrdered-short longest tree rest) inner in
+      HoldExactly-agree zones
+      (Lasting (LastsUpTo longest) (Composed (SetHolds all) (Chain (SetHolds all) moments)))
+      (Short longest (sequence tree (repetition tree)) rest)
+      (Agree-trans
+      (Lasting (LastsUpTo longest) (Composed (SetHolds all) (Chain (SetHolds all) moments)))
+      (Lasting (LastsUpTo longest) (Composed short (Chain short points)))
+      (Short longest (sequence tree (repetition tree)) rest)
+      (Agree-Lasting (LastsUpTo longest) (Composed (SetHolds all) (Chain (SetHolds all) moments))
+      (Composed short (Chain short points))
+      (Agree-Composed (SetHolds all) short (Chain (SetHolds all) moments) (Chain short points) same
+      (Agree-Chain (SetHolds all) short moments points same (Agree-moments rest))))
+      steps_over)
+      held
+
+  pub iteration_found : (begin end : ℕ) → begin ≡ rest.start
+      → end ≡ end_of rest.start rest.segments → IsZoneSet all
+      → HoldExactly zones (Lasting (LastsUpTo longest)
+      (Composed (SetHolds all) (Chain (SetHolds all) (IsInstantBetween begin end))))
+      → HoldExactly zones (Short longest (sequence tree (repetition tree)) rest)
+  iteration_found begin end begins ends set held =
+      let P : ℕ → ℕ → Type 0 =
+      λ (t t' : ℕ). HoldExactly zones (Lasting (LastsUpTo longest)
+      (Composed (SetHolds all) (Chain (SetHolds all) (IsInstantBetween t t')))) in
+      let from = subst (λ (t : ℕ). P t end) begins held in
+      steps_found (subst (λ (t : ℕ). P rest.start t) ends from) set
 
 -- Inside an interval the part may be cut to a longest duration of its own.
 pub restriction_exact : (inner longest : Option ℕ) (tree : PatternTree) (ends : IntervalEnds)

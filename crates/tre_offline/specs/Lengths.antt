@@ -1,6 +1,8 @@
 -- How long the pairs of a set last.
-use Rattle.std.specs.Prelude.{ℕ, ◌≡◌, ◌-◌, ◌<◌, ◌≤◌, Option, List}
+use Rattle.std.specs.Prelude.{ℕ, ◌≡◌, ◌-◌, ◌<◌, ◌≤◌, ◌↔◌, Option, List}
+use Rattle.tre_syntax.specs.Meaning.{MatchesRest}
 use Rattle.tre_syntax.specs.PatternTree.{PatternTree, sequence, repetition}
+use Rattle.tre_syntax.specs.Rest.{Rest}
 use Rattle.tre_zone.specs.Longest.{LastsUpTo}
 use Rattle.tre_zone.specs.ZoneList.{SetHolds}
 use Rattle.tre_zone.specs.declared.zone_bounds.ZoneBounds.{ZoneBounds}
@@ -18,3 +20,13 @@ pub record IsRepetition (tree : PatternTree) : Type 0 where
 pub record IsIteration (tree : PatternTree) : Type 0 where
   pub step : PatternTree
   pub whole : tree ≡ sequence step (repetition step)
+
+-- The begin of a match and the end of another one behind it are those of a match.
+pub record Spans (tree : PatternTree) : Type 0 where
+  pub each : (rest : Rest) (a b c d n : ℕ) → b ≤ c → MatchesRest tree rest a b n
+      → MatchesRest tree rest c d n → MatchesRest tree rest a d n
+
+-- One match or more, one after another, are a match.
+pub record IsOwnIteration (tree : PatternTree) : Type 0 where
+  pub same : (rest : Rest) (a b n : ℕ)
+      → MatchesRest (sequence tree (repetition tree)) rest a b n ↔ MatchesRest tree rest a b n

@@ -1,9 +1,10 @@
 // Expressions that are read as another, one or more times: `E+` is `E;E*`.
 ghost use Rattle.std.specs.Prelude.{◌≡◌, IsTrue};
 ghost use Rattle.tre_state.specs.State as states;
+ghost use Rattle.tre_state.specs.StateTree.{always};
 ghost use Rattle.tre_syntax.specs.Expr.{tree_of};
-ghost use Rattle.tre_syntax.specs.PatternTree.{repetition};
-ghost use Rattle.tre_offline.specs.Lengths.{IsIteration};
+ghost use Rattle.tre_syntax.specs.PatternTree.{atom, empty, repetition};
+ghost use Rattle.tre_offline.specs.Lengths.{IsIteration, IsOwnIteration, Spans};
 
 use tre_state::State;
 use tre_syntax::Expr;
@@ -18,13 +19,61 @@ fn is_iteration(expr: &Expr) -> bool
     }
 }
 
-/// Whether a sequence of the two is the first one or more times, where the first is another one or
-/// more times itself.
+/// Whether anything at all may come between two parts of the expression, before its first or behind
+/// its last. Then the begin of a match and the end of another one behind it are those of a match,
+/// and matches one after another are one.
+pub(crate) fn spans(expr: &Expr) -> bool
+    ensures { IsTrue result → Spans (tree_of expr.now) }
+{
+    match expr {
+        Expr::Lit(state) => is_yes(state),
+        Expr::Seq(left, right) => spans(left) || spans(right),
+        _ => false,
+    }
+}
+
+/// Whether a sequence that ends with the two is found from its end: where anything may come last, and
+/// not before it, what begins with the part before last is few, and what it ends is much. What is
+/// found depends on it in no way.
+pub(crate) fn comes_last(before: &Expr, last: &Expr) -> bool {
+    spans(last) && !spans(before)
+}
+
+fn is_yes(state: &State) -> bool
+    ensures { IsTrue result → states.tree_of state.now ≡ always }
+{
+    match state {
+        State::Yes => true,
+        _ => false,
+    }
+}
+
+/// Whether one match of the expression or more, one after another, are known to be a match.
+fn is_own_iteration(expr: &Expr) -> bool
+    ensures { IsTrue result → IsOwnIteration (tree_of expr.now) }
+{
+    if is_iteration(expr) {
+        return true;
+    }
+    spans(expr)
+}
+
+/// Whether a sequence of the two is the first one or more times, and so the first.
 pub(crate) fn is_iterated(first: &Expr, second: &Expr) -> bool
-    ensures first { IsTrue result → IsIteration (tree_of first.now) }
+    ensures first { IsTrue result → IsOwnIteration (tree_of first.now) }
     ensures second { IsTrue result → tree_of second.now ≡ repetition (tree_of first.now) }
 {
-    is_iteration(first) && repeats(second, first)
+    is_own_iteration(first) && repeats(second, first)
+}
+
+/// Whether the expression is the empty stretch.
+pub(crate) fn is_eps(expr: &Expr) -> bool
+    ensures { IsTrue result → tree_of expr.now ≡ atom empty }
+{
+    match expr {
+        Expr::Eps => true,
+        _ => false,
+    }
 }
 
 /// Whether the expression is the repetition of the step.

@@ -14,9 +14,9 @@ ghost use Rattle.tre_offline.specs.MatchSet.{IsMatchSet, AreMatchesAmong};
 
 use crate::atoms::Atoms;
 use crate::edged::{edged, unlimited};
-use crate::iterated::{is_iterated, repeats};
+use crate::iterated::{comes_last, is_eps, is_iterated, repeats, spans};
 use crate::lengths::{goes_first, is_repetition, longest_beside, longest_for};
-use crate::operators::{followed, joined, met, repeated, restricted, shortened};
+use crate::operators::{followed, iterated, joined, met, repeated, restricted, shortened};
 use std::alloc::{AllocError, Global};
 use tre_edges::{Piece, RunSet, run_set};
 use tre_packed::{AnyTrace, Packed};
@@ -155,11 +155,27 @@ pub(crate) fn matches_of<A: Atoms>(
             if is_iterated(left, right) {
                 return matches_of(alloc, left, atoms, longest);
             }
+            if repeats(right, left) {
+                let step = matches_of(alloc, left, atoms, longest);
+                return iterated(alloc, step, atoms.begin(), atoms.end(), longest);
+            }
+            if let Expr::Seq(begin, middle) = &**left {
+                if comes_last(middle, right) {
+                    let first = matches_of(alloc, begin, atoms, longest)?;
+                    let second = matches_of(alloc, middle, atoms, longest)?;
+                    let third = matches_of(alloc, right, atoms, longest);
+                    let behind = followed(alloc, &second, third, longest);
+                    return followed(alloc, &first, behind, longest);
+                }
+            }
             let first = matches_of(alloc, left, atoms, longest)?;
             let second = matches_of(alloc, right, atoms, longest);
             followed(alloc, &first, second, longest)
         }
         Expr::Alt(left, right) => {
+            if is_repetition(left) && is_eps(right) {
+                return matches_of(alloc, left, atoms, longest);
+            }
             let one = matches_of(alloc, left, atoms, longest)?;
             let other = matches_of(alloc, right, atoms, longest);
             joined(one, other)
@@ -184,6 +200,20 @@ pub(crate) fn matches_of<A: Atoms>(
                 if repeats(more, once) {
                     return matches_of(alloc, more, atoms, longest);
                 }
+            }
+            if let Expr::Alt(once, none) = &**step {
+                if is_eps(none) {
+                    if is_repetition(once) {
+                        return matches_of(alloc, once, atoms, longest);
+                    }
+                    let once = matches_of(alloc, once, atoms, longest);
+                    return repeated(alloc, once, atoms.begin(), atoms.end(), longest);
+                }
+            }
+            if spans(step) {
+                let moments = shortened(atoms.moments(alloc), longest)?;
+                let step = matches_of(alloc, step, atoms, longest);
+                return joined(moments, step);
             }
             let step = matches_of(alloc, step, atoms, longest);
             repeated(alloc, step, atoms.begin(), atoms.end(), longest)
@@ -221,11 +251,29 @@ fn last_matches_of<T: AnyTrace + Drop>(
             if is_iterated(left, right) {
                 return last_matches_of(alloc, left, trace, longest);
             }
+            if repeats(right, left) {
+                let begin = Atoms::begin(&&trace);
+                let end = Atoms::end(&&trace);
+                let step = last_matches_of(alloc, left, trace, longest);
+                return iterated(alloc, step, begin, end, longest);
+            }
+            if let Expr::Seq(begin, middle) = &**left {
+                if comes_last(middle, right) {
+                    let first = matches_of(alloc, begin, &&trace, longest)?;
+                    let second = matches_of(alloc, middle, &&trace, longest)?;
+                    let third = last_matches_of(alloc, right, trace, longest);
+                    let behind = followed(alloc, &second, third, longest);
+                    return followed(alloc, &first, behind, longest);
+                }
+            }
             let first = matches_of(alloc, left, &&trace, longest)?;
             let second = last_matches_of(alloc, right, trace, longest);
             followed(alloc, &first, second, longest)
         }
         Expr::Alt(left, right) => {
+            if is_repetition(left) && is_eps(right) {
+                return last_matches_of(alloc, left, trace, longest);
+            }
             let one = matches_of(alloc, left, &&trace, longest)?;
             let other = last_matches_of(alloc, right, trace, longest);
             joined(one, other)
@@ -250,6 +298,22 @@ fn last_matches_of<T: AnyTrace + Drop>(
                 if repeats(more, once) {
                     return last_matches_of(alloc, more, trace, longest);
                 }
+            }
+            if let Expr::Alt(once, none) = &**step {
+                if is_eps(none) {
+                    if is_repetition(once) {
+                        return last_matches_of(alloc, once, trace, longest);
+                    }
+                    let begin = Atoms::begin(&&trace);
+                    let end = Atoms::end(&&trace);
+                    let once = last_matches_of(alloc, once, trace, longest);
+                    return repeated(alloc, once, begin, end, longest);
+                }
+            }
+            if spans(step) {
+                let moments = shortened(Atoms::moments(&&trace, alloc), longest)?;
+                let step = last_matches_of(alloc, step, trace, longest);
+                return joined(moments, step);
             }
             let begin = Atoms::begin(&&trace);
             let end = Atoms::end(&&trace);

@@ -14,7 +14,7 @@ ghost use Rattle.tre_zone.specs.ZoneList.{HoldExactly};
 ghost use Rattle.tre_offline.specs.Lengths.{LastUpTo};
 
 use std::alloc::{AllocError, Global};
-use tre_star::{closure_up_to, compose_sets_up_to};
+use tre_star::{closure_up_to, compose_sets_up_to, iteration_up_to};
 use tre_zone::Interval;
 use tre_zoneset::ZoneSet;
 
@@ -105,6 +105,31 @@ pub fn repeated(
     // For the proof: the call says that it is a set of zones.
     let _step = step.zones();
     closure_up_to(alloc, &step, begin, end, longest)
+}
+
+/// The matches of an expression one or more times, of those of it once, over a rest from `begin` to
+/// `end`.
+pub fn iterated(
+    alloc: Global,
+    step: Result<ZoneSet, AllocError>,
+    begin: u64,
+    end: u64,
+    longest: Option<u64>,
+) -> Result<ZoneSet, AllocError>
+    requires order { begin ≤ end }
+    requires limit { end ≤ TIME_MAX }
+    requires longest { IsLongest longest }
+    ensures { IfOk result (λ zones. (tree : PatternTree) (rest : Rest)
+        → begin ≡ rest.start → end ≡ end_of rest.start rest.segments
+        → IfOk step (λ found.
+        HoldExactly found (Lasting (LastsUpTo longest) (MatchesRest tree rest)))
+        → HoldExactly zones
+        (Lasting (LastsUpTo longest) (MatchesRest (sequence tree (repetition tree)) rest))) }
+{
+    let step = step?;
+    // For the proof: the call says that it is a set of zones.
+    let _step = step.zones();
+    iteration_up_to(alloc, &step, begin, end, longest)
 }
 
 /// The matches of a restriction to the interval, of those of its part: its part may be cut to an

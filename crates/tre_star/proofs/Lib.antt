@@ -1,6 +1,7 @@
 pub mod Composing
 pub mod Short
 pub mod Sums
+pub mod Behind
 pub mod Reaching
 pub mod Chaining
 pub mod Powers

@@ -1,13 +1,13 @@
 -- The pairs of a zone of long durations are led through by equal steps of the zone it is a limit
 -- of.
-use Rattle.std.proofs.Common.{◌≡◌, ℕ, zero, suc, ◌+◌, ◌-◌, ◌*◌, ◌<◌, ◌≤◌, ⊎_elim, refl, sym, ap, subst, arith, ℤ, pos, neg_ℤ, negsuc, nat_abs, ◌/◌, ◌+ℤ◌, ◌*ℤ◌, ◌≤ℤ◌, ◌∷◌, [], ◌++◌, List, Option, Some, None, IfSome, inl, inr, rules}
+use Rattle.std.proofs.Common.{◌≡◌, ◌↔◌, ℕ, zero, suc, ◌+◌, ◌-◌, ◌*◌, ◌<◌, ◌≤◌, ⊎_elim, refl, sym, ap, subst, arith, ℤ, pos, neg_ℤ, negsuc, nat_abs, ◌/◌, ◌+ℤ◌, ◌*ℤ◌, ◌≤ℤ◌, ◌∷◌, [], ◌++◌, List, Option, Some, None, IfSome, inl, inr, rules}
 use Rattle.std.specs.Int.{int_min}
 use Rattle.std.proofs.lemmas.Int.{ints, clamps}
 use Rattle.std.proofs.lemmas.Bool.{cases_lt}
 use Rattle.std.proofs.Math.Nat.{mul-le-mul_right, mul-lt-mul_of_pos_right, mul-pos}
-use Rattle.tre_pairs.specs.Pairs.{Pairs, Both, Lasting, Chain}
+use Rattle.tre_pairs.specs.Pairs.{Pairs, Composed, Both, Lasting, Chain}
 use Rattle.tre_pairs.specs.SameTime.{SameTime}
-use Rattle.tre_pairs.proofs.Steps.{Chain-even, Chain-longer}
+use Rattle.tre_pairs.proofs.Steps.{Chain-even, Chain-onto, Chain-longer, Scales-SameTime, IsInstant-SameTime}
 use Rattle.tre_zone.specs.Bound.{value_of, weakness_of, sum_of, Meets, IsKeyWithin}
 use Rattle.tre_zone.specs.Zone.{ZoneHolds, IsCanonical, GivesZone, IsInFrame}
 use Rattle.tre_zone.specs.declared.zone_bounds.ZoneBounds.{ZoneBounds}
@@ -18,11 +18,13 @@ use Rattle.tre_zone.proofs.Ranges.{below_zero}
 use Rattle.tre_zone.proofs.Scaling.{Meets-scale, canonical-frame}
 use Rattle.tre_zone.proofs.ZoneListLemmas.{SetHolds-empty, SetHolds-push, AreCanonical-empty, AreCanonical-push}
 use Rattle.tre_zone.specs.ZoneList.{SetHolds, HoldExactly}
-use Rattle.tre_pairs.proofs.Laws.{Scales}
+use Rattle.tre_pairs.proofs.Laws.{Scales, Implies}
+use Rattle.tre_pairs.proofs.Scaling.{moved, Scales-Chain}
 use Rattle.tre_star.proofs.Chaining.{Scales-SetHolds}
 use Rattle.tre_pairs.specs.declared.TheConstants.{TIME_MAX}
-use Rattle.tre_pairs.proofs.Chains.{Chain-one}
-use Rattle.tre_pairs.proofs.Implication.{Implies-Chain}
+use Rattle.tre_pairs.proofs.Chains.{Composed-at, Composed-assoc_right, Chain-none, Chain-step, Chain-cases}
+use Rattle.tre_pairs.proofs.Implication.{Implies-Composed, Implies-Chain}
+use Rattle.tre_star.specs.Parts.{SomeSteps}
 use Rattle.tre_star.specs.Powers.{AreChainsOf, AreStepsOf, IsLimit}
 
 -- ---- bounds on the duration of a step
@@ -125,6 +127,30 @@ part_from (suc fuel) least most weakness d n count fine some less overlap low en
 enough_steps : (most d n count : ℕ) → 0 < n → 0 < most → d < most * ((count + (d + 1)) * n)
 enough_steps most d n count fine some = search rules
 
+-- Equal steps, of which there is one at least: where they take no time, the first is all of them.
+even_steps : (R : Pairs) (a b n count : ℕ) → 0 < count → a ≤ b
+    → ((i : ℕ) → i < count → R (count * a + i * (b - a)) (count * a + i * (b - a) + (b - a))
+    (count * n))
+    → SomeSteps R SameTime a b n
+even_steps R a b n count some rising steps =
+    ⊎_elim
+    (λ instant.
+    let same : a ≡ b = instant.same in
+    let times : count * a ≡ count * b = ap (λ (t : ℕ). count * t) same in
+    let first : count * a + 0 * (b - a) ≡ count * a = omega arith in
+    record {
+      factor = count;
+      positive = some;
+      midpoint = count * b;
+      left = moved R first
+          (let e : count * a + 0 * (b - a) + (b - a) ≡ count * b = omega (arith, first, times, same)
+          in e) refl (steps 0 some);
+      right = Chain-none R SameTime (count * b) (count * b) (count * n) (record { same = refl });
+    })
+    (λ more. more)
+    (Chain-cases R SameTime Scales-SameTime a b n
+    (Chain-even R SameTime a b n count some rising (record { same = refl }) steps))
+
 -- ---- the steps
 
 module _ (limit zone : ZoneBounds) (least most total : ℕ) (is : IsLimit total limit zone)
@@ -184,8 +210,7 @@ module _ (limit zone : ZoneBounds) (least most total : ℕ) (is : IsLimit total 
         ((Meets-scale limit.begin_low count 0 a n part.some).0 held.begin_low) in
         let ends = rw (zero_times count) at
         ((Meets-scale limit.end_high count b 0 n part.some).0 held.end_high) in
-        Chain-even (ZoneHolds zone) SameTime a b n count part.some rising
-        (record { same = refl })
+        even_steps (ZoneHolds zone) a b n count part.some rising
         (λ i below.
         let rest : (i + 1) * d ≤ count * d = mul-le-mul_right d (omega (arith, below)) in
         one_step count a (count * a + i * d) d n finer (omega arith) (omega (arith, rest)) begins
@@ -209,14 +234,17 @@ AreStepsOf-none = record {
   long = λ a b n some h. absurd (SetHolds-empty a b n h);
 }
 
--- A chain over some zones is one over more.
-wider : (zones : List ZoneBounds) (zone : ZoneBounds) (a b n : ℕ)
-    → Chain (SetHolds zones) SameTime a b n
-    → Chain (SetHolds (zones ++ zone ∷ [])) SameTime a b n
-wider zones zone a b n h =
-    (Implies-Chain (SetHolds zones) (SetHolds (zones ++ zone ∷ [])) SameTime SameTime
-    (record { at = λ a b n x. (SetHolds-push zones zone a b n).1 (inl x) })
-    (record { at = λ a b n x. x })).at a b n h
+-- One step or more of some pairs are steps of more pairs.
+more_steps : (R S : Pairs) → Implies R S → (a b n : ℕ) → SomeSteps R SameTime a b n
+    → SomeSteps S SameTime a b n
+more_steps R S more a b n h =
+    (Implies-Composed R S (Chain R SameTime) (Chain S SameTime) more
+    (Implies-Chain R S SameTime SameTime more (record { at = λ a b n x. x }))).at a b n h
+
+lone_step : (R : Pairs) (a b n : ℕ) → R a b n → SomeSteps R SameTime a b n
+lone_step R a b n h =
+    Composed-at R (Chain R SameTime) a b b n h
+    (Chain-none R SameTime b b n (record { same = refl }))
 
 pub AreStepsOf-zone : (steps zones : List ZoneBounds) (zone : ZoneBounds) → IsCanonical zone
     → AreStepsOf steps zones → AreStepsOf (steps ++ zone ∷ []) (zones ++ zone ∷ [])
@@ -226,9 +254,12 @@ AreStepsOf-zone steps zones zone canonical are = record {
       (⊎_elim (λ x. inl (are.more a b n some x)) (λ x. inr x)
       ((SetHolds-push zones zone a b n).0 h));
   long = λ a b n some h.
-      ⊎_elim (λ x. wider zones zone a b n (are.long a b n some x))
-      (λ x. Chain-one (SetHolds (zones ++ zone ∷ [])) SameTime a b n
-      ((SetHolds-push zones zone a b n).1 (inr x)) (record { same = refl }))
+      ⊎_elim
+      (λ x. more_steps (SetHolds zones) (SetHolds (zones ++ zone ∷ []))
+      (record { at = λ a b n y. (SetHolds-push zones zone a b n).1 (inl y) }) a b n
+      (are.long a b n some x))
+      (λ x. lone_step (SetHolds (zones ++ zone ∷ [])) a b n
+      ((SetHolds-push zones zone a b n).1 (inr x)))
       ((SetHolds-push steps zone a b n).0 h);
 }
 
@@ -240,26 +271,71 @@ AreStepsOf-limit steps zones zone limit canonical chains are = record {
   more = λ a b n some h. (SetHolds-push steps limit a b n).1 (inl (are.more a b n some h));
   long = λ a b n some h.
       ⊎_elim (λ x. are.long a b n some x)
-      (λ x.
-      (Implies-Chain (ZoneHolds zone) (SetHolds (zones ++ zone ∷ [])) SameTime SameTime
-      (record { at = λ a b n x. (SetHolds-push zones zone a b n).1 (inr x) })
-      (record { at = λ a b n x. x })).at a b n
+      (λ x. more_steps (ZoneHolds zone) (SetHolds (zones ++ zone ∷ []))
+      (record { at = λ a b n y. (SetHolds-push zones zone a b n).1 (inr y) }) a b n
       (chains.leads a b n some (canonical-frame limit canonical a b n some x).rising x))
       ((SetHolds-push steps limit a b n).0 h);
 }
 
--- A set of the short chains of such steps is one of the short chains of the zones.
-pub longer_chains : (D : ℕ → ℕ → Type 0) (set steps zones : List ZoneBounds) (E : Pairs)
-    → Scales E → AreStepsOf steps zones → HoldExactly set (Lasting D (Chain (SetHolds steps) E))
-    → HoldExactly set (Lasting D (Chain (SetHolds zones) E))
-longer_chains D set steps zones E scales are held = record {
-  exact = λ a b n some le.
-      let one = held.exact a b n some le in
-      let same = (Chain-longer (SetHolds zones) (SetHolds steps) E (Scales-SetHolds zones) scales
-      are.long are.more).at a b n some in (
-        (λ h.
-            let chain = one.0 h in
-            record { related = same.0 chain.related; admitted = chain.admitted }),
-        (λ h. one.1 (record { related = same.1 h.related; admitted = h.admitted })),
-      );
-}
+-- Steps that are one step or more of the zones themselves, beside the zones: one or more of them are
+-- one or more of the zones.
+module _ (steps zones : List ZoneBounds) (E : Pairs) (e : Scales E) (are : AreStepsOf steps zones)
+  where
+    abbrev R : Pairs
+    R = SetHolds zones
+
+    abbrev S : Pairs
+    S = SetHolds steps
+
+    r : Scales R
+    r = Scales-SetHolds zones
+
+    longer : (a b n : ℕ) → 0 < n → Chain S E a b n ↔ Chain R E a b n
+    longer = (Chain-longer R S E r e
+        (λ a b n some h. Chain-step R SameTime r Scales-SameTime a b n (are.long a b n some h))
+        are.more).at
+
+    onto : Implies (Composed (Chain R SameTime) (Chain R E)) (Chain R E)
+    onto = record {
+      at = λ a b n h. (Scales-Chain R E r e).down h.factor a b n h.positive
+          (Chain-onto R SameTime E r Scales-SameTime e IsInstant-SameTime (h.factor * a) h.midpoint
+          (h.factor * b) (h.factor * n) h.left h.right);
+    }
+
+    fewer : (a b n : ℕ) → 0 < n → SomeSteps S E a b n → SomeSteps R E a b n
+    fewer a b n some h =
+        let fine : 0 < h.factor * n = mul-pos h.positive some in
+        let all : Composed (SomeSteps R SameTime) (Chain R E) a b n = record {
+          factor = h.factor;
+          positive = h.positive;
+          midpoint = h.midpoint;
+          left = are.long (h.factor * a) h.midpoint (h.factor * n) fine h.left;
+          right = (longer h.midpoint (h.factor * b) (h.factor * n) fine).0 h.right;
+        } in
+        (Implies-Composed R R (Composed (Chain R SameTime) (Chain R E)) (Chain R E)
+        (record { at = λ a b n x. x }) onto).at a b n
+        (Composed-assoc_right R (Chain R SameTime) (Chain R E) (Scales-Chain R E r e) a b n all)
+
+    more : (a b n : ℕ) → 0 < n → SomeSteps R E a b n → SomeSteps S E a b n
+    more a b n some h =
+        let fine : 0 < h.factor * n = mul-pos h.positive some in
+        record {
+          factor = h.factor;
+          positive = h.positive;
+          midpoint = h.midpoint;
+          left = are.more (h.factor * a) h.midpoint (h.factor * n) fine h.left;
+          right = (longer h.midpoint (h.factor * b) (h.factor * n) fine).1 h.right;
+        }
+
+    -- A set of the short ones of such steps, one or more, is one of those of the zones.
+    pub longer_steps : (D : ℕ → ℕ → Type 0) (set : List ZoneBounds)
+        → HoldExactly set (Lasting D (SomeSteps S E)) → HoldExactly set (Lasting D (SomeSteps R E))
+    longer_steps D set held = record {
+      exact = λ a b n some le.
+          let one = held.exact a b n some le in (
+            (λ h.
+                let steps = one.0 h in
+                record { related = fewer a b n some steps.related; admitted = steps.admitted }),
+            (λ h. one.1 (record { related = more a b n some h.related; admitted = h.admitted })),
+          );
+    }

@@ -1,6 +1,5 @@
 -- The begins of the pairs of a set, zone by zone.
-use Rattle.std.proofs.Common.{◌≡◌, ◌<◌, ◌≤◌, ◌*◌, ◌↔◌, ℕ, List, [], ◌∷◌, ◌++◌, length, take, get_or, inl, inr, ⊎_elim, subst, sym, refl, arith}
-use Rattle.std.proofs.lemmas.List.{take_more, take_all}
+use Rattle.std.proofs.Common.{◌*◌, ℕ, List, [], ◌∷◌, ◌++◌, inl, inr, ⊎_elim, subst, sym, refl, arith}
 use Rattle.std.proofs.Math.Nat.{mul_assoc, mul-pos}
 use Rattle.tre_compose.specs.Begins.{BeginsOf, Leads, LeadsOn}
 use Rattle.tre_pairs.specs.Pairs.{Pairs, Both, Composed}

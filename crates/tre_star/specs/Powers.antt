@@ -1,22 +1,23 @@
 -- Zones of chains: what repeating the pairs of one zone leads to.
 use Rattle.std.specs.Prelude.{ℕ, ◌<◌, ◌≤◌, ◌≡◌, List, pos, neg_ℤ, ◌≤ℤ◌, ◌^◌}
-use Rattle.tre_pairs.specs.Pairs.{Chain}
 use Rattle.tre_pairs.specs.SameTime.{SameTime}
 use Rattle.tre_zone.specs.Bound.{value_of, weakness_of, sum_of}
 use Rattle.tre_zone.specs.Zone.{ZoneHolds, AreValuesWithin}
 use Rattle.tre_zone.specs.ZoneList.{SetHolds, AreCanonical}
 use Rattle.tre_zone.specs.declared.zone_bounds.ZoneBounds.{ZoneBounds}
+use Rattle.tre_star.specs.Parts.{SomeSteps}
 
--- Each pair of the limit is led through by pairs of the zone, one after another.
+-- Each pair of the limit is led through by pairs of the zone, one or more of them.
 pub record AreChainsOf (limit zone : ZoneBounds) : Type 0 where
   pub leads : (a b n : ℕ) → 0 < n → a ≤ b → ZoneHolds limit a b n
-      → Chain (ZoneHolds zone) SameTime a b n
+      → SomeSteps (ZoneHolds zone) SameTime a b n
 
 -- The steps have the pairs of the zones, and beside them only such as these lead through.
 pub record AreStepsOf (steps zones : List ZoneBounds) : Type 0 where
   pub canonical : AreCanonical steps
   pub more : (a b n : ℕ) → 0 < n → SetHolds zones a b n → SetHolds steps a b n
-  pub long : (a b n : ℕ) → 0 < n → SetHolds steps a b n → Chain (SetHolds zones) SameTime a b n
+  pub long : (a b n : ℕ) → 0 < n → SetHolds steps a b n
+      → SomeSteps (SetHolds zones) SameTime a b n
 
 -- The bounds of pairs that last `total` at least: each may begin so early, and end so late, that
 -- a first pair of the zone from there on, and a last one up to there, are in the zone's bounds.

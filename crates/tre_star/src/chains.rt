@@ -43,11 +43,30 @@ pub fn closure_up_to(
     ensures { IfOk result (λ set. HoldExactly set (Lasting (LastsUpTo longest)
         (Chain (SetHolds steps.now) (IsInstantBetween from to)))) }
 {
-    let steps = steps_of(alloc, steps.zones())?;
-    let limits = Limits { from, to, longest };
-    let mut chains = chains_in_parts(alloc, &steps, &limits)?;
+    let mut chains = iteration_up_to(alloc, steps, from, to, longest)?;
     chains.add(Zone::instants(from, to))?;
     Ok(chains)
+}
+
+/// The pairs that one pair of `steps` or more, one after another, lead through, to an end from
+/// `from` to `to`, as far as they last at most `longest`: those of [`closure_up_to`] but for the
+/// instants that no step is.
+pub fn iteration_up_to(
+    alloc: Global,
+    steps: &ZoneSet,
+    from: u64,
+    to: u64,
+    longest: Option<u64>,
+) -> Result<ZoneSet, AllocError>
+    requires rising { from ≤ to }
+    requires limit { to ≤ TIME_MAX }
+    requires longest { IsLongest longest }
+    ensures { IfOk result (λ set. HoldExactly set (Lasting (LastsUpTo longest)
+        (Composed (SetHolds steps.now) (Chain (SetHolds steps.now) (IsInstantBetween from to))))) }
+{
+    let steps = steps_of(alloc, steps.zones())?;
+    let limits = Limits { from, to, longest };
+    chains_in_parts(alloc, &steps, &limits)
 }
 
 // The chains of one step or more within the limits, part by part of steps that do not touch.
@@ -104,8 +123,8 @@ fn push_found(chains: &mut ZoneSet, found: Option<Zone>) -> Result<(), AllocErro
     }
 }
 
-// The composition of the two as far as it lasts at most `longest`.
-fn composed_up_to(first: &Zone, second: &Zone, longest: Option<u64>) -> Option<Zone>
+/// The composition of the two as far as it lasts at most `longest`.
+pub(crate) fn composed_up_to(first: &Zone, second: &Zone, longest: Option<u64>) -> Option<Zone>
     requires { IsLongest longest }
     ensures { GivesZone result
         (Lasting (LastsUpTo longest) (Composed (ZoneHolds first.now) (ZoneHolds second.now))) }

@@ -15,7 +15,7 @@
 #![tactic(auto)]
 
 pub use begins::{begins_of, leading_on};
-pub use chains::{closure, closure_up_to};
+pub use chains::{closure, closure_up_to, iteration_up_to};
 pub use composition::{compose_sets, compose_sets_up_to};
 
 mod begins;
@@ -26,3 +26,4 @@ mod limits;
 mod one_way;
 mod parts;
 mod power_limit;
+mod tails;

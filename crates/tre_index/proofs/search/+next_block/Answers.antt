@@ -1,4 +1,4 @@
-use Rattle.std.proofs.Common.{◌≡◌, ◌*◌, ◌≤◌, map, Some, None, ◌∙◌, arith}
+use Rattle.std.proofs.Common.{◌*◌, ◌≤◌, map, Some, None, ◌∙◌, arith}
 use Rattle.std.proofs.lemmas.List.{length-map}
 use Rattle.tre_index.proofs.Searching.{passed_all, found_next, comes_to, moves_on, goes_on, found_none, finds_at, first_under, others_index, finds_any, map-itself}
 use Rattle.tre_index.proofs.search.+next_block.Goals as goal

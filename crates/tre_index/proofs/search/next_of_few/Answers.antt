@@ -1,6 +1,5 @@
-use Rattle.std.proofs.Common.{◌≡◌, length, map, subst, MatchOption}
+use Rattle.std.proofs.Common.{map}
 use Rattle.std.proofs.lemmas.List.{length-map}
-use Rattle.tre_lanes.specs.Rows.{HasNone, IsNext}
 use Rattle.tre_index.proofs.search.next_of_few.Goals as goal
 
 pub returns : goal.returns

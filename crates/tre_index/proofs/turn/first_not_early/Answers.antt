@@ -1,4 +1,4 @@
-use Rattle.std.proofs.Common.{◌≡◌, ◌+◌, length, map, refl, arith}
+use Rattle.std.proofs.Common.{◌≡◌, length, map, refl, arith}
 use Rattle.std.proofs.lemmas.List.{length-map}
 use Rattle.tre_index.proofs.Turns.{row_at, HasNone-through}
 use Rattle.tre_index.proofs.turn.first_not_early.Goals as goal

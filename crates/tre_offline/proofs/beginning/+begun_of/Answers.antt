@@ -1,6 +1,5 @@
 -- The operator at the top is the tree's, and its parts are those of the tree.
 use Rattle.std.proofs.Common.{◌≡◌, ap}
-use Rattle.std.proofs.lemmas.Result.{IfOk-weaker}
 use Rattle.tre_state.specs.State as states
 use Rattle.tre_pairs.specs.Pairs.{Composed}
 use Rattle.tre_syntax.specs.Begun.{BegunRest}

@@ -1,52 +1,12 @@
 -- The operator at the top is the tree's, and its parts are those of the tree.
 use Rattle.std.proofs.Common.{◌≡◌, ◌∙◌, ap, refl}
+use Rattle.std.proofs.lemmas.Result.{IfOk-weaker}
 use Rattle.tre_syntax.specs.Expr.{tree_of}
-use Rattle.tre_syntax.specs.PatternTree.{PatternTree, sequence, alternation, intersection, repetition, restriction}
+use Rattle.tre_syntax.specs.PatternTree.{PatternTree, atom, empty, sequence, alternation, intersection, repetition, restriction}
 use Rattle.tre_syntax.specs.Rest.{whole}
-use Rattle.tre_offline.specs.Lengths.{IsRepetition, IsIteration}
-use Rattle.tre_offline.proofs.Operations.{nested_exact, iteration_exact, iterated_exact, short_of_form}
+use Rattle.tre_offline.specs.Lengths.{IsRepetition, IsOwnIteration, Spans}
+use Rattle.tre_offline.proofs.Operations.{nested_exact, iteration_exact, iterated_exact, option_exact, options_exact, spanned_exact, turned_exact, short_of_form}
 use Rattle.tre_offline.proofs.matching.+last_matches_of.Goals as goal
-
-pub returns-then-is_iterated : goal.returns-then-is_iterated
-returns-then-is_iterated g t c =
-    let rest = whole (g.T.AnyTrace.timeline c.args.trace) in
-    let left = tree_of c.deref-then-is_iterated.result.now in
-    let right = tree_of c.deref-in-Seq.result.now in
-    let tree : tree_of c.args.expr.now ≡ sequence left right =
-    rw (c.deref-then-is_iterated.ensures, c.deref-in-Seq.ensures) (ap tree_of c.in-Seq.is) in
-    let first : IsIteration left =
-    rw (c.deref.ensures, ← c.deref-then-is_iterated.ensures) at
-    (c.is_iterated.ensures.first c.if-is_iterated.true) in
-    let second : right ≡ repetition left =
-    rw (c.deref.ensures, ← c.deref-then-is_iterated.ensures) at
-    (c.is_iterated.ensures.second c.if-is_iterated.true) in
-    short_of_form c.last_matches_of.result c.args.longest rest tree _
-    (λ zones exact. iterated_exact c.args.longest left right rest zones first second exact)
-    c.last_matches_of.ensures
-
-pub returns-in_ok-first-in-Seq : goal.returns-in_ok-first-in-Seq
-returns-in_ok-first-in-Seq g t c =
-    let rest = whole (g.T.AnyTrace.timeline c.args.trace) in
-    let left = tree_of c.deref-in-Seq-2.result.now in
-    let right = tree_of c.deref-in-Seq-3.result.now in
-    let tree : tree_of c.args.expr.now ≡ sequence left right =
-    rw (c.deref-in-Seq-2.ensures, c.deref-in-Seq-3.ensures) (ap tree_of c.in-Seq.is) in
-    short_of_form c.followed.result c.args.longest rest tree _
-    (λ zones exact. exact left right rest c.in_ok-first-in-Seq.ensures
-    c.last_matches_of-second.ensures)
-    c.followed.ensures
-
-pub returns-in_ok-one-in-Alt : goal.returns-in_ok-one-in-Alt
-returns-in_ok-one-in-Alt g t c =
-    let rest = whole (g.T.AnyTrace.timeline c.args.trace) in
-    let left = tree_of c.deref-in-Alt.result.now in
-    let right = tree_of c.deref-in-Alt-2.result.now in
-    let tree : tree_of c.args.expr.now ≡ alternation left right =
-    rw (c.deref-in-Alt.ensures, c.deref-in-Alt-2.ensures) (ap tree_of c.in-Alt.is) in
-    short_of_form c.joined.result c.args.longest rest tree _
-    (λ zones exact. exact c.args.longest left right rest c.in_ok-one-in-Alt.ensures
-    c.last_matches_of-other.ensures)
-    c.joined.ensures
 
 pub returns-then-goes_first : goal.returns-then-goes_first
 returns-then-goes_first g t c =
@@ -75,51 +35,185 @@ returns-in_ok-other-in-Meet-2 g t c =
     c.in_ok-one-in-Meet.ensures c.in_ok-other-in-Meet-2.ensures).0)
     c.met-in-Meet.ensures
 
-pub returns-then-is_repetition : goal.returns-then-is_repetition
-returns-then-is_repetition g t c =
+pub returns-in-Some : goal.returns-in-Some
+returns-in-Some g t c =
     let rest = whole (g.T.AnyTrace.timeline c.args.trace) in
-    let step = tree_of c.deref-then-is_repetition.result.now in
-    let tree : tree_of c.args.expr.now ≡ repetition step =
-    rw c.deref-then-is_repetition.ensures (ap tree_of c.in-Star.is) in
-    let nested : IsRepetition step =
-    rw (c.deref-in-Star.ensures, ← c.deref-then-is_repetition.ensures) at
-    (c.is_repetition.ensures c.if-is_repetition.true) in
-    short_of_form c.last_matches_of-then-is_repetition.result c.args.longest rest tree _
-    (λ zones exact. nested_exact c.args.longest step rest zones nested exact)
-    c.last_matches_of-then-is_repetition.ensures
+    short_of_form c.shortened.result c.args.longest rest refl _
+    (λ zones told. told (tree_of c.args.expr.now) rest (rw c.in-Some.is at c.in_ok-found.ensures))
+    c.shortened.ensures
+
+pub returns-then-is_iterated : goal.returns-then-is_iterated
+returns-then-is_iterated g t c =
+    let rest = whole (g.T.AnyTrace.timeline c.args.trace) in
+    let left = tree_of c.deref-then-is_iterated.result.now in
+    let right = tree_of c.deref-in-Seq.result.now in
+    let tree : tree_of c.args.expr.now ≡ sequence left right =
+    rw (c.deref-then-is_iterated.ensures, c.deref-in-Seq.ensures) (ap tree_of c.in-Seq.is) in
+    let first : IsOwnIteration left =
+    rw (c.deref.ensures, ← c.deref-then-is_iterated.ensures) at
+    (c.is_iterated.ensures.first c.if-is_iterated.true) in
+    let second : right ≡ repetition left =
+    rw (c.deref.ensures, ← c.deref-then-is_iterated.ensures) at
+    (c.is_iterated.ensures.second c.if-is_iterated.true) in
+    short_of_form c.last_matches_of.result c.args.longest rest tree _
+    (λ zones exact. iterated_exact c.args.longest left right rest zones first second exact)
+    c.last_matches_of.ensures
 
 pub returns-then-repeats : goal.returns-then-repeats
 returns-then-repeats g t c =
     let rest = whole (g.T.AnyTrace.timeline c.args.trace) in
-    let once = tree_of c.deref-in-Seq-deref-2.result.now in
-    let more = tree_of c.deref-then-repeats.result.now in
+    let left = tree_of c.deref-then-repeats.result.now in
+    let right = tree_of c.deref-in-Seq-2.result.now in
+    let parts : tree_of c.args.expr.now ≡ sequence left right =
+    rw (c.deref-then-repeats.ensures, c.deref-in-Seq-2.ensures) (ap tree_of c.in-Seq.is) in
+    let again : right ≡ repetition left =
+    rw (c.deref-in-Seq-3.ensures, ← c.deref-then-repeats.ensures) at
+    (c.repeats.ensures c.if-repeats.true) in
+    let tree : tree_of c.args.expr.now ≡ sequence left (repetition left) =
+    parts ∙ ap (λ (t : PatternTree). sequence left t) again in
+    short_of_form c.iterated.result c.args.longest rest tree _
+    (λ zones exact. exact left rest c.begin-begin.ensures c.end-end.ensures.end c.last_matches_of-step.ensures)
+    c.iterated.ensures
+
+pub returns-in_ok-first-in-Seq-2 : goal.returns-in_ok-first-in-Seq-2
+returns-in_ok-first-in-Seq-2 g t c =
+    let rest = whole (g.T.AnyTrace.timeline c.args.trace) in
+    let left = tree_of c.deref-in-Seq-5.result.now in
+    let right = tree_of c.deref-in-Seq-6.result.now in
+    let tree : tree_of c.args.expr.now ≡ sequence left right =
+    rw (c.deref-in-Seq-5.ensures, c.deref-in-Seq-6.ensures) (ap tree_of c.in-Seq.is) in
+    short_of_form c.followed-in-Seq.result c.args.longest rest tree _
+    (λ zones exact. exact left right rest c.in_ok-first-in-Seq-2.ensures
+    c.last_matches_of-second.ensures)
+    c.followed-in-Seq.ensures
+
+pub returns-then-is_eps : goal.returns-then-is_eps
+returns-then-is_eps g t c =
+    let rest = whole (g.T.AnyTrace.timeline c.args.trace) in
+    let left = tree_of c.deref-then-is_eps.result.now in
+    let right = tree_of c.deref-then-is_repetition.result.now in
+    let tree : tree_of c.args.expr.now ≡ alternation left right =
+    rw (c.deref-then-is_eps.ensures, c.deref-then-is_repetition.ensures)
+    (ap tree_of c.in-Alt.is) in
+    let nested : IsRepetition left =
+    rw (c.deref-in-Alt.ensures, ← c.deref-then-is_eps.ensures) at
+    (c.is_repetition.ensures c.if-is_repetition.true) in
+    short_of_form c.last_matches_of-then-is_eps.result c.args.longest rest tree _
+    (λ zones exact. option_exact c.args.longest left right rest zones nested
+    (c.is_eps.ensures c.if-is_eps.true) exact)
+    c.last_matches_of-then-is_eps.ensures
+
+pub returns-in_ok-one-in-Alt : goal.returns-in_ok-one-in-Alt
+returns-in_ok-one-in-Alt g t c =
+    let rest = whole (g.T.AnyTrace.timeline c.args.trace) in
+    let left = tree_of c.deref-in-Alt-2.result.now in
+    let right = tree_of c.deref-in-Alt-3.result.now in
+    let tree : tree_of c.args.expr.now ≡ alternation left right =
+    rw (c.deref-in-Alt-2.ensures, c.deref-in-Alt-3.ensures) (ap tree_of c.in-Alt.is) in
+    short_of_form c.joined.result c.args.longest rest tree _
+    (λ zones exact. exact c.args.longest left right rest c.in_ok-one-in-Alt.ensures
+    c.last_matches_of-other.ensures)
+    c.joined.ensures
+
+pub returns-then-is_repetition-2 : goal.returns-then-is_repetition-2
+returns-then-is_repetition-2 g t c =
+    let rest = whole (g.T.AnyTrace.timeline c.args.trace) in
+    let step = tree_of c.deref-then-is_repetition-2.result.now in
+    let tree : tree_of c.args.expr.now ≡ repetition step =
+    rw c.deref-then-is_repetition-2.ensures (ap tree_of c.in-Star.is) in
+    let nested : IsRepetition step =
+    rw (c.deref-in-Star.ensures, ← c.deref-then-is_repetition-2.ensures) at
+    (c.is_repetition-in-Star.ensures c.if-is_repetition-2.true) in
+    short_of_form c.last_matches_of-then-is_repetition-2.result c.args.longest rest tree _
+    (λ zones exact. nested_exact c.args.longest step rest zones nested exact)
+    c.last_matches_of-then-is_repetition-2.ensures
+
+pub returns-then-repeats-2 : goal.returns-then-repeats-2
+returns-then-repeats-2 g t c =
+    let rest = whole (g.T.AnyTrace.timeline c.args.trace) in
+    let once = tree_of c.deref-in-Seq-deref-2-3.result.now in
+    let more = tree_of c.deref-then-repeats-2.result.now in
     let step : tree_of c.deref-in-Star-2.result.now ≡ sequence once more =
-    rw (c.deref-in-Seq-deref-2.ensures, c.deref-then-repeats.ensures)
-    (ap tree_of c.in-Seq-deref.is) in
+    rw (c.deref-in-Seq-deref-2-3.ensures, c.deref-then-repeats-2.ensures)
+    (ap tree_of c.in-Seq-deref-2.is) in
     let star : tree_of c.args.expr.now ≡ repetition (tree_of c.deref-in-Star-2.result.now) =
     rw c.deref-in-Star-2.ensures (ap tree_of c.in-Star.is) in
     let tree : tree_of c.args.expr.now ≡ repetition (sequence once more) =
     star ∙ ap (λ (t : PatternTree). repetition t) step in
     let again : more ≡ repetition once =
-    rw (c.deref-in-Seq-deref.ensures, ← c.deref-then-repeats.ensures) at
-    (c.repeats.ensures c.if-repeats.true) in
-    short_of_form c.last_matches_of-then-repeats.result c.args.longest rest tree _
+    rw (c.deref-in-Seq-deref-2-2.ensures, ← c.deref-then-repeats-2.ensures) at
+    (c.repeats-in-Seq-deref-2.ensures c.if-repeats-2.true) in
+    short_of_form c.last_matches_of-then-repeats-2.result c.args.longest rest tree _
     (λ zones exact. iteration_exact c.args.longest once more rest zones again exact)
-    c.last_matches_of-then-repeats.ensures
+    c.last_matches_of-then-repeats-2.ensures
 
-pub returns-after-deref : goal.returns-after-deref
-returns-after-deref g t c =
+pub returns-then-is_repetition-3 : goal.returns-then-is_repetition-3
+returns-then-is_repetition-3 g t c =
     let rest = whole (g.T.AnyTrace.timeline c.args.trace) in
-    let step = tree_of c.deref-in-Star-3.result.now in
-    let tree : tree_of c.args.expr.now ≡ repetition step =
+    let once = tree_of c.deref-then-is_repetition-3.result.now in
+    let none = tree_of c.deref-in-Alt-deref.result.now in
+    let step : tree_of c.deref-in-Star-3.result.now ≡ alternation once none =
+    rw (c.deref-then-is_repetition-3.ensures, c.deref-in-Alt-deref.ensures)
+    (ap tree_of c.in-Alt-deref.is) in
+    let star : tree_of c.args.expr.now ≡ repetition (tree_of c.deref-in-Star-3.result.now) =
     rw c.deref-in-Star-3.ensures (ap tree_of c.in-Star.is) in
+    let tree : tree_of c.args.expr.now ≡ repetition (alternation once none) =
+    star ∙ ap (λ (t : PatternTree). repetition t) step in
+    let nested : IsRepetition once =
+    rw (c.deref-then-is_eps-2.ensures, ← c.deref-then-is_repetition-3.ensures) at
+    (c.is_repetition-then-is_eps-2.ensures c.if-is_repetition-3.true) in
+    short_of_form c.last_matches_of-then-is_repetition-3.result c.args.longest rest tree _
+    (λ zones exact. options_exact c.args.longest once none rest zones
+    (c.is_eps-in-Alt-deref.ensures c.if-is_eps-2.true)
+    (nested_exact c.args.longest once rest zones nested exact))
+    c.last_matches_of-then-is_repetition-3.ensures
+
+pub returns-then-is_eps-2 : goal.returns-then-is_eps-2
+returns-then-is_eps-2 g t c =
+    let rest = whole (g.T.AnyTrace.timeline c.args.trace) in
+    let once = tree_of c.deref-then-is_eps-2-2.result.now in
+    let none = tree_of c.deref-in-Alt-deref.result.now in
+    let step : tree_of c.deref-in-Star-3.result.now ≡ alternation once none =
+    rw (c.deref-then-is_eps-2-2.ensures, c.deref-in-Alt-deref.ensures)
+    (ap tree_of c.in-Alt-deref.is) in
+    let star : tree_of c.args.expr.now ≡ repetition (tree_of c.deref-in-Star-3.result.now) =
+    rw c.deref-in-Star-3.ensures (ap tree_of c.in-Star.is) in
+    let tree : tree_of c.args.expr.now ≡ repetition (alternation once none) =
+    star ∙ ap (λ (t : PatternTree). repetition t) step in
     short_of_form c.repeated.result c.args.longest rest tree _
-    (λ zones exact. exact step rest c.begin-begin.ensures c.end-end.ensures.end
-    c.last_matches_of-step.ensures)
+    (λ zones exact. options_exact c.args.longest once none rest zones
+    (c.is_eps-in-Alt-deref.ensures c.if-is_eps-2.true)
+    (exact once rest c.begin-begin-then-is_eps-2.ensures c.end-end-then-is_eps-2.ensures.end c.last_matches_of-once.ensures))
     c.repeated.ensures
 
-pub returns-in_default-deref-2 : goal.returns-in_default-deref-2
-returns-in_default-deref-2 g t c =
+pub returns-then-spans : goal.returns-then-spans
+returns-then-spans g t c =
+    let rest = whole (g.T.AnyTrace.timeline c.args.trace) in
+    let step = tree_of c.deref-then-spans.result.now in
+    let tree : tree_of c.args.expr.now ≡ repetition step =
+    rw c.deref-then-spans.ensures (ap tree_of c.in-Star.is) in
+    let spans : Spans step =
+    rw (c.deref-in-Star-4.ensures, ← c.deref-then-spans.ensures) at
+    (c.spans.ensures c.if-spans.true) in
+    short_of_form c.joined-then-spans.result c.args.longest rest tree _
+    (λ zones exact. spanned_exact c.args.longest step rest zones spans
+    (exact c.args.longest (atom empty) step rest
+    (c.in_ok-moments-in-Star.ensures (atom empty) rest c.moments.ensures)
+    c.last_matches_of-step-then-spans.ensures))
+    c.joined-then-spans.ensures
+
+pub returns-else-spans : goal.returns-else-spans
+returns-else-spans g t c =
+    let rest = whole (g.T.AnyTrace.timeline c.args.trace) in
+    let step = tree_of c.deref-in-Star-5.result.now in
+    let tree : tree_of c.args.expr.now ≡ repetition step =
+    rw c.deref-in-Star-5.ensures (ap tree_of c.in-Star.is) in
+    short_of_form c.repeated-in-Star.result c.args.longest rest tree _
+    (λ zones exact. exact step rest c.begin-begin-in-Star.ensures c.end-end-in-Star.ensures.end c.last_matches_of-step-in-Star.ensures)
+    c.repeated-in-Star.ensures
+
+pub returns-in_default-deref-4 : goal.returns-in_default-deref-4
+returns-in_default-deref-4 g t c =
     let rest = whole (g.T.AnyTrace.timeline c.args.trace) in
     let all = tree_of c.deref-in-Within-2.result.now in
     let tree : tree_of c.args.expr.now ≡ restriction all c.in-Within.interval =
@@ -129,9 +223,24 @@ returns-in_default-deref-2 g t c =
     c.last_matches_of-all.ensures)
     c.restricted.ensures
 
-pub returns-in-Some : goal.returns-in-Some
-returns-in-Some g t c =
+pub returns-then-comes_last : goal.returns-then-comes_last
+returns-then-comes_last g t c =
     let rest = whole (g.T.AnyTrace.timeline c.args.trace) in
-    short_of_form c.shortened.result c.args.longest rest refl _
-    (λ zones told. told (tree_of c.args.expr.now) rest (rw c.in-Some.is at c.in_ok-found.ensures))
-    c.shortened.ensures
+    let begin = tree_of c.deref-then-comes_last.result.now in
+    let middle = tree_of c.deref-then-comes_last-2.result.now in
+    let right = tree_of c.deref-then-comes_last-3.result.now in
+    let inner : tree_of c.deref-in-Seq-4.result.now ≡ sequence begin middle =
+    rw (c.deref-then-comes_last.ensures, c.deref-then-comes_last-2.ensures)
+    (ap tree_of c.in-Seq-deref.is) in
+    let outer : tree_of c.args.expr.now ≡ sequence (tree_of c.deref-in-Seq-4.result.now) right =
+    rw (c.deref-in-Seq-4.ensures, c.deref-then-comes_last-3.ensures) (ap tree_of c.in-Seq.is) in
+    let tree : tree_of c.args.expr.now ≡ sequence (sequence begin middle) right =
+    outer ∙ ap (λ (t : PatternTree). sequence t right) inner in
+    short_of_form c.followed.result c.args.longest rest tree _
+    (λ zones exact. turned_exact c.args.longest begin middle right rest zones
+    (exact begin (sequence middle right) rest c.in_ok-first-in-Seq.ensures
+    (IfOk-weaker c.followed-behind.result _ _
+    (λ behind told. told middle right rest c.in_ok-second-in-Seq.ensures
+    c.last_matches_of-third.ensures)
+    c.followed-behind.ensures)))
+    c.followed.ensures

@@ -1,5 +1,4 @@
-use Rattle.std.proofs.Common.{◌<◌, length, subst, sym, arith}
-use Rattle.tre_index.specs.Index.{Lifted}
+use Rattle.std.proofs.Common.{arith}
 use Rattle.tre_index.proofs.Raising.{lifted_in_place}
 use Rattle.tre_index.proofs.level.Level.lift.Goals as goal
 

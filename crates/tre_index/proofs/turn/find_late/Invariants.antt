@@ -1,6 +1,6 @@
 use Rattle.std.proofs.Common.{◌≤◌, map}
 use Rattle.tre_index.specs.Turn.{AreNotLate}
-use Rattle.tre_index.proofs.turn.first_late.Given as goal
+use Rattle.tre_index.proofs.turn.find_late.Given as goal
 
 abbrev pub invariant-loop-place : goal.invariant-loop-place
 invariant-loop-place g l =

@@ -1,6 +1,6 @@
 use Rattle.std.proofs.Common.{refl, arith, map}
 use Rattle.tre_index.proofs.Turns.{row_at, HasNone-late, AreNotLate-more}
-use Rattle.tre_index.proofs.turn.first_late.Goals as goal
+use Rattle.tre_index.proofs.turn.find_late.Goals as goal
 
 pub loop-place-preserved : goal.loop-place-preserved
 loop-place-preserved g c = (
@@ -13,7 +13,7 @@ loop-place-preserved g c = (
 )
 
 pub returns-then-is_late-clause-none : goal.returns-then-is_late-clause-none
-returns-then-is_late-clause-none g c =
+returns-then-is_late-clause-none g c = λ fewer.
     HasNone-late _ c.args.key.now c.row.result c.loop-place.place _ c.requires.turn
     (row_at g.T.HasRow.row_of c.args.items.now c.loop-place.place c.index-items-place.result
     c.row.result (omega arith) c.index-items-place.is c.row.ensures)
