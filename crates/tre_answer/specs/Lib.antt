@@ -1,5 +1,5 @@
--- What a reader must believe: what the bytes of an input say, what is wanted, when two requests want
--- the same, and how an answer ends.
+-- What a reader must believe: what the bytes of an input say, what is wanted, when two requests
+-- want the same, and how an answer ends.
 pub mod Recorded
 pub mod Said
 pub mod Wanted

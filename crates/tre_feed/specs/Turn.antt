@@ -48,9 +48,9 @@ abbrev pub TakesRead : (List Stretch → Type 0) → (List Stretch → Type 0) �
 TakesRead waits then_waits before now (Err Memory) = KeepsWaiting waits then_waits
 TakesRead waits then_waits before now result = TakesOn waits then_waits before now
 
--- What a turn found behind these bytes, of all that were read then, closed or not yet. Where it says
--- that the input may go on, they were fed; where it says that it may not, they are a whole trace,
--- with these last events. A read that fails gives nothing.
+-- What a turn found behind these bytes, of all that were read then, closed or not yet. Where it
+-- says that the input may go on, they were fed; where it says that it may not, they are a whole
+-- trace, with these last events. A read that fails gives nothing.
 abbrev pub TurnFinds : (List ℕ → Type 0) → ((List ℕ → Bool) → Type 0) →
     (Bool → List ℕ → Recording) → ℕ → InputTold → ℕ → List ℕ → List ℕ → Bool →
     Result Bool Fault → Type 0

@@ -15,8 +15,8 @@
 //! those stretches wait behind the others that the recording has beyond the earlier, and
 //! [`Input::column`] gives each of them as it is for the names of each who asks.
 //! [`Input::read_traces`] takes all turns and gives the traces. [`read_front`] gives the bytes of a
-//! file that is read for its own sake, up to a limit. [`write_bytes`] writes what is told of an input,
-//! with the same [`Fault`] for all that may end this work.
+//! file that is read for its own sake, up to a limit. [`write_bytes`] writes what is told of an
+//! input, with the same [`Fault`] for all that may end this work.
 //!
 //! ```text
 //! let mut input = text_input(alloc, &patterns, scale, limit)?;

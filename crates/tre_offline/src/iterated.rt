@@ -32,9 +32,10 @@ pub(crate) fn spans(expr: &Expr) -> bool
     }
 }
 
-/// Whether a sequence that ends with the two is found from its end: where anything may come last, and
-/// not before it, what begins with the part before last is few, and what it ends is much. What is
-/// found depends on it in no way.
+/// Whether a sequence is found from its end, by its last two parts. Where anything may come last,
+/// these two have a zone for each begin, and what is put before them keeps few more; from the first
+/// part on, each begin would be kept with each end of the part before last. What is found depends
+/// on it in no way.
 pub(crate) fn comes_last(before: &Expr, last: &Expr) -> bool {
     spans(last) && !spans(before)
 }

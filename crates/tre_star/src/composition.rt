@@ -95,7 +95,8 @@ fn compose_in_turn(
 struct Pass {
     /// The place of the first that the last one could be followed by.
     near: usize,
-    /// The bounds of what is left of the second ones from each place on, once it was asked for them.
+    /// The bounds of what is left of the second ones from each place on, once it was asked for
+    /// them.
     tails: Option<Vec<ZoneBounds>>,
 }
 

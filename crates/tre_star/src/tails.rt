@@ -1,5 +1,5 @@
-// What is left of a list of zones from a place on, by bounds that take all of it in. Where nothing of
-// that would be new, none of the zones has to be looked at.
+// What is left of a list of zones from a place on, by bounds that take all of it in. Where nothing
+// of that would be new, none of the zones has to be looked at.
 ghost use Rattle.std.specs.Prelude.{◌≡◌, ℕ, ◌+◌, ◌^◌, ◌<◌, ◌≤◌, ◌≤ℤ◌, List, length, slice_index_or, IsTrue, IfOk};
 ghost use Rattle.tre_pairs.specs.Pairs.{Composed, Lasting};
 ghost use Rattle.tre_zone.specs.Bound.{IsKeyWithin};

@@ -1,5 +1,5 @@
--- How the answering of a request ends that is told as its input comes, what each end means, and what
--- was written.
+-- How the answering of a request ends that is told as its input comes, what each end means, and
+-- what was written.
 use Rattle.std.specs.Prelude.{◌≡◌, ◌⊎◌, ℕ, ◌≤◌, Bool, true, false, List, None, IsTrue, MatchBool, length, Result, Ok, Err}
 use Rattle.std.specs.Io.KnownBytes.{IsAtEnd}
 use Rattle.tre_feed.specs.Front.{IsUnreadable}

@@ -111,8 +111,8 @@ MayStand says job =
     StandsTogether job × (job.format ≡ Csv → is_given (codes "online") says ≡ false)
     × DefinesFor job.format says
 
--- Words that are options, each once, and a pattern's text give this job: what the options say is the
--- job, and may stand so.
+-- Words that are options, each once, and a pattern's text give this job: what the options say is
+-- the job, and may stand so.
 pub record GivesPlain (words : List Text) (job : Job) : Type 0 where
   pub settings : List Setting
   pub typed : AreTyped settings

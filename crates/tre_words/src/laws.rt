@@ -20,7 +20,8 @@ pub fn given_is_job()
 {}
 
 /// The job that options and a pattern's text give is what `clap` promises of these words, and where
-/// it promises one, they give it. Words are texts here: of bytes that are none `clap` says otherwise.
+/// it promises one, they give it. Words are texts here: of bytes that are none `clap` says
+/// otherwise.
 pub fn job_by_clap()
     ensures { (words : List (String Global)) (job : Job) →
         GivesPlain (map string_bytes words) job ↔ ByClap (map string_bytes words) job }
