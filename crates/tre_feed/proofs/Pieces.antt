@@ -188,9 +188,12 @@ module _ {were_fed : List ℕ → Type 0} {limit : ℕ} {input : InputTold} {cou
         EndsTurn-stops grows none Read stops = EndsTurn-read [] false _
             (Consumes-kept input.now.left input.now.left now.left [] (Consumes-nil input.now.left)
             stops.0) (omega arith) (omega arith) (λ e. cc)
-            (rw (append-nil bytes) (TakesOn-nothing _ stops.1))
-            (refl, append-nil bytes, omega (arith, so_far.size, inside),
-            rw (IsFed-here inside) at none)
+            (rw (append-nil bytes) (TakesOn-nothing _ stops.1)) (
+              refl,
+              append-nil bytes,
+              omega (arith, so_far.size, inside),
+              rw (IsFed-here inside) at none,
+            )
         EndsTurn-stops grows none Memory stops = EndsTurn-read stops.piece false _ stops.front
             (omega (arith, stops.short, some)) (omega (arith, stops.short, fits)) (λ e. cc)
             stops.takes tt
