@@ -24,8 +24,7 @@ pub fn one_request()
         (asks.lets ≡ again.lets) × (asks.signals ≡ again.signals) }
 {}
 
-/// Every end but `Usage` and `Memory` is that of words that give a job. Of such words `clap` has no
-/// fault.
+/// Every end but `Usage` and `Memory` is that of words that give a job: so no word is passed over.
 pub fn given_job()
     ensures { (words : List (List ℕ)) (checks input : InputTold) (output : OutputTold)
         (status : Status) → EndsAs (GivesJob words) checks input output status →
