@@ -154,5 +154,13 @@ else
     echo 'FAILED: a link of a page'
 fi
 
+# The page of definitions is what its script writes.
+if python3 bench/house/statement.py --page "$room/statement.md" && cmp -s "$room/statement.md" docs/statement.md; then
+    good=$((good + 1))
+else
+    bad=$((bad + 1))
+    echo 'FAILED: docs/statement.md is not what `python3 bench/house/statement.py --page docs/statement.md` writes'
+fi
+
 echo "$good good, $bad failed"
 [ "$bad" -eq 0 ]
