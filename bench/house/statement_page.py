@@ -7,8 +7,9 @@ file has no section, where a law has no such name any more, and where a word of 
 import os
 import re
 import sys
+from collections import Counter
 
-from reached import CRATES
+from reached import CRATES, file_of, words_of
 
 HEAD = """# The statement
 
@@ -27,7 +28,7 @@ counts them.
 The program is this `main`. It has no contract, so read it:
 
 ```rust
-%(main)s
+@MAIN@
 ```
 
 `exit_code`, and `run_all`, which it calls, meet their contracts, which stand under \
@@ -62,21 +63,33 @@ line that fits counts. Where T is `Type 0`, f is a statement about them |
 them is, or data with these fields. `r.a` is one of them |
 | `data D .. where c : ..` | what these lines give, and nothing else; each is a rule, or a form \
 that a value has |
-| `A × B`, `A ⊎ B`, `A → B`, `A ↔ B`, `¬ A`, `⊥` | and, or, if A then B, exactly if, not, never |
+| `A × B`, `A ⊎ B`, `A → B`, `A ↔ B`, `¬ A` | and, or, if A then B, exactly if, not |
+| `Unit {0}`, `⊥` | always, never |
 | `(x : T) → ..`, `(x : T) × ..` | for each x; for some x |
+| `{T : Type 0} → ..`, `_` | for any T, which isn't written where f is used; what stands there is \
+of no account |
 | `x ≡ y`, `x ≢ y`, `IsTrue x` | they are the same; they differ; x is true |
+| `==`, `&&`, `\\|\\|`, `not`, `if x then y else z` | tests, which give true or false, and what \
+hangs on one |
 | `[]`, `x ∷ xs`, `xs ++ ys` | the empty list; x and then the list xs; one list behind another |
 | `Some x`, `None`, `IfSome o P` | an x; none; P holds of it if there is one |
-| `f x y`, `λ x. y` | f of x and y; the function that gives y for x |
-| `ℕ`, `ℤ`, `List ℕ`, `codes "end "` | whole numbers from 0; all whole numbers; bytes; the bytes \
-of this text |
+| `f x y`, `λ x. y`, `record { a = x }` | f of x and y; the function that gives y for x; the data \
+whose a is x |
+| `ℕ`, `ℤ`, `≤ℤ`, `pos n`, `negsuc n`, `suc n` | whole numbers from 0; all whole numbers; a sign \
+for those; n; -(n + 1); n + 1 |
+| `x - y`, `x / y`, `x % y`, `x ^ y` | of ℕ: the difference, or 0 where y is larger; rounded down; \
+what is left over; a power |
+| `List ℕ`, `codes "end "` | bytes; the bytes of this text |
 | `requires`, `ensures`, `x.old`, `x.new`, `x.now` | what a call asks for, and what it promises; \
 of x before the call, after it, and where the call leaves it |
+| `impl Model for T` | what the definitions see in place of a T: a `Value`, by its `view` |
 
 A line that begins with `--` is a comment, of specs/; so are those with `//` and `///`, of code. \
-`abbrev`, `unfoldable` and `pub` say nothing that a reader needs.
+`abbrev`, `unfoldable`, `pub` and `ghost` say nothing that a reader needs. Where several files \
+have a name, or a file calls it by another one, "Names from elsewhere" says whose it is; each \
+other name stands in the same file, or in one alone.
 
-Who has ten minutes reads %(first)s.
+Who has ten minutes reads @FIRST@.
 """
 
 FIRST_READ = [("A match", ["Matches", "HasEdge", "HoldsBetween"]), ("An answer", ["AreZonesOf"]),
@@ -101,8 +114,10 @@ SECTIONS = [
     ("An answer",
      "Zones that hold just the pairs that are wanted, none within another, each as tight as its "
      "pairs allow; and the lines that tell them.",
-     ["tre_answer/specs/Wanted", "tre_zone/specs/ZoneList", "tre_zone/specs/Zone", "tre_zone",
-      "tre_show/specs/Line", "tre_show/specs/Interval", "tre_show/specs/Order"],
+     ["tre_answer/specs/Wanted", "tre_zone/specs/ZoneList", "tre_zone/specs/Zone",
+      "tre_zone/src/zone_bounds", "tre_zone/src/bound", "tre_zone/specs/Bound",
+      "tre_show/specs/Line", "tre_zone/specs/Ranges", "tre_zone", "tre_show/specs/Interval",
+      "tre_show/specs/Order"],
      {"tre_answer": ["printed_answer", "both_ways", "one_canonical_answer",
                      "parts_of_a_difference"],
       "tre_show": ["line_tells_zone", "shown_zones", "one_text", "one_front", "line_order"],
@@ -227,12 +242,64 @@ def about(file):
     return " ".join(lines)
 
 
-def file_part(file, blocks):
-    said = about(file) if file.name.endswith(".antt") else ""
-    fence = "antt" if file.name.endswith(".antt") else "rust"
-    heading = "### [%s](../crates/%s)\n" % (file.name, file.name)
-    body = "```%s\n%s\n```\n" % (fence, "\n\n".join(blocks))
-    return "\n".join([heading, said + "\n", body] if said else [heading, body])
+def names_in(file, blocks):
+    """The names that the definitions of a file give: their own, and those of their forms."""
+    names = [name for name, block in file.items.items() if block in blocks]
+    if file.name.endswith(".rt"):
+        for block in blocks:
+            if "enum " in block:
+                names += re.findall(r"^    (\w+)(?=[,({ ])", block, re.MULTILINE)
+    return names
+
+
+def place_of(crate, path, word=None):
+    """Where an import finds its words: a type of Rust, or a file."""
+    types = [part for part in path.split(".") if part[0].isupper() and part[:3] != "The"]
+    if path.startswith("declared") and types and types[-1] != word:
+        return types[-1]
+    return file_of(crate, path)
+
+
+def borrowed(file, blocks, counts):
+    """Which names of other files have another name here, or stand in several files."""
+    words, said = words_of("\n".join(blocks)), {}
+    for new, (crate, path, old) in sorted(file.imports.items()):
+        if new not in words or not os.path.isdir(os.path.join(CRATES, crate)):
+            continue
+        if old != new or counts[old] > 1:
+            name = "`%s`" % new if old == new else "`%s` (there `%s`)" % (new, old)
+            said.setdefault(place_of(crate, path, old), []).append(name)
+    for alias, (crate, path) in sorted(file.aliases.items()):
+        for word in sorted(set(re.findall(r"\b%s\.(\w+)" % alias, "\n".join(blocks)))):
+            said.setdefault(place_of(crate, path), []).append("`%s.%s`" % (alias, word))
+    names = ["%s of `%s`" % (", ".join(names), place) for place, names in sorted(said.items())]
+    return "Names from elsewhere: %s.\n" % "; ".join(names) if said else ""
+
+
+def with_remarks(file, blocks):
+    """The definitions of a file of specs/, with the remarks and headings that stand before them."""
+    kept, remarks = [], {}
+    for block in file.text.split("\n\n"):
+        block = block.rstrip("\n")
+        if all(line.startswith("--") for line in block.split("\n")):
+            remarks = {} if block.startswith("-- ----") else remarks
+            remarks["heading" if block.startswith("-- ----") else "remark"] = block
+            continue
+        if block in blocks:
+            kept += list(remarks.values()) + [block]
+            remarks = {}
+        remarks.pop("remark", None)
+    return kept
+
+
+def file_part(file, blocks, counts):
+    parts = ["### [%s](../crates/%s)\n" % (file.name, file.name)]
+    specs = file.name.endswith(".antt")
+    said = [about(file) + "\n" if specs else "", borrowed(file, blocks, counts)]
+    parts += [text for text in said if text]
+    text = "\n\n".join(with_remarks(file, blocks) if specs else blocks)
+    parts.append("```%s\n%s\n```\n" % ("antt" if specs else "rust", text))
+    return "\n".join(parts)
 
 
 def kit_part(walk):
@@ -267,11 +334,13 @@ def first_read(texts, sections):
 def page(walk, texts):
     """The whole page."""
     sections = sections_of(texts)
+    counts = Counter(name for file, blocks in texts.items()
+                     for name in set(names_in(walk.file(file), blocks)))
     with open(os.path.join(CRATES, "montre/src/main.rt"), encoding="utf-8") as opened:
         main = opened.read().rstrip("\n")
-    parts = [HEAD % {"main": main, "first": first_read(texts, sections)}]
+    parts = [HEAD.replace("@MAIN@", main).replace("@FIRST@", first_read(texts, sections))]
     for (title, what, _, laws), files in zip(SECTIONS, sections):
         parts.append("## %s\n\n%s\n" % (title, what))
         parts.append(laws_line(laws))
-        parts += [file_part(walk.file(file), texts[file]) for file in files]
+        parts += [file_part(walk.file(file), texts[file], counts) for file in files]
     return "\n".join(part for part in parts + [kit_part(walk)] if part)
