@@ -222,8 +222,10 @@ def laws_line(laws):
     """The names of the laws, each with its crate; each must stand there."""
     said = []
     for crate, names in laws.items():
-        with open(os.path.join(CRATES, law_file(crate)), encoding="utf-8") as opened:
-            there = set(re.findall(r"^pub fn (\w+)[(<]", opened.read(), re.MULTILINE))
+        path, there = os.path.join(CRATES, law_file(crate)), set()
+        if os.path.isfile(path):
+            with open(path, encoding="utf-8") as opened:
+                there = set(re.findall(r"^pub fn (\w+)[(<]", opened.read(), re.MULTILINE))
         if set(names) - there:
             sys.exit("statement.py: no law %s in %s" % (sorted(set(names) - there), crate))
         said.append("%s of [%s](../crates/%s)" % (
@@ -289,6 +291,8 @@ def with_remarks(file, blocks):
             kept += list(remarks.values()) + [block]
             remarks = {}
         remarks.pop("remark", None)
+    if set(blocks) - set(kept):
+        sys.exit("statement.py: a definition of %s isn't between blank lines" % file.name)
     return kept
 
 
