@@ -73,8 +73,8 @@ of no account |
 hangs on one |
 | `[]`, `x ∷ xs`, `xs ++ ys` | the empty list; x and then the list xs; one list behind another |
 | `Some x`, `None`, `IfSome o P` | an x; none; P holds of it if there is one |
-| `f x y`, `λ x. y`, `record { a = x }` | f of x and y; the function that gives y for x; the data \
-whose a is x |
+| `f x y`, `λ x. y` | f of x and y; the function that gives y for x |
+| `record { a = x }`, `record r { a = x }` | the data whose a is x; r, but for its a, which is x |
 | `ℕ`, `ℤ`, `≤ℤ`, `pos n`, `negsuc n`, `suc n` | whole numbers from 0; all whole numbers; a sign \
 for those; n; -(n + 1); n + 1 |
 | `x - y`, `x / y`, `x % y`, `x ^ y` | of ℕ: the difference, or 0 where y is larger; rounded down; \
@@ -306,10 +306,19 @@ def file_part(file, blocks, counts):
     return "\n".join(parts)
 
 
-def kit_part(walk):
+def rust_words(walk, texts):
+    """The traits and types of the kit that contracts and types of Rust name."""
+    return sorted({word for name, blocks in texts.items() if name.endswith(".rt")
+                   for word in walk.file(name).uses()
+                   if word in words_of("\n".join(blocks))
+                   and not walk.declared(walk.file(name), word)})
+
+
+def kit_part(walk, texts):
     words = {}
     for crate, _, word in walk.kit:
         words.setdefault(crate, set()).add(word)
+    words["std, in Rust"] = set(rust_words(walk, texts))
     lines = ["- of %s: %s" % (crate, ", ".join("`%s`" % word for word in sorted(words[crate])))
              for crate in sorted(words)]
     return ("## Words of the kit\n\nWords that the definitions take from the kit's library, beside "
@@ -347,4 +356,4 @@ def page(walk, texts):
         parts.append("## %s\n\n%s\n" % (title, what))
         parts.append(laws_line(laws))
         parts += [file_part(walk.file(file), texts[file], counts) for file in files]
-    return "\n".join(part for part in parts + [kit_part(walk)] if part)
+    return "\n".join(part for part in parts + [kit_part(walk, texts)] if part)
