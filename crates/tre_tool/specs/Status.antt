@@ -49,20 +49,6 @@ fault_status FaultRead = ReadFault
 fault_status FaultWrite = WriteFault
 fault_status FaultMemory = Memory
 
-abbrev pub code_of : Status → ℕ
-code_of Done = 0
-code_of Usage = 2
-code_of (Expression fault) = 3
-code_of (Trace fault) = 4
-code_of InputTooLong = 5
-code_of ReadFault = 6
-code_of WriteFault = 7
-code_of Memory = 8
-code_of (TooManyZones zones) = 9
-code_of (Minus fault) = 10
-code_of (Definitions fault) = 11
-code_of (Watch fault) = 12
-
 abbrev pub kind_name : TraceKind → List ℕ
 kind_name LineTooLong = codes "LineTooLong"
 kind_name BadNumber = codes "BadNumber"
@@ -102,21 +88,29 @@ watch_words (Pattern line fault) =
 watch_words Empty = codes "Empty\n"
 watch_words WatchMemory = codes "Memory\n"
 
--- what standard error is told
+-- the code of a status, and what standard error is told
+abbrev pub told : Status → ℕ × List ℕ
+told Done = (0, [])
+told Usage = (2, codes "montre: wrong arguments\n")
+told (Expression fault) = (3, codes "montre: expression: " ++ refusal_words fault)
+told (Trace fault) = (
+  4,
+  codes "montre: trace: " ++ kind_name fault.kind ++ codes " at " ++ decimal fault.place
+      ++ codes "\n",
+)
+told InputTooLong = (5, codes "montre: input too long\n")
+told ReadFault = (6, codes "montre: read fault\n")
+told WriteFault = (7, codes "montre: write fault\n")
+told Memory = (8, codes "montre: out of memory\n")
+told (TooManyZones zones) = (9, codes "montre: too many zones " ++ number_line zones)
+told (Minus fault) = (10, codes "montre: minus expression: " ++ refusal_words fault)
+told (Definitions (BadLet at)) = (11, codes "montre: definitions: BadLet at " ++ number_line at)
+told (Definitions (Twice at)) = (11, codes "montre: definitions: Twice at " ++ number_line at)
+told (Definitions LetMemory) = (11, codes "montre: definitions: Memory\n")
+told (Watch fault) = (12, codes "montre: watch: " ++ watch_words fault)
+
+abbrev pub code_of : Status → ℕ
+code_of status = (told status).0
+
 abbrev pub error_line : Status → List ℕ
-error_line Done = []
-error_line Usage = codes "montre: wrong arguments\n"
-error_line (Expression fault) = codes "montre: expression: " ++ refusal_words fault
-error_line (Minus fault) = codes "montre: minus expression: " ++ refusal_words fault
-error_line (Definitions (BadLet at)) = codes "montre: definitions: BadLet at " ++ number_line at
-error_line (Definitions (Twice at)) = codes "montre: definitions: Twice at " ++ number_line at
-error_line (Definitions LetMemory) = codes "montre: definitions: Memory\n"
-error_line (Watch fault) = codes "montre: watch: " ++ watch_words fault
-error_line (Trace fault) =
-    codes "montre: trace: " ++ kind_name fault.kind ++ codes " at " ++ decimal fault.place
-    ++ codes "\n"
-error_line (TooManyZones zones) = codes "montre: too many zones " ++ number_line zones
-error_line InputTooLong = codes "montre: input too long\n"
-error_line ReadFault = codes "montre: read fault\n"
-error_line WriteFault = codes "montre: write fault\n"
-error_line Memory = codes "montre: out of memory\n"
+error_line status = (told status).1

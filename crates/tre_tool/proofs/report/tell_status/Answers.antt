@@ -48,3 +48,6 @@ returns-in-TooManyZones-clause-line g c = rw c.in-TooManyZones.is c.tell_number.
 
 pub returns-in-TooManyZones-clause-part : goal.returns-in-TooManyZones-clause-part
 returns-in-TooManyZones-clause-part g c = rw c.in-TooManyZones.is c.tell_number.ensures.part
+
+pub returns-in-Minus-clause-part : goal.returns-in-Minus-clause-part
+returns-in-Minus-clause-part g c = rw c.in-Minus.is c.tell_fault-in-Minus.ensures.part
