@@ -31,7 +31,7 @@ if [ -n "$unit" ]; then
         before=$word
     done
     [ -f "$dump" ] || stop 'unit= needs a dump behind --input'
-    tick=$(awk '{ for (i = 1; i <= NF; i++) {
+    tick=$(awk '{ sub(/\r$/, ""); for (i = 1; i <= NF; i++) {
         if ($i == "$end" && inside || $i == "$enddefinitions") { print tick; exit }
         if (inside) tick = tick $i
         if ($i == "$timescale") inside = 1
