@@ -7,7 +7,8 @@
     python3 bench/house/statement.py --check [--without WORD]    lets the prover read them alone
 
 reached.py says where it begins, and how it finds them. A line counts where it belongs to a
-definition that is reached, with the comment above it. Words of the kit's library are named, and
+definition that is reached, with the comment above it; the `///` of a type is for who calls it, and
+doesn't count. Words of the kit's library are named, and
 those of its crates `clap` and `csv` followed in the same way, with a count of their own.
 
 `--check` needs `rt`. It writes all that is reached into one crate in a temporary folder, and has it
@@ -28,14 +29,22 @@ from reached import Walk, walked
 
 FOLLOWED = ("clap", "csv")
 COMMENT = re.compile(r"\s*(--|//)")
+TYPE = re.compile(r"^pub (enum|struct) ", re.M)
+
+
+def counted(text):
+    """The lines of a block that count."""
+    for_callers = "///" if TYPE.search(text) else None
+    return [line for line in map(str.strip, text.split("\n"))
+            if line and not (for_callers and line.startswith(for_callers))]
 
 
 def lines_in(text):
-    return len([line for line in text.split("\n") if line.strip()])
+    return len(counted(text))
 
 
 def comments_in(text):
-    return len([line for line in text.split("\n") if COMMENT.match(line)])
+    return len([line for line in counted(text) if COMMENT.match(line)])
 
 
 class Statement:

@@ -6,15 +6,12 @@ use Rattle.std.specs.Str.Parse.{digits_value}
 
 -- ---- the number that a text is
 
--- one decimal digit or more, and nothing else
 abbrev pub is_numeral : List ℕ → Bool
 is_numeral bytes = nat_lt 0 (length bytes) && list_all is_ascii_digit bytes
 
--- the byte of the point
 abbrev pub is_point : ℕ → Bool
 is_point byte = byte == 46
 
--- the byte of the digit 0
 abbrev pub is_zero : ℕ → Bool
 is_zero byte = byte == 48
 

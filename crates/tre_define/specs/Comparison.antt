@@ -4,7 +4,6 @@ use Rattle.std.specs.Ordering.{int_eq}
 use Rattle.tre_define.specs.declared.comparison.Comparison.{Comparison}
 use Rattle.tre_define.specs.declared.comparison.Comparison.TheVariants.{Less, AtMost, Greater, AtLeast, Equal, Unequal}
 
--- the number is as it should be beside the other
 abbrev pub compares : Comparison → ℤ → ℤ → Bool
 compares Less number other = int_lt number other
 compares AtMost number other = int_le number other

@@ -8,7 +8,6 @@ use Rattle.tre_decimal.specs.Decimal.{is_numeral}
 use Rattle.tre_define.specs.declared.part.Part.{Part}
 use Rattle.tre_define.specs.declared.named.Range.{Range}
 
--- A number below 2^31.
 abbrev pub small_in : List ℕ → Option ℕ
 small_in digits =
     if is_numeral digits && nat_le (digits_value 10 digits) (2 ^ 31 - 1)
@@ -39,11 +38,9 @@ abbrev pub range_between : List ℕ → Option Range
 range_between numbers = range_within (number_in (before_first is_colon numbers))
     (number_in (after_first is_colon numbers))
 
--- the range that `[i:j]` is
 abbrev pub range_in : List ℕ → Option Range
 range_in text = option_and_then range_between (between_brackets text)
 
--- the range that `[i:j]` or `[i]` is
 abbrev pub select_in : List ℕ → Option Range
 select_in text = option_or (range_in text)
     (option_map (λ number. record { left = number; right = number })

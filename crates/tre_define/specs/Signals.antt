@@ -22,13 +22,11 @@ pub record SignalDefined : Type 0 where
 abbrev pub name_of_signal : SignalDefined → List ℕ
 name_of_signal defined = defined.name
 
--- the first definition of a name
 abbrev pub signal_definition_of : List SignalDefined → List ℕ → Option SignalDefined
 signal_definition_of definitions name = named name_of_signal definitions name
 
 -- ---- what a definition reads
 
--- what its text names of a signal of this full name and size
 abbrev pub part_of_signal : SignalDefined → List ℕ → ℕ → Option Part
 part_of_signal defined full_name size =
     if size == 0 then None else part_named defined.signal full_name size
@@ -40,7 +38,6 @@ test_of (Compared comparison number) part =
     Some (record { part = part; comparison = comparison; number = number })
 test_of Changes part = None
 
--- the test that is defined, where a signal of this full name and size has what is read
 abbrev pub test_in : SignalDefined → List ℕ → ℕ → Option Test
 test_in defined full_name size =
     option_and_then (test_of defined.reads) (part_of_signal defined full_name size)
@@ -50,7 +47,6 @@ changing Bit part = None
 changing (Compared comparison number) part = None
 changing Changes part = part
 
--- the part whose changes are the event, where a signal of this full name and size has it
 abbrev pub changes_in : SignalDefined → List ℕ → ℕ → Option Part
 changes_in defined full_name size = changing defined.reads (part_of_signal defined full_name size)
 
@@ -92,7 +88,6 @@ number_in (byte ∷ next ∷ digits) =
     if byte == 48 && next == 120 then based 16 digits
     else (if byte == 48 && next == 98 then based 2 digits else based 10 (byte ∷ next ∷ digits))
 
--- This is read, by what stands behind the signal's text.
 abbrev pub IsReadBehind : Reads → List ℕ → Type 0
 IsReadBehind Bit behind = IsSpaced [] behind
 IsReadBehind (Compared comparison number) behind =
@@ -112,10 +107,8 @@ pub record Spells (text : List ℕ) (defined : SignalDefined) : Type 0 where
 
 -- ---- the definitions of a text
 
--- The parts are these definitions.
 abbrev pub DefineSignals : List (List ℕ) → List SignalDefined → Type 0
 DefineSignals parts definitions = Define Spells name_of_signal parts definitions
 
--- The parts are none, for this fault.
 abbrev pub AreRefused : List (List ℕ) → LetFault → Type 0
 AreRefused parts fault = PartsAreRefused Spells name_of_signal parts fault

@@ -9,7 +9,6 @@ use Rattle.tre_define.specs.declared.let_fault.LetFault.TheVariants.{BadLet, Twi
 
 -- ---- one definition
 
--- how a comparison is written
 abbrev pub sign_text : Comparison → List ℕ
 sign_text Less = codes "<"
 sign_text AtMost = codes "<="
@@ -31,7 +30,6 @@ IsSpaced (part ∷ parts) text =
 abbrev pub is_space : ℕ → Bool
 is_space byte = byte == 32
 
--- the byte between two definitions
 abbrev pub is_semicolon : ℕ → Bool
 is_semicolon byte = byte == 59
 
@@ -43,7 +41,6 @@ parts_of text =
 -- Below, `Spells part defined` says that a part is a definition, and `name_of` which name is
 -- defined.
 
--- the first definition of a name
 abbrev pub named : {D : Type 0} → (D → List ℕ) → List D → List ℕ → Option D
 named name_of definitions name = find (λ defined. bytes_eq (name_of defined) name) definitions
 

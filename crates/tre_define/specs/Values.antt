@@ -38,11 +38,9 @@ passes test letters =
     option_map_or (λ number. compares test.comparison (pos number) (pos test.number))
     (number_of_part test.part letters) false
 
--- The bits of the part, which is one, are 1.
 abbrev pub one_bit : Part → Test
 one_bit part = record { part = part; comparison = Equal; number = 1 }
 
--- the lowest bit is 1
 abbrev pub plain_test : Test
 plain_test = one_bit (record { low = 0; width = 1 })
 
@@ -61,12 +59,10 @@ letter_at letters bit =
     then to_ascii_lowercase (slice_index letters (length letters - 1 - bit))
     else extension letters
 
--- One of so many bits from `low` on has another letter.
 abbrev pub differ_from : ℕ → ℕ → List ℕ → List ℕ → Bool
 differ_from low zero old new = false
 differ_from low (suc width) old new =
     not (letter_at old low == letter_at new low) || differ_from (low + 1) width old new
 
--- One of the bits of the part has another letter.
 abbrev pub differ : Part → List ℕ → List ℕ → Bool
 differ part old new = differ_from part.low part.width old new

@@ -16,7 +16,6 @@ pause =
     restriction (atom (literal (negation (proposition 0))))
     (record { low = 1; low_weak = true; high = Some 2; high_weak = true })
 
--- A pulse and then a pause, once or any number of times, one after another.
 abbrev pub fixed_tree : PatternTree
 fixed_tree = sequence (sequence pulse pause) (repetition (sequence pulse pause))
 

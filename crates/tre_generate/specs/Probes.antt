@@ -11,11 +11,9 @@ probe_begin segments place = 2 * end_of 0 (take place segments)
 abbrev pub probe_end : List Segment → ℕ → ℕ
 probe_end segments place = 2 * end_of 0 (take (place + 1) segments) + 3
 
--- The probe counts: it ends no later than the segments do.
 pub record ProbeIsInside (segments : List Segment) (place : ℕ) : Type 0 where
   pub end : probe_end segments place ≤ 2 * end_of 0 segments
 
--- The probe counts, and the relation has it.
 pub record IsProbed (R : Pairs) (segments : List Segment) (place : ℕ) : Type 0 where
   pub inside : ProbeIsInside segments place
   pub related : R (probe_begin segments place) (probe_end segments place) 2

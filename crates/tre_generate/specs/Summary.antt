@@ -9,11 +9,9 @@ use Rattle.tre_zone.specs.declared.zone_bounds.ZoneBounds.{ZoneBounds}
 use Rattle.tre_generate.specs.Made.{made_trace}
 use Rattle.tre_generate.specs.Probes.{ProbeIsInside, IsProbed, IsCountOf}
 
--- A line of a word and a number.
 abbrev pub count_line : List ℕ → ℕ → List ℕ
 count_line word number = word ++ number_text 0 number ++ codes "\n"
 
--- A line of a word and how many of all.
 abbrev pub share_line : List ℕ → ℕ → ℕ → List ℕ
 share_line word part all =
     word ++ number_text 0 part ++ codes " of " ++ number_text 0 all ++ codes "\n"

@@ -16,11 +16,9 @@ pub record Composed (R S : Pairs) (a b n : ℕ) : Type 0 where
   pub left : R (factor * a) midpoint (factor * n)
   pub right : S midpoint (factor * b) (factor * n)
 
--- One or the other.
 abbrev pub Either : Pairs → Pairs → Pairs
 Either R S a b n = R a b n ⊎ S a b n
 
--- Both, of the same two times.
 pub record Both (R S : Pairs) (a b n : ℕ) : Type 0 where
   pub left : R a b n
   pub right : S a b n

@@ -27,11 +27,9 @@ pub record Format (State : Type 0) : Type 0 where
   pub last : State → List ℕ → Bool
   pub time : State → ℕ
 
--- nothing more is said
 abbrev pub nothing : Recording
 nothing = record { stretches = []; last = λ name. false; fault = None }
 
--- a fault at this place
 abbrev pub faulty : ℕ → TraceKind → Recording
 faulty place kind = record nothing { fault = Some (record { place = place; kind = kind }) }
 
@@ -39,7 +37,6 @@ faulty place kind = record nothing { fault = Some (record { place = place; kind 
 abbrev pub behind : List Stretch → Recording → Recording
 behind stretches reading = record reading { stretches = stretches ++ reading.stretches }
 
--- a fault ends the reading; behind a part without one it goes on
 abbrev pub read_on : {State : Type 0} → ℕ → Result (Step State) TraceKind → (State → Recording)
     → Recording
 read_on place (Err kind) more = faulty place kind
@@ -55,7 +52,6 @@ abbrev pub part_says : {State : Type 0} → Format State → State → List ℕ 
 part_says format state part = if nat_le (length part) PART_MAX then format.says state part else Err
     LineTooLong
 
--- the end of the input, at this offset and with these events, or a fault
 abbrev pub ending : ℕ → (List ℕ → Bool) → Option TraceKind → Recording
 ending offset last None = record nothing { last = last }
 ending offset last (Some kind) = faulty offset kind
@@ -69,7 +65,6 @@ last_part format true state spot part =
 last_part format false state spot part = if nat_le (length part) PART_MAX then nothing else faulty
     (format.place spot) LineTooLong
 
--- what parts say, the first of which begins at the spot
 abbrev pub parts_recording : {State : Type 0} → Format State → Bool → State → Spot → List (List ℕ)
     → Recording
 parts_recording format closed state spot [] = nothing
@@ -78,13 +73,11 @@ parts_recording format closed state spot (part ∷ next ∷ parts) =
     read_on (format.place spot) (part_says format state part) (λ now. parts_recording format closed
     now (after_part spot (length part)) (next ∷ parts))
 
--- what bytes say from a spot on
 unfoldable pub recording_from : {State : Type 0} → Format State → Bool → State → Spot → List ℕ
     → Recording
 recording_from format closed state spot bytes = parts_recording format closed state spot
     (slice_split format.separates bytes)
 
--- where the input begins
 abbrev pub first_spot : Spot
 first_spot = record { number = 1; offset = 0 }
 

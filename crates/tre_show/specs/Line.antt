@@ -12,7 +12,6 @@ line_text scale begin end duration =
     interval_text scale begin ++ codes " " ++ interval_text scale end ++ codes " "
     ++ interval_text scale duration ++ codes "\n"
 
--- The line of a zone: the ranges of its begins, of its ends and of its durations.
 abbrev pub line_of : ℕ → ZoneBounds → List ℕ
 line_of scale zone = line_text scale (begin_range zone) (end_range zone) (duration_range zone)
 

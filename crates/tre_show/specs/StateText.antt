@@ -5,7 +5,6 @@ use Rattle.tre_state.specs.StateTree.{StateTree, always, proposition, negation}
 use Rattle.tre_state.specs.StateTree.{conjunction, disjunction}
 use Rattle.tre_show.specs.declared.state.TheConstants.{DISJUNCTION, CONJUNCTION, NEGATION}
 
--- The text in parentheses, where they are asked for.
 abbrev pub in_parens : Bool → List ℕ → List ℕ
 in_parens true text = codes "(" ++ text ++ codes ")"
 in_parens false text = text

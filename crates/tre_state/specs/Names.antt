@@ -4,7 +4,6 @@ use Rattle.std.specs.Str.{bytes_eq}
 use Rattle.tre_state.specs.Name.{IsName}
 use Rattle.tre_state.specs.declared.names.TheConstants.{NAMES_MAX}
 
--- The place of the first of the names that has these bytes, if one has.
 abbrev pub place_of : List (List ℕ) → List ℕ → Option ℕ
 place_of names bytes = position (bytes_eq bytes) names
 

@@ -35,7 +35,6 @@ numbers_of (negation state) = numbers_of state
 numbers_of (conjunction left right) = numbers_of left ++ numbers_of right
 numbers_of (disjunction left right) = numbers_of left ++ numbers_of right
 
--- How many nodes the tree has.
 abbrev pub node_count : StateTree → ℕ
 node_count always = 1
 node_count (proposition number) = 1

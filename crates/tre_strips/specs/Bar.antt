@@ -15,12 +15,10 @@ pub record BarHolds (bar : Bar) (a b n : ℕ) : Type 0 where
   pub low : place_of bar.low a n ≤ 2 * b
   pub high : 2 * b < place_of bar.high a n
 
--- It is on one of the bars.
 unfoldable pub BarsHold : List Bar → Pairs
 BarsHold [] a b n = ⊥
 BarsHold (bar ∷ bars) a b n = BarHolds bar a b n ⊎ BarsHold bars a b n
 
--- No bar is empty over the begin a/n.
 unfoldable pub AreFilled : List Bar → ℕ → ℕ → Type 0
 AreFilled [] a n = Unit {0}
 AreFilled (bar ∷ bars) a n = (place_of bar.low a n < place_of bar.high a n) × AreFilled bars a n

@@ -21,7 +21,6 @@ pub record IsInStrip (M : Pairs) (bars : List Bar) (from until a n : ℕ) : Type
   pub first : a ≡ from * n → BarsFit M bars from
   pub last : a ≡ until * n → BarsFit M bars until
 
--- No strip of a run has this time.
 pub record IsAlone (M : Pairs) (time : ℕ) : Type 0 where
   pub none : (bars : List Bar) (from until : ℕ) → IsRunOfBars M bars from until
       → IsInStrip M bars from until time 1 → ⊥
@@ -32,7 +31,6 @@ pub record IsInBlock (M : Pairs) (bars : List Bar) (from until : ℕ) (bar : Bar
   pub begins : IsInStrip M bars from until a n
   pub ends : BarHolds bar a b n
 
--- The pairs that begin at the time and end on the bar.
 pub record IsInColumn (time : ℕ) (bar : Bar) (a b n : ℕ) : Type 0 where
   pub begins : a ≡ time * n
   pub ends : BarHolds bar a b n

@@ -14,7 +14,6 @@ Meaning reading (intersection left right) = Both (Meaning reading left) (Meaning
 Meaning reading (repetition tree) = Chain (Meaning reading tree) (reading empty)
 Meaning reading (restriction tree ends) = Lasting (LastsWithin ends) (Meaning reading tree)
 
--- The expression matches the stretch from a/n to b/n over a rest of a trace.
 abbrev pub MatchesRest : PatternTree → Rest → Pairs
 MatchesRest tree rest = Meaning (AtomMatches rest) tree
 

@@ -15,7 +15,6 @@ pub data Atom : Type 0 where
   fall : StateTree → Atom
   event : ℕ → Atom
 
--- A timed regular expression.
 pub data PatternTree : Type 0 where
   atom : Atom → PatternTree
   sequence : PatternTree → PatternTree → PatternTree
@@ -71,7 +70,6 @@ NumbersBelow bound (intersection left right) = NumbersBelow bound left × Number
 NumbersBelow bound (repetition tree) = NumbersBelow bound tree
 NumbersBelow bound (restriction tree ends) = NumbersBelow bound tree
 
--- How many nodes an atom has: itself, and those of its state.
 abbrev pub atom_node_count : Atom → ℕ
 atom_node_count empty = 1
 atom_node_count (literal state) = 1 + states.node_count state

@@ -16,7 +16,6 @@ pub record Rest : Type 0 where
   pub segments : List Segment
   pub last : ℕ
 
--- The rest that starts then, with this before it, and in which this comes next.
 abbrev pub rest_of : ℕ → Option ℕ → Timeline → Rest
 rest_of start before next = record {
   start = start;
@@ -57,11 +56,9 @@ pub record InstantMatches (M : ℕ → Type 0) (a b n : ℕ) : Type 0 where
   pub end : b ≡ time * n
   pub there : M time
 
--- An edge: an instant at which the valuations change from P to Q.
 abbrev pub EdgeMatches : (ℕ → Type 0) → (ℕ → Type 0) → Rest → Pairs
 EdgeMatches P Q rest = InstantMatches (HasEdge P Q rest.start rest.before rest.segments)
 
--- An event: an instant at which it happens.
 abbrev pub EventMatches : ℕ → Rest → Pairs
 EventMatches number rest = InstantMatches (HasEvent number rest.start rest.segments rest.last)
 

@@ -25,7 +25,6 @@ block_of scale accounts i end =
     flat_map (λ account. lines_with scale account.pattern.label (get_or account.blocks i []))
     accounts ++ codes "at " ++ number_text scale end ++ codes "\n"
 
--- The texts of the blocks from the place i on, for segments of which the first begins at `start`.
 abbrev pub blocks_from : ℕ → List Account → ℕ → ℕ → List Segment → List ℕ
 blocks_from scale accounts i start [] = []
 blocks_from scale accounts i start (segment ∷ segments) =

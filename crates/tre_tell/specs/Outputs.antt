@@ -14,7 +14,6 @@ output_told before now = record { before = before; now = now }
 abbrev pub AllWritesGood : OutputTold → Type 0
 AllWritesGood output = output.now.faults ≡ output.before.faults
 
--- nothing was written, and no write failed
 pub record NothingWritten (output : OutputTold) : Type 0 where
   pub unwritten : output.now.written ≡ output.before.written
   pub writes : AllWritesGood output

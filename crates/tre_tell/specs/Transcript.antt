@@ -16,7 +16,6 @@ pub record Account : Type 0 where
   pub blocks : List (List ZoneBounds)
   pub closing : List ZoneBounds
 
--- The zones of some blocks, as one list.
 abbrev pub zones_in_blocks : List (List ZoneBounds) → List ZoneBounds
 zones_in_blocks blocks = flat_map (λ zones. zones) blocks
 

@@ -32,12 +32,10 @@ begins_comment bytes = slice_index bytes 0 == 35
 abbrev pub begins_events : List ℕ → Bool
 begins_events bytes = bytes_eq bytes (codes "@")
 
--- spelt as a name is
 abbrev pub spells_word : List ℕ → Bool
 spells_word [] = false
 spells_word (first ∷ rest) = starts_name first && list_all continues_name rest
 
--- one of the fields has these bytes
 abbrev pub is_among : List (List ℕ) → List ℕ → Bool
 is_among fields name = list_any (λ field. bytes_eq field name) fields
 
@@ -61,14 +59,12 @@ stretch_with len fields said = record {
   happens = is_among said;
 }
 
--- One stretch behind the past.
 abbrev pub one_stretch : Past → ℕ → List (List ℕ) → Step Past
 one_stretch past len fields = record {
   stretches = stretch_with len fields past.said ∷ [];
   state = past_at (past.end + len) [];
 }
 
--- What a line says on which this many units and these fields stand.
 abbrev pub entry_says : Past → Option ℕ → List (List ℕ) → Result (Step Past) TraceKind
 entry_says past None fields = Err BadNumber
 entry_says past (Some len) fields =
@@ -94,7 +90,6 @@ fields_say scale past (first ∷ fields) =
     else (if begins_events first then events_say past fields
     else entry_says past (units_of scale first) fields)
 
--- what a line says behind the past
 unfoldable pub line_says : ℕ → Past → List ℕ → Result (Step Past) TraceKind
 line_says scale past line = fields_say scale past (fields_of line)
 

@@ -26,7 +26,6 @@ pub record Vocabulary : Type 0 where
   pub names : List (List ℕ)
   pub events : List (List ℕ)
 
--- No name.
 abbrev pub no_names : Vocabulary
 no_names = record { names = []; events = [] }
 
@@ -35,7 +34,6 @@ abbrev pub bits_of : (List ℕ → Bool) → List (List ℕ) → ℕ
 bits_of test [] = 0
 bits_of test (name ∷ names) = (if test name then 1 else 0) + 2 * bits_of test names
 
--- A stretch, as it is for these names.
 abbrev pub segment_for : Vocabulary → Stretch → Segment
 segment_for asked stretch = segment_with stretch.len (bits_of stretch.is_true asked.names)
     (bits_of stretch.happens asked.events)
@@ -59,7 +57,6 @@ reading_for asked recording = record {
   fault = recording.fault;
 }
 
--- Stretches, as they are for these names.
 abbrev pub segments_for : Vocabulary → List Stretch → List Segment
 segments_for asked stretches = map (segment_for asked) stretches
 

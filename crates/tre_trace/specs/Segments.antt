@@ -2,10 +2,8 @@
 use Rattle.std.specs.Prelude.{ℕ}
 use Rattle.tre_trace.specs.declared.segment.Segment.{Segment}
 
--- the segment of this length and valuation, with these events at its begin
 abbrev pub segment_with : ℕ → ℕ → ℕ → Segment
 segment_with len val ev = record { len = len; val = val; ev = ev }
 
--- the segment at whose begin no event happens
 abbrev pub plain_segment : ℕ → ℕ → Segment
 plain_segment len val = segment_with len val 0

@@ -14,7 +14,6 @@ pub record Timeline : Type 0 where
 abbrev pub timeline_of : List Segment → ℕ → Timeline
 timeline_of segments last = record { segments = segments; last = last }
 
--- the trace of these segments, with no event at its end
 abbrev pub quiet : List Segment → Timeline
 quiet segments = timeline_of segments 0
 
@@ -23,7 +22,6 @@ abbrev pub end_of : ℕ → List Segment → ℕ
 end_of start [] = start
 end_of start (segment ∷ rest) = end_of (start + segment.len) rest
 
--- each segment is at least one tick long
 abbrev pub AreLong : List Segment → Type 0
 AreLong [] = Unit {0}
 AreLong (segment ∷ rest) = (1 ≤ segment.len) × AreLong rest

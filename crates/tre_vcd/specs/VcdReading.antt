@@ -59,13 +59,11 @@ pub record Place : Type 0 where
   pub past : List Statement
   pub inside : Open
 
--- before the first token
 abbrev pub first_place : Place
 first_place = record { past = []; inside = nothing }
 
 -- ---- what the past says
 
--- the declarations have ended
 abbrev pub is_defined : List Statement → Bool
 is_defined [] = false
 is_defined (definitions ∷ past) = true
@@ -84,7 +82,6 @@ scopes_at (scope name ∷ past) = name ∷ scopes_at past
 scopes_at (upscope ∷ past) = drop 1 (scopes_at past)
 scopes_at (_ ∷ past) = scopes_at past
 
--- a dump section is open
 abbrev pub in_dump : List Statement → Bool
 in_dump [] = false
 in_dump (dump ∷ past) = true
@@ -190,12 +187,10 @@ pub record Asked (X : Type 0) : Type 0 where
   pub identifier : List ℕ
   pub asks : X
 
--- this is asked of the identifier, if there is one
 abbrev pub asking : {X : Type 0} → X → Option (List ℕ) → Option (Asked X)
 asking asks identified = option_map (λ identifier. record { identifier = identifier; asks = asks })
     identified
 
--- what is asked of an offer, by its full name and size
 abbrev pub asked_in : {X : Type 0} → (List ℕ → ℕ → Option X) → Offer → Option (Asked X)
 asked_in asks offer =
     option_map (λ it. record { identifier = offer.identifier; asks = it })
@@ -220,7 +215,6 @@ abbrev pub is_changes : Reads → Bool
 is_changes Changes = true
 is_changes _ = false
 
--- the definitions of events
 abbrev pub of_changes : List SignalDefined → List SignalDefined
 of_changes defined = filter (λ one. is_changes one.reads) defined
 
@@ -251,7 +245,6 @@ abbrev pub event_asked : List SignalDefined → List Statement → List ℕ → 
 event_asked defined past name =
     first_read (event_read_by (signal_definition_of (of_changes defined) name) name) past
 
--- the last letters of the identifier pass the test; where there are none, they don't
 abbrev pub is_passed : List Statement → Asked Test → Bool
 is_passed past asked =
     option_map_or (passes asked.asks) (letters_at past asked.identifier) false
@@ -270,12 +263,10 @@ has_come past identifier (bits_changed part) =
 abbrev pub is_come : List Statement → Asked Occasion → Bool
 is_come past asked = has_come past asked.identifier asked.asks
 
--- the proposition of this name is true
 abbrev pub true_at : List SignalDefined → List Statement → List ℕ → Bool
 true_at defined past name =
     option_map_or (is_passed past) (signal_of defined past name) false
 
--- the event of this name happened at the last time
 abbrev pub happens_at : List SignalDefined → List Statement → List ℕ → Bool
 happens_at defined past name =
     option_map_or (is_come past) (event_asked defined past name) false
@@ -303,21 +294,17 @@ is_dump token =
     bytes_eq token (codes "$dumpall") || bytes_eq token (codes "$dumpoff")
     || bytes_eq token (codes "$dumpon") || bytes_eq token (codes "$dumpvars")
 
--- it begins with `$` (36)
 abbrev pub is_command : List ℕ → Bool
 is_command token = slice_index token 0 == 36
 
--- the end of a `$scope` section
 abbrev pub scope_says : List Statement → List (List ℕ) → Result (Step Place) TraceKind
 scope_says past (kind ∷ name ∷ tokens) = goes_to (scope name ∷ past) nothing
 scope_says past _ = Err BadToken
 
--- the end of a `$var` section
 abbrev pub declaration_says : List Statement → List (List ℕ) → Result (Step Place) TraceKind
 declaration_says past tokens =
     if nat_lt (length tokens) 4 then Err BadToken else goes_to (var tokens ∷ past) nothing
 
--- the end of a section of the declarations
 abbrev pub section_says : List Statement → List ℕ → List (List ℕ) → Result (Step Place) TraceKind
 section_says past command tokens =
     if bytes_eq command (codes "$scope") then scope_says past tokens
@@ -326,7 +313,6 @@ section_says past command tokens =
     else (if bytes_eq command (codes "$enddefinitions") then goes_to (definitions ∷ past) nothing
     else goes_to past nothing)))
 
--- a token among the declarations, where no section is open
 abbrev pub command_says : Terms → List Statement → List ℕ → Result (Step Place) TraceKind
 command_says terms past token =
     if not (is_command token) || is_end token || is_dump token then Err BadToken
@@ -395,7 +381,6 @@ value_says terms past (byte ∷ bytes) =
     else (if list_any (λ letter. byte == letter) (codes "rRsS") then goes_to past number
     else (if is_scalar byte then scalar_says past byte bytes else Err BadToken))))
 
--- what a token says at a place
 abbrev pub token_at : Terms → List Statement → Open → List ℕ → Result (Step Place) TraceKind
 token_at terms past nothing token =
     if is_defined past then value_says terms past token else command_says terms past token

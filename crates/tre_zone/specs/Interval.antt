@@ -27,11 +27,9 @@ abbrev pub IsBelowHigh : IntervalEnds → ℕ → ℕ → Type 0
 IsBelowHigh ends d n = MatchOption ends.high (Unit {0})
     (λ high. MatchBool ends.high_weak (d ≤ high * n) (d < high * n))
 
--- The duration d/n is in the interval.
 abbrev pub LastsWithin : IntervalEnds → ℕ → ℕ → Type 0
 LastsWithin ends d n = IsAboveLow ends d n × IsBelowHigh ends d n
 
--- No duration is in the interval.
 abbrev pub HasNoDuration : IntervalEnds → Type 0
 HasNoDuration ends = (d n : ℕ) → 0 < n → LastsWithin ends d n → ⊥
 

@@ -119,7 +119,6 @@ pub record IsInFrame (limit a b n : ℕ) : Type 0 where
   pub rising : a ≤ b
   pub ends : b ≤ limit * n
 
--- Some pair is in the zone.
 pub record HoldsSome (zone : ZoneBounds) : Type 0 where
   pub a : ℕ
   pub b : ℕ

@@ -4,7 +4,6 @@ use Rattle.tre_pairs.specs.Pairs.{Pairs}
 use Rattle.tre_zone.specs.Zone.{ZoneHolds, Includes, IsCanonical, HoldsSome, IsTight}
 use Rattle.tre_zone.specs.declared.zone_bounds.ZoneBounds.{ZoneBounds}
 
--- Some zone of the list holds the pair.
 unfoldable pub SetHolds : List ZoneBounds → Pairs
 SetHolds [] a b n = ⊥
 SetHolds (zone ∷ zones) a b n = ZoneHolds zone a b n ⊎ SetHolds zones a b n
@@ -14,7 +13,6 @@ pub record AreApart (one other : ZoneBounds) : Type 0 where
   pub left : Includes one other → ⊥
   pub right : Includes other one → ⊥
 
--- The zone is apart from each of the list.
 unfoldable pub IsApartFrom : ZoneBounds → List ZoneBounds → Type 0
 IsApartFrom zone [] = Unit {0}
 IsApartFrom zone (other ∷ others) = AreApart zone other × IsApartFrom zone others
