@@ -165,10 +165,18 @@ SECTIONS = [
      {"tre_define": ["some_reading", "one_reading", "one_fault", "definitions_are_read"],
       "tre_num": ["some_reading", "one_reading", "one_fault", "definitions_are_read"]}),
     ("Files of checks",
-     "Which patterns a file of checks says, or which fault it has first; and what was read of it.",
+     "Which checks a file says, with their patterns and definitions, or which fault it has first; "
+     "and what was read of it.",
      ["tre_tool/specs/Checks", "tre_tool", "tre_watch/specs/Outcome", "tre_watch",
       "tre_feed/specs/Front"],
      {"tre_watch": ["some_outcome", "one_outcome"], "tre_tool": ["one_request"]}),
+    ("Verdicts",
+     "Whether a check holds over a trace, what may still become a match at its end, what is shown of "
+     "a check, and the text of all of them.",
+     ["tre_answer/specs/Findings", "tre_judge/specs/Verdicts", "tre_judge", "tre_syntax/specs/Begun",
+      "tre_compose", "tre_pairs"],
+     {"tre_judge": ["failing_is_unanswered"], "tre_answer": ["one_checked_text"],
+      "tre_syntax": ["late_had_begun", "failures_are_final"]}),
     ("Blocks",
      "What is written while the input comes: a block for each stretch, with the lines of each "
      "pattern, and what the end completes.",

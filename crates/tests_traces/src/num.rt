@@ -1,11 +1,12 @@
 // Tests of tre_num: rows that lie in memory, and a reader that is finished.
 use crate::feeding::feed;
 use std::alloc::{AllocError, Global};
+use std::rc::Rc;
 use std::test::Fail;
 use tests_support::names_of;
 use tre_decimal::SCALE_MAX;
 use tre_define::Comparison::Less;
-use tre_num::{ColumnsReader, Definition, read_definitions, read_rows};
+use tre_num::{ColumnsReader, Definition, Needed, read_definitions, read_rows};
 use tre_state::Names;
 use tre_trace::TraceKind::{BadNumber, CutShort, Spent, TooLate, Zero};
 use tre_trace::{Segment, Trace, TraceFault, TraceKind, TraceReader};
@@ -164,7 +165,10 @@ fn is_spent_then(reader: &mut ColumnsReader, segments: &mut Vec<Segment>) -> boo
 fn is_spent(alloc: Global) -> Result<bool, Fail> {
     let names = names_of(alloc, "hot")?;
     let definitions = definitions(alloc)?;
-    let mut reader = ColumnsReader::new(alloc, definitions, names, Names::new(alloc), 0);
+    let mut needed = Needed::new(alloc, definitions);
+    needed.add(&names, &Names::new(alloc))?;
+    let needed = Rc::new(alloc, needed)?;
+    let mut reader = ColumnsReader::new(alloc, needed, names, Names::new(alloc), 0);
     Ok(is_spent_then(&mut reader, &mut Vec::new(alloc)))
 }
 

@@ -34,7 +34,7 @@ some_rising (pattern ∷ patterns) [] a b n h = absurd h
 some_rising [] traces a b n h = absurd h
 
 -- zones for the same pairs are one list
-one_strips : (normal second : Bool) (wanted sought : Pairs) (zones others : List ZoneBounds)
+pub one_strips : (normal second : Bool) (wanted sought : Pairs) (zones others : List ZoneBounds)
     → normal ≡ true → second ≡ true → ((a b n : ℕ) → 0 < n → wanted a b n ↔ sought a b n)
     → AreZonesOf normal wanted zones → AreZonesOf second sought others → zones ≡ others
 one_strips normal second wanted sought zones others is is' same one other =

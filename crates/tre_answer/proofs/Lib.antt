@@ -8,3 +8,7 @@ pub mod Strips
 pub mod TextPieces
 pub mod Unread
 pub mod Wanted
+pub mod Rulings
+pub mod Named
+pub mod Checked
+mod CheckedOnce

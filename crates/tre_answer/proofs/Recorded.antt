@@ -1,5 +1,5 @@
 -- What the inputs of a request say, and that no bytes say nothing.
-use Rattle.std.proofs.Common.{◌≡◌, ◌∙◌, ◌<◌, ℕ, Bool, false, List, [], ◌∷◌, length, get_or, map, string_bytes, refl, sym, ap, arith}
+use Rattle.std.proofs.Common.{◌≡◌, ◌∙◌, ℕ, Bool, false, List, [], length, map, string_bytes, refl, sym, ap, ap₂}
 use Rattle.std.proofs.lemmas.List.{length-map}
 use Rattle.tre_define.specs.Signals.{SignalDefined}
 use Rattle.tre_num.specs.Defined.{Defined}
@@ -7,7 +7,7 @@ use Rattle.tre_num.specs.Rows.{ColumnTerms as RowTerms, rows_recording}
 use Rattle.tre_parts.specs.Format.{recording_from}
 use Rattle.tre_syntax.specs.Pattern.{names_of}
 use Rattle.tre_syntax.specs.declared.pattern.Pattern.{Pattern}
-use Rattle.tre_tell.specs.Sought.{Sought, sought_by}
+use Rattle.tre_tell.specs.Sought.{Sought}
 use Rattle.tre_tell.proofs.Loop.{asked_sought}
 use Rattle.tre_text.specs.TextReading.{text_recording}
 use Rattle.tre_trace.specs.Reading.{Recording, Vocabulary}
@@ -15,7 +15,7 @@ use Rattle.tre_vcd.specs.VcdReading.{Terms as DumpTerms, vcd_recording}
 use Rattle.tre_words.specs.declared.job.Format.{Format}
 use Rattle.tre_words.specs.declared.job.Format.TheVariants.{Text, Vcd, Csv}
 use Rattle.tre_words.specs.declared.job.Job.{Job}
-use Rattle.tre_answer.specs.Recorded.{first_names, recording_in}
+use Rattle.tre_answer.specs.Recorded.{recording_in}
 use Rattle.tre_answer.specs.Request.{FitsJob, request_for, sought_in}
 use Rattle.tre_answer.specs.declared.asked.Definitions.{Definitions}
 use Rattle.tre_answer.specs.declared.asked.Asked.{Asked}
@@ -57,27 +57,14 @@ abbrev pub dump_terms_of : List Vocabulary → ℕ → List SignalDefined → Du
 dump_terms_of declared scale signals =
     record { declared = declared; scale = scale; definitions = signals }
 
-abbrev pub rows_terms_of : List Defined → Vocabulary → ℕ → RowTerms
-rows_terms_of lets names scale = record { definitions = lets; names = names; scale = scale }
+abbrev pub rows_terms_of : List Defined → List Vocabulary → ℕ → RowTerms
+rows_terms_of lets declared scale =
+    record { definitions = lets; declared = declared; scale = scale }
 
-pub rows_terms : (lets : List Defined) (scale : ℕ) {names other : Vocabulary} → names ≡ other
-    → rows_terms_of lets names scale ≡ rows_terms_of lets other scale
-rows_terms lets scale same = ap (λ names. rows_terms_of lets names scale) same
-
--- the names of the only pattern
-pub alone_names : (patterns : List Pattern) (pattern : Pattern) → length patterns ≡ 1
-    → pattern ≡ get_or patterns 0 pattern → names_of pattern ∷ [] ≡ map names_of patterns
-alone_names (first ∷ []) pattern one is = ap (λ p. names_of p ∷ []) is
-alone_names [] pattern one is = absurd (omega (arith, one))
-alone_names (first ∷ second ∷ patterns) pattern one is = absurd (omega (arith, one))
-
-names_first : (labels : List (List ℕ)) (patterns : List Pattern) (pattern : Pattern)
-    → length labels ≡ length patterns → 0 < length patterns
-    → pattern ≡ get_or patterns 0 pattern
-    → names_of pattern ≡ first_names (sought_by labels patterns)
-names_first labels [] pattern same some is = absurd (omega (arith, some))
-names_first [] (first ∷ patterns) pattern same some is = absurd (omega (arith, same))
-names_first (label ∷ labels) (first ∷ patterns) pattern same some is = ap names_of is
+pub rows_terms : (scale : ℕ) {lets defined : List Defined} {declared names : List Vocabulary}
+    → lets ≡ defined → declared ≡ names
+    → rows_terms_of lets declared scale ≡ rows_terms_of defined names scale
+rows_terms scale same named = ap₂ (λ lets names. rows_terms_of lets names scale) same named
 
 module _ (job : Job) (definitions : Definitions) (asked : Asked) (fits : FitsJob job asked) where
   pub labels_fit : length (map string_bytes asked.labels.items) ≡ length asked.patterns.items
@@ -107,17 +94,13 @@ module _ (job : Job) (definitions : Definitions) (asked : Asked) (fits : FitsJob
       ∙ sym (asked_sought (map string_bytes asked.labels.items) asked.patterns.items labels_fit))
       ∙ in_format Vcd is))
 
-  pub rows_says : {said : Bool → List ℕ → Recording} (pattern : Pattern)
-      → pattern ≡ get_or asked.patterns.items 0 pattern → job.format ≡ Csv
-      → said ≡ rows_recording (record {
-        definitions = definitions.columns.items;
-        names = names_of pattern;
-        scale = job.scale;
-      }) → said ≡ (request_for job definitions asked).recording
-  rows_says pattern first is says =
-      says ∙ (ap (λ names. rows_recording (record {
-        definitions = definitions.columns.items;
-        names = names;
-        scale = job.scale;
-      })) (names_first (map string_bytes asked.labels.items) asked.patterns.items pattern labels_fit
-      fits.some first) ∙ in_format Csv is)
+  pub rows_says : {said : Bool → List ℕ → Recording} (patterns : List Pattern)
+      → patterns ≡ asked.patterns.items → job.format ≡ Csv
+      → said ≡ rows_recording (rows_terms_of definitions.columns.items (map names_of patterns)
+      job.scale)
+      → said ≡ (request_for job definitions asked).recording
+  rows_says patterns all is says =
+      says ∙ (ap (λ names. rows_recording (rows_terms_of definitions.columns.items names job.scale))
+      (ap (map names_of) all
+      ∙ sym (asked_sought (map string_bytes asked.labels.items) asked.patterns.items labels_fit))
+      ∙ in_format Csv is)

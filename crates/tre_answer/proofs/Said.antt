@@ -41,7 +41,7 @@ use Rattle.tre_words.specs.declared.job.Format.TheVariants.{Text, Vcd, Csv}
 use Rattle.tre_words.specs.declared.job.Job.{Job}
 use Rattle.tre_zone.specs.ZoneList.{SetHolds, AreCanonical, HoldExactly}
 use Rattle.tre_zone.specs.declared.zone_bounds.ZoneBounds.{ZoneBounds}
-use Rattle.tre_answer.specs.Recorded.{first_names, recording_in}
+use Rattle.tre_answer.specs.Recorded.{recording_in}
 use Rattle.tre_answer.specs.Request.{request_for, sought_in}
 use Rattle.tre_answer.specs.Said.{SaysPairs, IsForGood, end_for, offline_of, zones_told}
 use Rattle.tre_answer.specs.Wanted.{IsWanted, IsOfflineAnswer}
@@ -126,7 +126,7 @@ trace_in Vcd scale patterns lets signals names closed bytes =
     let terms = dump_terms_of (all_names patterns) scale signals in
     reading-is_trace names (vcd_format terms) closed bytes (vcd-keeps_time terms)
 trace_in Csv scale patterns lets signals names closed bytes =
-    rows-are_trace (rows_terms_of lets (first_names patterns) scale) names closed bytes
+    rows-are_trace (rows_terms_of lets (all_names patterns) scale) names closed bytes
 
 front_long : (segments more : List Segment) → AreLong (segments ++ more) → AreLong segments
 front_long [] more long = tt
@@ -178,7 +178,7 @@ grows_in Text scale patterns lets signals closed first more =
 grows_in Vcd scale patterns lets signals closed first more = reading-grows
     (vcd_format (dump_terms_of (all_names patterns) scale signals)) closed first more
 grows_in Csv scale patterns lets signals closed first more =
-    rows-grow (rows_terms_of lets (first_names patterns) scale) closed first more
+    rows-grow (rows_terms_of lets (all_names patterns) scale) closed first more
 
 none_of : {X : Type 0} (xs : List X) → length xs ≡ 0 → xs ≡ []
 none_of [] e = refl

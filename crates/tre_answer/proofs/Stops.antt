@@ -10,37 +10,54 @@ use Rattle.tre_tell.specs.Ends.{EndsTelling, ReadsInput, TellsWhole, as_it_comes
 use Rattle.tre_tell.specs.Outputs.{OutputTold, AllWritesGood}
 use Rattle.tre_tell.specs.Request.{Request}
 use Rattle.tre_words.specs.declared.job.Mode.{Mode}
-use Rattle.tre_words.specs.declared.job.Mode.TheVariants.{Offline, Online, Show, Generate, Watch}
+use Rattle.tre_words.specs.declared.job.Mode.TheVariants.{Offline, Online, Show, Generate, Watch, Check}
 use Rattle.tre_answer.specs.Ends.{EndsOver, IsAnswerIn}
-use Rattle.tre_answer.specs.Parts.{IsFoundFor}
+use Rattle.tre_answer.specs.Parts.{IsFoundFor, done_with}
 use Rattle.tre_answer.specs.Printing.{EndsPutting}
+use Rattle.tre_answer.specs.Request.{FitForms}
+use Rattle.tre_watch.specs.declared.form.Form.{Form}
 
 -- ---- told as the input comes
 
 -- a mode that reads its input, and not as a whole
-pub told_way : (mode : Mode) → ReadsInput mode → (mode ≡ Offline → ⊥) → as_it_comes mode ≡ true
-told_way Offline reads other = absurd (other refl)
-told_way Online reads other = refl
-told_way Show reads other = absurd reads
-told_way (Generate count) reads other = absurd reads
-told_way (Watch file) reads other = refl
+pub told_way : (mode : Mode) → ReadsInput mode → (mode ≡ Offline → ⊥)
+    → ((file : List ℕ) → mode ≡ Check file → ⊥) → as_it_comes mode ≡ true
+told_way Offline reads other checks = absurd (other refl)
+told_way Online reads other checks = refl
+told_way Show reads other checks = absurd reads
+told_way (Generate count) reads other checks = absurd reads
+told_way (Watch file) reads other checks = refl
+told_way (Check file) reads other checks = absurd (checks file refl)
+
+-- what is told as the input comes has no checks
+pub told_forms : (mode : Mode) (forms : List Form) (count : ℕ) → as_it_comes mode ≡ true
+    → FitForms mode forms count → forms ≡ []
+told_forms Offline forms count comes fits = absurd (cc)
+told_forms Online forms count comes fits = fits
+told_forms Show forms count comes fits = absurd (cc)
+told_forms (Generate made) forms count comes fits = absurd (cc)
+told_forms (Watch file) forms count comes fits = fits
+told_forms (Check file) forms count comes fits = absurd (cc)
 
 module _ (request : Request) (input : InputTold) (output : OutputTold) where
   told_answer : (mode : Mode) (front text : List ℕ) → as_it_comes mode ≡ true
-      → TellsWhole request input front text → IsAnswerIn mode request input front text
+      → TellsWhole request input front text → IsAnswerIn mode 0 request input front text
   told_answer Offline front text comes right = absurd (cc)
   told_answer Online front text comes right = right
   told_answer Show front text comes right = absurd (cc)
   told_answer (Generate count) front text comes right = absurd (cc)
   told_answer (Watch file) front text comes right = right
+  told_answer (Check file) front text comes right = absurd (cc)
 
   pub EndsOver-told : as_it_comes request.job.mode ≡ true → (result : Result (Unit {0}) Fault)
-      → EndsTelling request input output result → EndsOver request input output result
+      → EndsTelling request input output result
+      → EndsOver request input output (done_with 0 result)
   EndsOver-told comes (Ok value) told = record {
     reads = told.reads;
     front = told.front;
     text = told.text;
     right = told_answer request.job.mode told.front told.text comes told.right;
+    unchecked = inr refl;
     written = told.written;
   }
   EndsOver-told comes (Err (Trace fault)) told = told
@@ -49,6 +66,7 @@ module _ (request : Request) (input : InputTold) (output : OutputTold) where
   EndsOver-told comes (Err Read) told = told
   EndsOver-told comes (Err Write) told = record {
     reads = told.reads;
+    failed = 0;
     front = told.front;
     text = told.text;
     right = ⊎_elim
@@ -60,14 +78,15 @@ module _ (request : Request) (input : InputTold) (output : OutputTold) where
 
 -- ---- written at once
 
-module _ (request : Request) (input : InputTold) (output : OutputTold) (text : List ℕ)
-    (found : IsFoundFor request input text) where
+module _ (failed : ℕ) (request : Request) (input : InputTold) (output : OutputTold)
+    (text : List ℕ) (found : IsFoundFor failed request input text) where
   -- a write failed
   EndsOver-cut : output.now.faults ≡ count_after output.before.faults
       → AppendsPart output.before.written output.now.written text
-      → EndsOver {T = Unit {0}} request input output (Err Write)
+      → EndsOver request input output (Err Write)
   EndsOver-cut cause part = record {
     reads = found.reads;
+    failed = failed;
     front = [];
     text = text;
     right = inl found.right;
@@ -81,14 +100,15 @@ module _ (request : Request) (input : InputTold) (output : OutputTold) (text : L
   }
 
   -- all was written
-  EndsOver-done : (value : Unit {0}) → AllWritesGood output
+  EndsOver-done : AllWritesGood output
       → Appends output.before.written output.now.written text
-      → EndsOver request input output (Ok value)
-  EndsOver-done value writes written = record {
+      → EndsOver request input output (Ok failed)
+  EndsOver-done writes written = record {
     reads = found.reads;
     front = [];
     text = text;
     right = found.right;
+    unchecked = found.unchecked;
     written = record { writes = writes; written = written };
   }
 
@@ -98,18 +118,19 @@ module _ (request : Request) (input : InputTold) (output : OutputTold) (text : L
       → OnOk result (AllWritesGood output)
       → OnErr result (AppendsPart output.before.written output.now.written given)
       → OnErr result (output.now.faults ≡ count_after output.before.faults)
-      → IfErr result (λ fault. fault ≡ Write) → EndsOver request input output result
+      → IfErr result (λ fault. fault ≡ Write)
+      → EndsOver request input output (done_with failed result)
   EndsOver-written given same (Ok value) all good part cause fault =
-      EndsOver-done value good (subst (Appends output.before.written output.now.written) same all)
+      EndsOver-done good (subst (Appends output.before.written output.now.written) same all)
   EndsOver-written given same (Err fault) all good part cause is =
-      subst (λ f. EndsOver {T = Unit {0}} request input output (Err f)) (sym is)
+      subst (λ f. EndsOver request input output (Err f)) (sym is)
       (EndsOver-cut cause
       (subst (AppendsPart output.before.written output.now.written) same part))
 
   -- by pieces, as far as it was
   pub EndsOver-put : (result : Result (Unit {0}) Fault) → EndsPutting text output result
-      → EndsOver request input output result
-  EndsOver-put (Ok value) ends = EndsOver-done value ends.writes ends.written
+      → EndsOver request input output (done_with failed result)
+  EndsOver-put (Ok value) ends = EndsOver-done ends.writes ends.written
   EndsOver-put (Err (Trace fault)) ends = absurd ends
   EndsOver-put (Err TooLong) ends = absurd ends
   EndsOver-put (Err (TooManyZones zones)) ends = absurd ends
@@ -127,6 +148,7 @@ reads_input Online shown made = tt
 reads_input Show shown made = absurd (shown refl)
 reads_input (Generate count) shown made = absurd (made count refl)
 reads_input (Watch file) shown made = tt
+reads_input (Check file) shown made = tt
 
 pub shown_unread : (mode : Mode) → mode ≡ Show → ReadsInput mode → ⊥
 shown_unread mode is reads = subst ReadsInput is reads

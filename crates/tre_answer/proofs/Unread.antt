@@ -1,5 +1,5 @@
 -- The answer to what is asked, before the input is opened and where none is read.
-use Rattle.std.proofs.Common.{◌≡◌, ◌∙◌, ℕ, zero, suc, List, [], ◌∷◌, ◌++◌, All, length, get_or, flat_map, map, codes, Bool, false, string_bytes, Result, Err, sym, ap, subst, append-nil, arith}
+use Rattle.std.proofs.Common.{◌≡◌, ◌∙◌, ℕ, zero, suc, List, [], ◌∷◌, ◌++◌, All, length, get_or, flat_map, map, codes, Bool, false, string_bytes, Result, Err, inr, refl, sym, ap, subst, append-nil, arith}
 use Rattle.tre_feed.specs.Input.{InputTold, AllReadsGood}
 use Rattle.tre_feed.specs.declared.fault.Fault.{Fault}
 use Rattle.tre_feed.specs.declared.fault.Fault.TheVariants.{Memory}
@@ -26,7 +26,7 @@ use Rattle.tre_answer.proofs.Recorded.{labels_fit, nothing_said}
 pub EndsOver-early : (job : Job) (definitions : Definitions) (asked : Asked) (input : InputTold)
     (output : OutputTold) → input.now.opened ≡ false → AllReadsGood input
     → NothingWritten output
-    → EndsOver {T = Unit {0}} (request_for job definitions asked) input output (Err Memory)
+    → EndsOver (request_for job definitions asked) input output (Err Memory)
 EndsOver-early job definitions asked input output closed reads unwritten = (
   reads,
   StandsAtMemory-unread (request_for job definitions asked) (nothing_said job definitions asked)
@@ -37,7 +37,7 @@ EndsOver-early job definitions asked input output closed reads unwritten = (
 
 -- an answer over what an input says is one over what is asked for
 pub EndsOver-said : (job : Job) (asked : Asked) (input : InputTold) (output : OutputTold)
-    (result : Result (Unit {0}) Fault) (said other : Bool → List ℕ → Recording) → said ≡ other
+    (result : Result ℕ Fault) (said other : Bool → List ℕ → Recording) → said ≡ other
     → EndsOver (request_over job asked said) input output result
     → EndsOver (request_over job asked other) input output result
 EndsOver-said job asked input output result said other same =
@@ -87,13 +87,13 @@ module _ (job : Job) (definitions : Definitions) (asked : Asked) (fits : FitsJob
     (reads : AllReadsGood input) (text : List ℕ) where
   shown_in : (mode : Mode) → mode ≡ Show
       → text ≡ expression_text job.scale (names_of pattern) (pattern_tree pattern) ++ codes "\n"
-      → IsAnswerIn mode (request_for job definitions asked) input [] text
+      → IsAnswerIn mode 0 (request_for job definitions asked) input [] text
   shown_in mode is same = rw is (shown_one job.scale (map string_bytes asked.labels.items)
       asked.patterns.items pattern text (labels_fit job definitions asked fits) alone first same)
 
   made_in : (mode : Mode) (count : ℕ) (copy : Pattern) → mode ≡ Generate count
       → pattern_tree copy ≡ pattern_tree pattern → IsSummary (pattern_tree copy) count text
-      → IsAnswerIn mode (request_for job definitions asked) input [] text
+      → IsAnswerIn mode 0 (request_for job definitions asked) input [] text
   made_in mode count copy is copied summary = rw is (made_one count
       (map string_bytes asked.labels.items) asked.patterns.items pattern copy text
       (labels_fit job definitions asked fits) alone first copied summary)
@@ -101,12 +101,16 @@ module _ (job : Job) (definitions : Definitions) (asked : Asked) (fits : FitsJob
   -- the pattern's text is the answer
   pub shown_for : job.mode ≡ Show
       → text ≡ expression_text job.scale (names_of pattern) (pattern_tree pattern) ++ codes "\n"
-      → IsFoundFor (request_for job definitions asked) input text
-  shown_for is same = record { reads = reads; right = shown_in job.mode is same }
+      → IsFoundFor 0 (request_for job definitions asked) input text
+  shown_for is same = record { reads = reads; right = shown_in job.mode is same; unchecked = inr refl }
 
   -- the summary of a made run is
   pub made_for : (count : ℕ) (copy : Pattern) → job.mode ≡ Generate count
       → pattern_tree copy ≡ pattern_tree pattern → IsSummary (pattern_tree copy) count text
-      → IsFoundFor (request_for job definitions asked) input text
+      → IsFoundFor 0 (request_for job definitions asked) input text
   made_for count copy is copied summary =
-      record { reads = reads; right = made_in job.mode count copy is copied summary }
+      record {
+        reads = reads;
+        right = made_in job.mode count copy is copied summary;
+        unchecked = inr refl;
+      }

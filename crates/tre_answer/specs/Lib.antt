@@ -3,6 +3,7 @@
 pub mod Recorded
 pub mod Said
 pub mod Wanted
+pub mod Findings
 pub mod Alike
 pub mod Ends
 -- What the functions inside promise each other.

@@ -1,7 +1,7 @@
 // From a request to the text that answers it.
 ghost use Rattle.std.specs.Prelude.{◌≡◌, ◌≤◌, ◌<◌, ◌+◌, ◌++◌, codes, false, IsTrue, IfOk, IfSome, length, string_bytes};
 ghost use Rattle.tre_answer.specs.Ends.{EndsOver};
-ghost use Rattle.tre_answer.specs.Parts.{IsInputOf};
+ghost use Rattle.tre_answer.specs.Parts.{IsInputOf, done_with};
 ghost use Rattle.tre_answer.specs.Request.{FitsJob, request_for, request_over};
 ghost use Rattle.tre_decimal.specs.declared.TheConstants.{SCALE_MAX};
 ghost use Rattle.tre_feed.specs.Input.{TakesAtMost, input_told};
@@ -13,9 +13,11 @@ ghost use Rattle.tre_tell.specs.Outputs.{output_told};
 ghost use Rattle.tre_words.specs.Job.{IsJob};
 
 use crate::asked::{Asked, Definitions};
+use crate::checks::{count_failed, find_checks};
 use crate::columns::column_input;
 use crate::offline::find_matches;
 use crate::printing::{piece_room, write_matches};
+use crate::verdicts::{verdict_room, write_verdicts};
 use std::alloc::{AllocError, Global};
 use tre_feed::{Fault, Input, dump_input, text_input, write_text};
 use tre_generate::summary;
@@ -26,6 +28,16 @@ use tre_tell::tell_matches;
 use tre_trace::TraceReader;
 use tre_words::{Format, Job, Mode};
 
+// So many checks failed, if the text was written.
+fn done_with(failed: u64, written: Result<(), Fault>) -> Result<u64, Fault>
+    ensures { result ≡ done_with failed written }
+{
+    match written {
+        Ok(()) => Ok(failed),
+        Err(fault) => Err(fault),
+    }
+}
+
 // Writes what answers a job of which this is the input, read for the names of its patterns.
 fn answer_by<S: Source, R: TraceReader + Drop, O: Sink>(
     alloc: Global,
@@ -34,7 +46,7 @@ fn answer_by<S: Source, R: TraceReader + Drop, O: Sink>(
     mut input: Input<R>,
     source: &mut S,
     out: &mut O,
-) -> Result<(), Fault>
+) -> Result<u64, Fault>
     requires closed { (S.told source.old).opened ≡ false }
     requires job { IsJob job.now }
     requires reads { ReadsInput job.now.mode }
@@ -54,17 +66,28 @@ fn answer_by<S: Source, R: TraceReader + Drop, O: Sink>(
         Mode::Offline => {
             let found = find_matches(alloc, asked, job, input, source)?;
             let mut room = piece_room(alloc)?;
-            write_matches(&found.zones, found.end, job.scale, &mut room, out)
+            let written = write_matches(&found.zones, found.end, job.scale, &mut room, out);
+            done_with(0, written)
         }
-        _ => tell_matches(
-            alloc,
-            job,
-            &asked.patterns,
-            &asked.labels,
-            &mut input,
-            source,
-            out,
-        ),
+        Mode::Check { .. } => {
+            let found = find_checks(alloc, asked, job, input, source)?;
+            let mut room = verdict_room(alloc, &found.all)?;
+            let failed = count_failed(&found.all);
+            let written = write_verdicts(&found.all, found.end, job.scale, &mut room, out);
+            done_with(failed, written)
+        }
+        _ => {
+            let told = tell_matches(
+                alloc,
+                job,
+                &asked.patterns,
+                &asked.labels,
+                &mut input,
+                source,
+                out,
+            );
+            done_with(0, told)
+        }
     }
 }
 
@@ -76,7 +99,7 @@ fn answer_input<S: Source, O: Sink>(
     job: &Job,
     source: &mut S,
     out: &mut O,
-) -> Result<(), Fault>
+) -> Result<u64, Fault>
     requires closed { (S.told source.old).opened ≡ false }
     requires job { IsJob job.now }
     requires reads { ReadsInput job.now.mode }
@@ -101,9 +124,8 @@ fn answer_input<S: Source, O: Sink>(
             answer_by(alloc, asked, job, input, source, out)
         }
         Format::Csv => {
-            let pattern = &asked.patterns[0];
             let Definitions { columns, .. } = definitions;
-            let input = column_input(alloc, pattern, columns, job.scale, limit)?;
+            let input = column_input(alloc, &asked.patterns, columns, job.scale, limit)?;
             answer_by(alloc, asked, job, input, source, out)
         }
     }
@@ -124,6 +146,8 @@ fn shown_text(alloc: Global, pattern: &Pattern, scale: u8) -> Result<String, All
 /// Writes what answers a job with these patterns, for which the definitions say what names mean: at
 /// once where all is known, or as the input comes.
 ///
+/// The answer is how many checks failed; 0 where there are none.
+///
 /// A job that shows a pattern, or makes a trace of its own, has one pattern, and reads no input.
 pub fn answer<S: Source, O: Sink>(
     alloc: Global,
@@ -132,7 +156,7 @@ pub fn answer<S: Source, O: Sink>(
     job: &Job,
     source: &mut S,
     out: &mut O,
-) -> Result<(), Fault>
+) -> Result<u64, Fault>
     requires closed { (S.told source.old).opened ≡ false }
     requires job { IsJob job.now }
     requires fits { FitsJob job.now asked.now }
@@ -149,12 +173,12 @@ pub fn answer<S: Source, O: Sink>(
     match &job.mode {
         Mode::Show => {
             let text = shown_text(alloc, &asked.patterns[0], job.scale)?;
-            write_text(text.as_str(), out)
+            done_with(0, write_text(text.as_str(), out))
         }
         Mode::Generate { count } => {
             let pattern = asked.patterns[0].try_clone(alloc)?;
             let text = summary(alloc, pattern, *count)?;
-            write_text(text.as_str(), out)
+            done_with(0, write_text(text.as_str(), out))
         }
         _ => answer_input(alloc, asked, definitions, job, source, out),
     }

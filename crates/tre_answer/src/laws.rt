@@ -3,7 +3,8 @@
 
 ghost use Rattle.std.specs.Prelude.{◌≡◌, ◌∷◌, ◌++◌, ◌<◌, ◌≤◌, ◌⊎◌, ◌↔◌, ℕ, Bool, true, false, List, [], length};
 ghost use Rattle.std.specs.List.{AllZip};
-ghost use Rattle.tre_answer.specs.Alike.{WantTheSame};
+ghost use Rattle.tre_answer.specs.Alike.{SayTheSame, WantTheSame};
+ghost use Rattle.tre_answer.specs.Findings.{IsCheckedAnswer};
 ghost use Rattle.tre_answer.specs.Request.{request_for, sought_in};
 ghost use Rattle.tre_answer.specs.Said.{IsForGood, SaysPairs, end_for, offline_of, zones_told};
 ghost use Rattle.tre_answer.specs.Wanted.{IsWanted, AreZonesOf, IsOfflineAnswer, AreTooMany};
@@ -44,6 +45,18 @@ pub fn one_canonical_answer()
         AreZonesOf true (IsWanted others seconds) strips →
         ((a b n : ℕ) → 0 < n → a ≤ b →
         IsWanted patterns traces a b n ↔ IsWanted others seconds a b n) → zones ≡ strips }
+{}
+
+/// Canonical zones of checks depend on what becomes of these alone, and not on their patterns or the
+/// bytes: where two requests have findings of the same names, verdicts and shown pairs, they have
+/// one text, at one scale and with one end.
+pub fn one_checked_text()
+    ensures { (one other : Request) (bytes others : List ℕ) (failed second : ℕ)
+        (text texts : List ℕ) (first : IsCheckedAnswer one bytes failed text)
+        (last : IsCheckedAnswer other others second texts) → one.job.normal ≡ true →
+        other.job.normal ≡ true → one.job.scale ≡ other.job.scale →
+        end_for one bytes ≡ end_for other others → SayTheSame first.findings last.findings →
+        text ≡ texts }
 {}
 
 /// What is told of a pattern without another, and what both match, make up what the first matches.

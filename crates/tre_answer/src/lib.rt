@@ -16,11 +16,13 @@
 
 mod answering;
 mod asked;
+mod checks;
 mod columns;
 pub mod laws;
 mod listed;
 mod offline;
 mod printing;
+mod verdicts;
 
 pub use answering::answer;
 pub use asked::{Asked, Definitions};

@@ -94,9 +94,9 @@ fn wanted_zones(
     Ok(Listed::Zones(zones))
 }
 
-// The same, as runs where they are kept so: the matches of one pattern, unless the canonical zones
-// are wanted.
-fn listed_matches(
+/// The same, as runs where they are kept so: the matches of one pattern, unless the canonical zones
+/// are wanted.
+pub fn listed_matches(
     alloc: Global,
     patterns: &[Pattern],
     first: Packed,
@@ -142,8 +142,8 @@ fn printed_matches(
     Ok(Matches { zones, end })
 }
 
-// The zones that a job asks for of a set: the canonical ones, or those of the set as they are.
-fn zones_for(alloc: Global, set: ZoneSet, normal: bool) -> Result<Vec<Zone>, AllocError>
+/// The zones that a job asks for of a set: the canonical ones, or those of the set as they are.
+pub fn zones_for(alloc: Global, set: ZoneSet, normal: bool) -> Result<Vec<Zone>, AllocError>
     ensures zones { IfOk result (λ zones. AreZonesOf normal (SetHolds set) zones.items) }
     ensures set { OnOk result (IsZoneSet set) }
 {
@@ -190,7 +190,7 @@ pub fn find_matches<S: Source, R: TraceReader + Drop>(
     requires fits { FitsJob job.now asked.now }
     requires input { IsInputOf R.names asked.now job.now input }
     requires new { IsNew R.terms R.represents R.names input }
-    ensures found { IfOk result (λ found. IsFoundFor
+    ensures found { IfOk result (λ found. IsFoundFor 0
         (request_over job.now asked.now (recording_of R.recording R.terms input))
         (input_told (S.told source.old) (S.told source.new))
         (offline_text job.now.scale (listed_zones found.zones) found.end)) }

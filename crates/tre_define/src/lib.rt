@@ -35,5 +35,5 @@ pub use named::base_of;
 pub use part::Part;
 pub use pieces::{behind_equals, first_part, name_in, next_word, sign_in, skip_spaces, word_in};
 pub use reads::Reads;
-pub use signals::read_signals;
+pub use signals::{add_signal, read_signals};
 pub use test::{PLAIN, Test};

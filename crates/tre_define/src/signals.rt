@@ -36,7 +36,7 @@ pub fn read_signals(alloc: Global, text: &str) -> Result<Vec<SignalDefinition>, 
     }
     loop {
         let (part, behind) = first_part(rest);
-        add(alloc, &mut definitions, part)?;
+        add_signal(alloc, &mut definitions, part)?;
         match behind {
             Some(behind) => rest = behind,
             None => return Ok(definitions),
@@ -44,8 +44,13 @@ pub fn read_signals(alloc: Global, text: &str) -> Result<Vec<SignalDefinition>, 
     }
 }
 
-// Puts the definition that a part is behind the others.
-fn add(alloc: Global, definitions: &mut Vec<SignalDefinition>, part: &[u8]) -> Result<(), LetFault>
+/// Puts the definition that a part is behind the others. One that is none, or that has the name of
+/// an earlier one, is refused with the number that it would have.
+pub fn add_signal(
+    alloc: Global,
+    definitions: &mut Vec<SignalDefinition>,
+    part: &[u8],
+) -> Result<(), LetFault>
     requires { IsUtf8 part.now }
     ensures added { OnOk result ((defined : SignalDefined)
         × (definitions.new.items ≡ definitions.old.items ++ defined ∷ [])

@@ -9,7 +9,7 @@ mod Seeing
 mod Standing
 pub mod Among
 pub mod Sharing
-mod Grouping
+pub mod Grouping
 mod Names
 mod Needing
 mod Parts

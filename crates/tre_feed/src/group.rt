@@ -42,7 +42,7 @@ impl Group {
     }
 
     /// Both lists once more, for a reader to keep.
-    pub(crate) fn lists(&self) -> Result<(Names, Names), AllocError>
+    pub fn lists(&self) -> Result<(Names, Names), AllocError>
         ensures { IfOk result (λ lists. record { names = lists.0; events = lists.1 }
             ≡ self.now) }
     {

@@ -1,17 +1,11 @@
 -- What is left of a set, and whether there is any of it.
-use Rattle.std.proofs.Common.{◌≡◌, ◌<◌, ◌≤◌, ◌↔◌, ℕ, List, [], ◌∷◌, inl, inr, ⊎_elim, subst, refl, ◌*◌}
-use Rattle.std.proofs.Math.Nat.{mul-pos}
+use Rattle.std.proofs.Common.{◌≡◌, ◌<◌, List, [], ◌∷◌, inl, subst, refl, length, arith}
 use Rattle.tre_pairs.specs.Except.{Except}
-use Rattle.tre_pairs.specs.Pairs.{Pairs, Both, Either}
-use Rattle.tre_compose.specs.Begins.{Leads, LeadsOn}
-use Rattle.tre_zone.specs.Zone.{HoldsSome}
-use Rattle.tre_zone.specs.ZoneList.{SetHolds, HoldExactly, AreTight, AreCanonical}
-use Rattle.tre_zone.proofs.Scaling.{SetHolds-rising}
+use Rattle.tre_pairs.specs.Pairs.{Pairs, Both}
+use Rattle.tre_zone.specs.ZoneList.{SetHolds, HoldExactly, AreTight}
 use Rattle.tre_zone.specs.declared.zone_bounds.ZoneBounds.{ZoneBounds}
 use Rattle.tre_zone.proofs.ZoneListLemmas.{SetHolds-empty}
-use Rattle.tre_judge.specs.Verdicts.{HasPair, Nothing, Sparing}
-use Rattle.tre_judge.specs.declared.judging.Arrow.{Arrow}
-use Rattle.tre_judge.specs.declared.judging.Arrow.TheVariants.{Same, Follows}
+use Rattle.tre_judge.specs.Verdicts.{HasPair, Nothing}
 
 -- What is left without what leads on of a set itself.
 pub without_led : (S R : Pairs) (led left : List ZoneBounds) → HoldExactly led (Both S R)
@@ -75,42 +69,12 @@ nothing zones none = record {
   );
 }
 
--- Where two sets hold the same pairs, they spare the same.
-spares : (arrow : Arrow) (R S : Pairs) → ((a b n : ℕ) → 0 < n → R a b n → S a b n)
-    → (a b n : ℕ) → 0 < n → Sparing arrow R a b n → Sparing arrow S a b n
-spares Same R S more a b n some h = more a b n some h
-spares Follows R S more a b n some h = record {
-  factor = h.factor;
-  positive = h.positive;
-  to = h.to;
-  led = more (h.factor * b) h.to (h.factor * n) (mul-pos h.positive some) h.led;
-}
+-- How many zones a set has says whether it has a pair.
+pub some_of : (zones : List ZoneBounds) → AreTight zones → 0 < length zones
+    → HasPair (SetHolds zones)
+some_of [] tight some = absurd (omega (arith, some))
+some_of (zone ∷ zones) tight some = own_pair (zone ∷ zones) tight (λ h. cc)
 
-pub left_alike : (arrow : Arrow) (S : Pairs) (one other may left : List ZoneBounds)
-    → AreCanonical one → AreCanonical other → AreCanonical may
-    → HoldExactly may (Either (SetHolds one) (SetHolds other))
-    → HoldExactly left (Except S (Sparing arrow (SetHolds may)))
-    → HoldExactly left (Except S (Sparing arrow (Either (SetHolds one) (SetHolds other))))
-left_alike arrow S one other may left set set' all exact held =
-    let into = λ (a b n : ℕ) (some : 0 < n) (h : SetHolds may a b n).
-    (exact.exact a b n some (SetHolds-rising may all a b n some h)).0 h in
-    let back = λ (a b n : ℕ) (some : 0 < n) (h : Either (SetHolds one) (SetHolds other) a b n).
-    (exact.exact a b n some (⊎_elim (λ x. SetHolds-rising one set a b n some x)
-    (λ x. SetHolds-rising other set' a b n some x) h)).1 h in
-    record {
-      exact = λ a b n some le.
-          let whole = held.exact a b n some le in (
-            (λ h.
-                let x = whole.0 h in
-                record {
-                  related = x.related;
-                  never = λ r. x.never (spares arrow (Either (SetHolds one) (SetHolds other))
-                      (SetHolds may) back a b n some r);
-                }),
-            (λ h. whole.1 (record {
-              related = h.related;
-              never = λ r. h.never (spares arrow (SetHolds may)
-                  (Either (SetHolds one) (SetHolds other)) into a b n some r);
-            })),
-          );
-    }
+pub none_of : (zones : List ZoneBounds) → length zones ≡ 0 → ¬ HasPair (SetHolds zones)
+none_of [] none = own_none [] refl
+none_of (zone ∷ zones) none = absurd (omega (arith, none))

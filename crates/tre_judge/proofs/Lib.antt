@@ -1,1 +1,4 @@
 pub mod Deciding
+pub mod Alike
+pub mod Ordered
+mod Failing

@@ -1,80 +1,134 @@
-ghost use Rattle.std.specs.Prelude.{◌≡◌, IfOk};
-ghost use Rattle.tre_pairs.specs.Except.{Except};
-ghost use Rattle.tre_pairs.specs.Pairs.{Either};
-ghost use Rattle.tre_zone.specs.ZoneList.{SetHolds, HoldExactly};
-ghost use Rattle.tre_judge.specs.Verdicts.{Fails, IsVerdict, Shown, Sparing, Unanswered};
+// Verdicts, and the pairs that are shown with them.
+ghost use Rattle.std.specs.Prelude.{◌≡◌, List, IfOk, length, if◌then◌else◌};
+ghost use Rattle.tre_judge.specs.Checks.{HoldFor, IsJudged};
+ghost use Rattle.tre_judge.specs.Verdicts.{IsVerdict, IsVerdictOver, Nothing, ShownOver, Unanswered};
+ghost use Rattle.tre_syntax.specs.Begun.{MayMatch};
+ghost use Rattle.tre_syntax.specs.Meaning.{Matches};
+ghost use Rattle.tre_syntax.specs.Pattern.{pattern_tree};
+ghost use Rattle.tre_watch.specs.Forms.{patterns_of};
+ghost use Rattle.tre_zone.specs.ZoneList.{AreTight, SetHolds, HoldExactly};
+ghost use Rattle.tre_zone.specs.declared.zone_bounds.ZoneBounds.{ZoneBounds};
 
+use crate::verdict::Verdict;
 use std::alloc::{AllocError, Global};
 use tre_minus::minus;
+use tre_offline::{begun, begun_among, into_matches, matches, matches_among};
+use tre_packed::Packed;
 use tre_star::leading_on;
+use tre_syntax::Pattern;
+use tre_watch::Form;
 use tre_zoneset::ZoneSet;
 
-/// What is asked of a pair: that it is one of others, or that one of them begins where it ends.
-#[derive(Clone, Copy, PartialEq, Eq)]
-pub enum Arrow {
-    Same,
-    Follows,
-}
-
-/// What becomes of a check with an arrow.
-#[derive(Clone, Copy, PartialEq, Eq)]
-pub enum Verdict {
-    Passed,
-    Failed,
-    Waiting,
-    Vacuous,
-}
-
-/// A verdict, and the pairs that it is about.
+/// A verdict, and the pairs that are shown with it.
 #[derive(Drop)]
 pub struct Judged {
     pub verdict: Verdict,
     pub shown: ZoneSet,
 }
 
-/// The pairs of the subject that none of the others spares.
-pub fn unspared(
-    alloc: Global,
-    arrow: Arrow,
-    subject: &ZoneSet,
-    others: &ZoneSet,
-) -> Result<ZoneSet, AllocError>
-    ensures { IfOk result (λ left. HoldExactly left
-        (Except (SetHolds subject.now) (Sparing arrow (SetHolds others.now)))) }
+/// The verdict on a check of one pattern, by how many zones of matches there are.
+pub fn judge_alone(form: Form, zones: usize) -> Verdict
+    requires { patterns_of form ≡ 1 }
+    ensures { (matches : List ZoneBounds) → AreTight matches → length matches ≡ zones →
+        IsVerdict form result (SetHolds matches) Nothing Nothing }
 {
-    match arrow {
-        Arrow::Same => minus(alloc, subject, others),
-        Arrow::Follows => {
-            let led = leading_on(alloc, subject, others)?;
-            minus(alloc, subject, &led)
-        }
+    match form {
+        Form::Never => passing(zones == 0),
+        Form::Found => passing(zones > 0),
+        _ => Verdict::Unjudged,
     }
 }
 
-/// The verdict on the pairs of the subject, of which `answers` answer, and these and what has begun
-/// may.
+fn passing(passes: bool) -> Verdict
+    ensures { result ≡ (if passes then Verdict.Passed else Verdict.Failed) }
+{
+    if passes {
+        Verdict::Passed
+    } else {
+        Verdict::Failed
+    }
+}
+
+/// The verdict on a check of two patterns, each over its own trace.
+///
+/// It goes as deep as the expressions do.
 pub fn judge(
     alloc: Global,
-    arrow: Arrow,
+    form: Form,
+    pattern: &Pattern,
+    trace: Packed,
+    second: &Pattern,
+    other: &Packed,
+) -> Result<Judged, AllocError>
+    requires { patterns_of form ≡ 2 }
+    ensures verdict { IfOk result (λ judged. IsVerdictOver form judged.verdict
+        (pattern_tree pattern.now) trace (pattern_tree second.now) other.now) }
+    ensures shown { IfOk result (λ judged. HoldExactly judged.shown (ShownOver form judged.verdict
+        (pattern_tree pattern.now) trace (pattern_tree second.now) other.now)) }
+{
+    let subject = into_matches(alloc, pattern, trace)?;
+    let answers = answers_to(alloc, form, second, other, &subject)?;
+    let may = may_answer(alloc, form, second, other, &subject, &answers)?;
+    // For the proof: the calls say what sets are.
+    let _subject = subject.zones();
+    let _answers = answers.zones();
+    let _may = may.zones();
+    judge_sets(alloc, form, &subject, &may, &answers)
+}
+
+// The matches of the pattern that a check of this form asks for, beside those of the subject.
+fn answers_to(
+    alloc: Global,
+    form: Form,
+    pattern: &Pattern,
+    trace: &Packed,
+    subject: &ZoneSet,
+) -> Result<ZoneSet, AllocError>
+    ensures { IfOk result (λ zones.
+        HoldFor form subject.now zones (Matches (pattern_tree pattern.now) trace.now)) }
+{
+    match form {
+        Form::Same => matches_among(alloc, pattern, trace, subject),
+        _ => matches(alloc, pattern, trace),
+    }
+}
+
+// These, and what has begun of the pattern.
+fn may_answer(
+    alloc: Global,
+    form: Form,
+    pattern: &Pattern,
+    trace: &Packed,
     subject: &ZoneSet,
     answers: &ZoneSet,
-    begun: ZoneSet,
-) -> Result<Judged, AllocError>
-    ensures verdict { IfOk result (λ judged. IsVerdict judged.verdict arrow
-        (SetHolds subject.now) (Either (SetHolds begun) (SetHolds answers.now))
-        (SetHolds answers.now)) }
-    ensures shown { IfOk result (λ judged. HoldExactly judged.shown
-        (Shown judged.verdict arrow
-        (SetHolds subject.now) (Either (SetHolds begun) (SetHolds answers.now))
-        (SetHolds answers.now))) }
+) -> Result<ZoneSet, AllocError>
+    requires { HoldFor form subject.now answers.now (Matches (pattern_tree pattern.now) trace.now) }
+    ensures { IfOk result (λ zones.
+        HoldFor form subject.now zones (MayMatch (pattern_tree pattern.now) trace.now)) }
 {
-    // For the proof: the calls say what sets are.
-    let _begun = begun.zones();
-    let _answers = answers.zones();
-    let mut may = begun;
+    let mut may = match form {
+        Form::Same => begun_among(alloc, pattern, trace, subject)?,
+        _ => begun(alloc, pattern, trace)?,
+    };
     may.join(answers)?;
-    let _may = may.zones();
-    let failing = unspared(alloc, arrow, subject, &may)?;
+    Ok(may)
+}
+
+// The verdict on the pairs of the subject, which may come to be answered by some pairs, and by
+// others are.
+fn judge_sets(
+    alloc: Global,
+    form: Form,
+    subject: &ZoneSet,
+    may: &ZoneSet,
+    answers: &ZoneSet,
+) -> Result<Judged, AllocError>
+    ensures { IfOk result (λ judged. IsJudged judged.verdict judged.shown (SetHolds subject.now)
+        (Unanswered form (SetHolds subject.now) (SetHolds may.now))
+        (Unanswered form (SetHolds subject.now) (SetHolds answers.now))) }
+{
+    let failing = unanswered(alloc, form, subject, may)?;
+    // For the proof: the calls say what sets are.
     let _failing = failing.zones();
     let _subject = subject.zones();
     if !failing.is_empty() {
@@ -89,16 +143,36 @@ pub fn judge(
             shown: failing,
         });
     }
-    let unanswered = unspared(alloc, arrow, subject, answers)?;
-    let _unanswered = unanswered.zones();
-    if unanswered.is_empty() {
+    let waiting = unanswered(alloc, form, subject, answers)?;
+    let _waiting = waiting.zones();
+    if waiting.is_empty() {
         return Ok(Judged {
             verdict: Verdict::Passed,
-            shown: unanswered,
+            shown: waiting,
         });
     }
     Ok(Judged {
         verdict: Verdict::Waiting,
-        shown: unanswered,
+        shown: waiting,
     })
+}
+
+// The pairs of the subject that none of the others answers.
+fn unanswered(
+    alloc: Global,
+    form: Form,
+    subject: &ZoneSet,
+    others: &ZoneSet,
+) -> Result<ZoneSet, AllocError>
+    ensures { IfOk result (λ left.
+        HoldExactly left (Unanswered form (SetHolds subject.now) (SetHolds others.now))) }
+{
+    match form {
+        Form::Same => minus(alloc, subject, others),
+        Form::Follows => {
+            let led = leading_on(alloc, subject, others)?;
+            minus(alloc, subject, &led)
+        }
+        _ => Ok(ZoneSet::new(alloc)),
+    }
 }

@@ -1,4 +1,7 @@
 mod Records
+mod CsvRecords
+mod Judging
+mod Valuing
 mod Telling
 mod Reading
 mod Keeping

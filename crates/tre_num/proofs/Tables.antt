@@ -1,9 +1,9 @@
 -- What a table says, by its header.
 use Rattle.std.proofs.Common.{◌≡◌, ◌≢◌, ℕ, ◌+◌, Option, None, Some, List, [], ◌∷◌, ◌++◌, Bool, true, false, Result, Ok, Err, refl, sym, ap, ◌∙◌, inl, inr, ◌⊎◌}
-use Rattle.csv.specs.Reading.{default_config, records, strip_bom}
 use Rattle.csv.specs.declared.reader.Reader.{Reader}
 use Rattle.tre_num.specs.Left.{IsNextRecord}
 use Rattle.tre_num.specs.declared.column.Column.{Column}
+use Rattle.tre_num.specs.Records.{records_of}
 use Rattle.tre_num.specs.Rows.{ColumnTerms, compared, row_says, rows_from, rows_recording, says_on, table_says, under_header}
 use Rattle.tre_parts.specs.Format.{faulty, nothing}
 use Rattle.tre_trace.specs.Reading.{Adds, IsPlaced, IsRefused, Reading, Recording, Stretch, Vocabulary, events_for, segments_for}
@@ -33,7 +33,7 @@ memory_unspent fault is = λ spent.
 
 -- ---- what stands under a header
 
-module _ (terms : ColumnTerms) (all : List (List (List ℕ))) where
+module _ (terms : ColumnTerms) (asked : Vocabulary) (all : List (List (List ℕ))) where
   -- What the rows say under this header.
   pub record Heads (header : List (List ℕ)) : Type 0 where
     pub rest : List (List (List ℕ))
@@ -70,26 +70,26 @@ module _ (terms : ColumnTerms) (all : List (List (List ℕ))) where
     now = table_says terms all
 
     -- no memory was found
-    pub stopped : fault.kind ≡ Memory → IsRefused terms.names before before nothing now fault
+    pub stopped : fault.kind ≡ Memory → IsRefused asked before before nothing now fault
     stopped memory =
-        IsRefused-memory terms.names before nothing now fault
+        IsRefused-memory asked before nothing now fault
         (record { added = now.stretches; stretches = refl; fault = λ f is. cc }) memory
 
     -- a name has no column under the header
     pub refused : (header : List (List ℕ)) → Heads header
         → (fault.kind ≢ Memory → (compared terms header ≡ None)
         × (fault ≡ record { place = 1; kind = UnknownName }))
-        → fault.kind ≢ Spent → IsRefused terms.names before before nothing now fault
+        → fault.kind ≢ Spent → IsRefused asked before before nothing now fault
     refused header heads told never_spent = by (is_memory fault.kind) where
       by : (fault.kind ≡ Memory) ⊎ (fault.kind ≢ Memory)
-          → IsRefused terms.names before before nothing now fault
+          → IsRefused asked before before nothing now fault
       by (inl memory) = stopped memory
       by (inr other) =
           let did = told other in
           let is : now ≡ faulty 1 UnknownName = heads.is
           ∙ ap (λ columns. under_header terms header columns heads.rest) did.0 in
-          IsRefused-told terms.names before before nothing now fault
-          (Adds-none terms.names before nothing now (ap (λ (r : Recording). r.stretches) is))
+          IsRefused-told asked before before nothing now fault
+          (Adds-none asked before nothing now (ap (λ (r : Recording). r.stretches) is))
           (ap (λ (r : Recording). r.fault) is ∙ ap Some (sym did.1)) never_spent
 
 -- ---- no event happens at the end
@@ -123,7 +123,7 @@ table-quiet terms (header ∷ rows) = under-quiet terms header (compared terms h
 pub ends-quiet : (terms : ColumnTerms) (asked : Vocabulary) (bytes : List ℕ)
     → events_for asked (rows_recording terms true bytes).last ≡ 0
 ends-quiet terms asked bytes =
-    ap (events_for asked) (table-quiet terms (records default_config (strip_bom bytes)))
+    ap (events_for asked) (table-quiet terms (records_of bytes))
     ∙ no-bits asked.events
 
 -- ---- a list that had no segments

@@ -1,6 +1,5 @@
 -- How long a row lasts.
-use Rattle.std.specs.Prelude.{ℕ, ◌+◌, nat_le, ◌==◌, Option, Some, None, List, Result, Ok, Err, option_and_then, if◌then◌else◌}
-use Rattle.csv.specs.Records.{field_at}
+use Rattle.std.specs.Prelude.{ℕ, ◌+◌, nat_le, ◌==◌, Option, Some, None, List, Result, Ok, Err, option_and_then, if◌then◌else◌, slice_get}
 use Rattle.tre_pairs.specs.declared.TheConstants.{TIME_MAX}
 use Rattle.tre_decimal.specs.Decimal.{units_of}
 use Rattle.tre_trace.specs.declared.fault.TraceKind.{TraceKind}
@@ -15,4 +14,4 @@ units_say end (Some len) =
 -- the first field of a row, which is a decimal
 abbrev pub duration_says : ℕ → ℕ → List (List ℕ) → Result ℕ TraceKind
 duration_says scale end fields =
-    units_say end (option_and_then (units_of scale) (field_at fields 0))
+    units_say end (option_and_then (units_of scale) (slice_get fields 0))

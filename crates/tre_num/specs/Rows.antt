@@ -1,10 +1,8 @@
 -- What comma-separated rows say of a trace.
-use Rattle.std.specs.Prelude.{ℕ, ◌+◌, nat_lt, nat_le, ◌==◌, Bool, true, false, Option, Some, None, List, [], ◌∷◌, length, drop, Result, Ok, Err, option_and_then, option_map, if◌then◌else◌}
+use Rattle.std.specs.Prelude.{ℕ, ◌+◌, nat_lt, nat_le, ◌==◌, Bool, true, false, Option, Some, None, List, [], ◌∷◌, length, drop, flat_map, Result, Ok, Err, option_and_then, option_map, if◌then◌else◌, slice_get}
 use Rattle.std.specs.List.{list_all, position_from}
 use Rattle.std.specs.Option.{is_some, option_map_or}
 use Rattle.std.specs.Str.{bytes_eq}
-use Rattle.csv.specs.Reading.{records, default_config, strip_bom}
-use Rattle.csv.specs.Records.{field_at}
 use Rattle.tre_pairs.specs.declared.TheConstants.{TIME_MAX}
 use Rattle.tre_decimal.specs.Decimal.{units_of}
 use Rattle.tre_trace.specs.Reading.{Recording, Stretch, Vocabulary}
@@ -15,6 +13,7 @@ use Rattle.tre_num.specs.declared.column.Column.{Column}
 use Rattle.tre_define.specs.Comparison.{compares}
 use Rattle.tre_define.specs.Texts.{named}
 use Rattle.tre_num.specs.Defined.{Defined, name_of_let}
+use Rattle.tre_num.specs.Records.{records_of}
 use Rattle.tre_num.specs.Whole.{whole_of}
 
 -- ---- the columns of names
@@ -55,7 +54,7 @@ columns_of definitions header (name ∷ names) =
 abbrev pub told_by : Column → List (List ℕ) → Option Bool
 told_by column fields =
     option_map (λ number. compares column.comparison number column.value)
-    (option_and_then whole_of (field_at fields column.place))
+    (option_and_then whole_of (slice_get fields column.place))
 
 -- Whether the comparison of a name holds of a row: not where its field is no whole number.
 abbrev pub told_as : List Defined → List (List ℕ) → List (List ℕ) → List ℕ → Bool
@@ -80,25 +79,19 @@ stretch_says end (Some len) whole is_true =
     else (if nat_le (end + len) TIME_MAX
     then (if whole then Ok (plain_stretch len is_true) else Err BadNumber) else Err TooLate)
 
--- What a recording hangs on; a field of one of these names that is no whole number is a fault.
+-- What a recording hangs on; a field of one of the declared names that is no whole number is a
+-- fault, whoever reads it.
 pub record ColumnTerms : Type 0 where
   pub definitions : List Defined
-  pub names : Vocabulary
+  pub declared : List Vocabulary
   pub scale : ℕ
-
-abbrev pub terms_of : List Defined → List (List ℕ) → List (List ℕ) → ℕ → ColumnTerms
-terms_of definitions names events scale = record {
-  definitions = definitions;
-  names = record { names = names; events = events };
-  scale = scale;
-}
 
 -- What a row says behind `end`. Its first field is a decimal: how long it lasts.
 abbrev pub row_says : ColumnTerms → List (List ℕ) → List Column → ℕ → List (List ℕ)
     → Result Stretch TraceKind
 row_says terms header columns end fields =
     if nat_lt (length fields) (length header) then Err CutShort
-    else stretch_says end (option_and_then (units_of terms.scale) (field_at fields 0))
+    else stretch_says end (option_and_then (units_of terms.scale) (slice_get fields 0))
     (are_whole columns fields) (told_as terms.definitions header fields)
 
 -- ---- all rows
@@ -125,8 +118,9 @@ under_header terms header (Some columns) rows = rows_from terms header columns 2
 -- The columns of all names: none where there is an event, since rows tell of none.
 abbrev pub compared : ColumnTerms → List (List ℕ) → Option (List Column)
 compared terms header =
-    if length terms.names.events == 0
-    then columns_of terms.definitions header terms.names.names else None
+    if list_all (λ asked. length asked.events == 0) terms.declared
+    then columns_of terms.definitions header (flat_map (λ asked. asked.names) terms.declared)
+    else None
 
 -- records: a header and rows; without a record there is no column
 abbrev pub table_says : ColumnTerms → List (List (List ℕ)) → Recording
@@ -137,4 +131,4 @@ table_says terms (header ∷ rows) = under_header terms header (compared terms h
 abbrev pub rows_recording : ColumnTerms → Bool → List ℕ → Recording
 rows_recording terms false bytes = nothing
 rows_recording terms true bytes =
-    table_says terms (records default_config (strip_bom bytes))
+    table_says terms (records_of bytes)

@@ -1,12 +1,11 @@
 -- What rows say is a trace, and stays when more bytes come.
-use Rattle.std.proofs.Common.{◌≡◌, ℕ, ◌+◌, ◌≤◌, nat_le, nat_lt, ◌==◌, Bool, true, false, List, [], ◌∷◌, ◌++◌, length, Option, None, Some, Result, Ok, Err, IfOk, refl, arith, if◌then◌else◌}
+use Rattle.std.proofs.Common.{◌≡◌, slice_get, ℕ, ◌+◌, ◌≤◌, nat_le, nat_lt, ◌==◌, Bool, true, false, List, [], ◌∷◌, ◌++◌, length, Option, None, Some, Result, Ok, Err, IfOk, refl, arith, if◌then◌else◌}
 use Rattle.std.specs.Option.{option_and_then}
 use Rattle.std.proofs.lemmas.Bool.Decides.{nat_tests}
-use Rattle.csv.specs.Records.{field_at}
-use Rattle.csv.specs.Reading.{default_config, records, strip_bom}
 use Rattle.tre_pairs.specs.declared.TheConstants.{TIME_MAX}
 use Rattle.tre_decimal.specs.Decimal.{units_of}
 use Rattle.tre_num.specs.declared.column.Column.{Column}
+use Rattle.tre_num.specs.Records.{records_of}
 use Rattle.tre_num.specs.Rows.{ColumnTerms, are_whole, compared, plain_stretch, row_says, rows_from, rows_recording, says_on, stretch_says, table_says, told_as, under_header}
 use Rattle.tre_trace.specs.Reading.{Grows, Recording, Stretch, Vocabulary, segments_for}
 use Rattle.tre_trace.specs.Trace.{AreLong, IsTrace, end_of}
@@ -56,11 +55,11 @@ module _ (asked : Vocabulary) where
         → IfOk (row_says terms header columns end fields) (λ stretch. FitsAt end stretch.len)
     row-fits columns end fields = by (nat_lt (length fields) (length header)) where
       by : (short : Bool) → IfOk (if short then Err CutShort
-          else stretch_says end (option_and_then (units_of terms.scale) (field_at fields 0))
+          else stretch_says end (option_and_then (units_of terms.scale) (slice_get fields 0))
           (are_whole columns fields) (told_as terms.definitions header fields))
           (λ stretch. FitsAt end stretch.len)
       by true = tt
-      by false = stretch-fits end (option_and_then (units_of terms.scale) (field_at fields 0))
+      by false = stretch-fits end (option_and_then (units_of terms.scale) (slice_get fields 0))
           (are_whole columns fields) (told_as terms.definitions header fields)
 
     rows-follow : (columns : List Column) (number : ℕ) (rows : List (List (List ℕ))) (end : ℕ)
@@ -88,7 +87,7 @@ pub rows-are_trace : (terms : ColumnTerms) (asked : Vocabulary) (closed : Bool) 
     → IsTrace (segments_for asked (rows_recording terms closed bytes).stretches)
 rows-are_trace terms asked false bytes = record { long = tt; in_time = omega arith }
 rows-are_trace terms asked true bytes =
-    table-is_trace asked terms (records default_config (strip_bom bytes))
+    table-is_trace asked terms (records_of bytes)
 
 pub rows-start : (terms : ColumnTerms) → (rows_recording terms false []).stretches ≡ []
 rows-start terms = refl

@@ -1,10 +1,9 @@
 // The columns that the names of a pattern compare.
-ghost use Rattle.std.specs.Prelude.{◌≡◌, ◌≢◌, ◌<◌, ◌≤◌, [], length, Some, None, IfOk, IfErr, slice_index_or};
+ghost use Rattle.std.specs.Prelude.{◌≡◌, ◌≢◌, ◌<◌, [], length, Some, None, IfOk, IfErr, slice_index_or};
 ghost use Rattle.std.specs.Option.{option_map};
 ghost use Rattle.std.specs.Str.{bytes_eq};
 ghost use Rattle.csv.specs.Records.{fields_of};
 ghost use Rattle.tre_num.specs.Rows.{definition_of, place_in, compared_column, columns_of};
-ghost use Rattle.tre_state.specs.declared.names.TheConstants.{NAMES_MAX};
 ghost use Rattle.tre_trace.specs.Reading.{IsPlaced};
 ghost use Rattle.tre_trace.specs.declared.fault.TraceKind.TheVariants.{UnknownName, Spent, Memory};
 
@@ -36,7 +35,6 @@ pub(crate) fn columns_of(
 ) -> Result<Vec<Column>, TraceFault>
     ensures found { IfOk result (λ columns.
         columns_of definitions.now (fields_of header.now) names.now ≡ Some columns.items) }
-    ensures few { IfOk result (λ columns. length columns.items ≤ NAMES_MAX) }
     ensures unknown { IfErr result (λ fault. fault.kind ≢ Memory →
         (columns_of definitions.now (fields_of header.now) names.now ≡ None)
         × (fault ≡ record { place = 1; kind = UnknownName })) }
@@ -55,8 +53,8 @@ pub(crate) fn columns_of(
     Ok(columns)
 }
 
-// The column of the name of this number, if it is defined and the header has it.
-fn column_at(
+/// The column of the name of this number, if it is defined and the header has it.
+pub(crate) fn column_at(
     definitions: &[Definition],
     header: &ByteRecord,
     names: &Names,

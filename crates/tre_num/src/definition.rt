@@ -1,3 +1,4 @@
+use std::alloc::AllocError;
 use std::marker::Model;
 use tre_define::Comparison;
 
@@ -25,7 +26,7 @@ impl Model for Definition {
 }
 
 impl Definition {
-    ghost use Rattle.std.specs.Prelude.{◌≡◌, string_bytes};
+    ghost use Rattle.std.specs.Prelude.{◌≡◌, IfOk, string_bytes};
     ghost use Rattle.tre_num.specs.Defined.{Defined};
 
     /// The definition of a name: the numbers of the column, compared with the value.
@@ -43,6 +44,15 @@ impl Definition {
             comparison,
             value,
         }
+    }
+
+    /// The same once more.
+    pub fn try_clone(&self) -> Result<Definition, AllocError>
+        ensures { IfOk result (λ copy. copy ≡ self.now) }
+    {
+        let name = self.name.clone()?;
+        let column = self.column.clone()?;
+        Ok(Definition::new(name, column, self.comparison, self.value))
     }
 
     /// The name that is defined.

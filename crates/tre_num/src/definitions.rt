@@ -29,7 +29,7 @@ pub fn read_definitions(alloc: Global, text: &str) -> Result<Vec<Definition>, Le
     }
     loop {
         let (part, behind) = first_part(rest);
-        add(alloc, &mut definitions, part)?;
+        add_definition(alloc, &mut definitions, part)?;
         match behind {
             Some(behind) => rest = behind,
             None => return Ok(definitions),
@@ -37,8 +37,13 @@ pub fn read_definitions(alloc: Global, text: &str) -> Result<Vec<Definition>, Le
     }
 }
 
-// Puts the definition that a part is behind the others.
-fn add(alloc: Global, definitions: &mut Vec<Definition>, part: &[u8]) -> Result<(), LetFault>
+/// Puts the definition that a part is behind the others. One that is none, or that has the name of
+/// an earlier one, is refused with the number that it would have.
+pub fn add_definition(
+    alloc: Global,
+    definitions: &mut Vec<Definition>,
+    part: &[u8],
+) -> Result<(), LetFault>
     ensures added { OnOk result ((defined : Defined)
         × (definitions.new.items ≡ definitions.old.items ++ defined ∷ [])
         × Spells part.now defined

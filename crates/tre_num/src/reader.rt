@@ -3,14 +3,16 @@ ghost use Rattle.std.specs.Prelude.{◌≡◌, ◌≤◌, [], refl};
 ghost use Rattle.tre_decimal.specs.declared.TheConstants.{SCALE_MAX};
 ghost use Rattle.tre_num.specs.Kept.{HasKept};
 ghost use Rattle.tre_num.specs.Times.{rows-grow, rows-are_trace, rows-start};
-ghost use Rattle.tre_num.specs.Rows.{ColumnTerms, rows_recording, terms_of};
+ghost use Rattle.tre_num.specs.Needs.{terms_of};
+ghost use Rattle.tre_num.specs.Rows.{ColumnTerms, rows_recording};
 
 use crate::columns::NO_MEMORY;
-use crate::definition::Definition;
 use crate::kept_bytes::KeptBytes;
+use crate::needed::Needed;
 use crate::table::Table;
 use std::alloc::Global;
 use std::mem;
+use std::rc::Rc;
 use tre_state::Names;
 use tre_trace::{Segment, TraceFault, TraceKind, TraceReader};
 
@@ -20,11 +22,12 @@ use tre_trace::{Segment, TraceFault, TraceKind, TraceReader};
 /// Bit i of a segment's valuation says whether the comparison of the i-th name holds of the row. A
 /// duration is a decimal, in units of the scale.
 ///
-/// The place of a fault is the number of its record, from 1. `UnknownName` at 1 comes first: a name
-/// has no definition, or the header no column for one, or there is an event. Then of each row
-/// `CutShort`, where it has fewer fields than the header, `BadNumber`, `Zero` and `TooLate` of its
-/// duration, and `BadNumber` of a field that isn't a whole number where a name reads one. Fields
-/// that no name reads, and those past the header's, may be anything.
+/// All who read a table find the same first fault, whichever their names are: the names are judged
+/// that any of them reads. The place of a fault is the number of its record, from 1. `UnknownName`
+/// at 1 comes first: a name has no definition, or the header no column for one, or there is an
+/// event. Then of each row `CutShort`, where it has fewer fields than the header, `BadNumber`,
+/// `Zero` and `TooLate` of its duration, and `BadNumber` of a field that isn't a whole number where
+/// a name reads one. Fields that no name reads, and those past the header's, may be anything.
 #[derive(Drop)]
 pub struct ColumnsReader {
     alloc: Global,
@@ -38,7 +41,7 @@ impl ColumnsReader {
     /// Nothing is fed.
     pub fn new(
         alloc: Global,
-        definitions: Vec<Definition>,
+        needed: Rc<Needed>,
         names: Names,
         events: Names,
         scale: u8,
@@ -47,11 +50,11 @@ impl ColumnsReader {
         ensures fed { ⟦<ColumnsReader as TraceReader>⟧.represents result [] }
         ensures begins { ⟦<ColumnsReader as TraceReader>⟧.fed_of result ≡ 0 }
         ensures terms { ⟦<ColumnsReader as TraceReader>⟧.terms result
-            ≡ terms_of definitions.items names events scale }
+            ≡ terms_of needed.value scale }
         ensures names { ⟦<ColumnsReader as TraceReader>⟧.names result
             ≡ record { names = names; events = events } }
     {
-        let table = Table::new(definitions, names, events, scale);
+        let table = Table::new(needed, names, events, scale);
         ColumnsReader {
             alloc,
             table,
@@ -65,7 +68,7 @@ impl ColumnsReader {
 impl TraceReader for ColumnsReader {
     ghost Terms = { ColumnTerms };
 
-    ghost terms = { λ reader. reader.table };
+    ghost terms = { λ reader. reader.table.terms };
 
     ghost recording = { rows_recording };
 

@@ -1,31 +1,33 @@
 // Reading a table: a header, and rows behind it.
-ghost use Rattle.std.specs.Prelude.{◌≡◌, ◌≢◌, ◌≤◌, ℕ, List, [], length, Some, None, true, false, IfErr, IfOk, OnOk};
-ghost use Rattle.csv.specs.Reading.{default_config, records, strip_bom};
+ghost use Rattle.std.specs.Prelude.{◌≡◌, ◌≢◌, ◌≤◌, ℕ, List, [], Some, None, true, false, IfErr, IfOk, OnOk};
 ghost use Rattle.csv.specs.Records.{fields_of};
 ghost use Rattle.tre_decimal.specs.declared.TheConstants.{SCALE_MAX};
 ghost use Rattle.tre_num.specs.Left.{IsLeft, IsNextRecord};
-ghost use Rattle.tre_num.specs.Rows.{ColumnTerms, compared, rows_from, rows_recording, table_says, terms_of};
-ghost use Rattle.tre_num.specs.Told.{IsUnder};
+ghost use Rattle.tre_num.specs.Needs.{terms_of};
+ghost use Rattle.tre_num.specs.Records.{records_of};
+ghost use Rattle.tre_num.specs.Rows.{compared, rows_recording, table_says};
+ghost use Rattle.tre_num.specs.Told.{IsUnder, TableTerms, rows_under};
 ghost use Rattle.tre_parts.specs.Format.{nothing};
-ghost use Rattle.tre_state.specs.declared.names.TheConstants.{NAMES_MAX};
 ghost use Rattle.tre_trace.specs.Reading.{Adds, IsPlaced, IsRefused};
 ghost use Rattle.tre_trace.specs.declared.fault.TraceKind.TheVariants.{Memory, Spent, UnknownName};
 
-use crate::column::Column;
-use crate::columns::{NO_MEMORY, UNKNOWN, columns_of};
-use crate::definition::Definition;
+use crate::column::Layout;
+use crate::columns::{NO_MEMORY, UNKNOWN};
+use crate::layout::{all_columns, layout_of};
+use crate::needed::Needed;
 use crate::row::read_row;
 use csv::{ByteRecord, Reader, ReaderBuilder};
 use std::alloc::Global;
 use std::io::Read;
 use std::marker::Model;
+use std::rc::Rc;
 use tre_state::Names;
 use tre_trace::{Segment, TraceFault};
 
-/// What a table is read by.
+/// What a table is read by, and for which names.
 #[derive(Drop)]
 pub(crate) struct Table {
-    definitions: Vec<Definition>,
+    needed: Rc<Needed>,
     names: Names,
     events: Names,
     scale: u8,
@@ -34,22 +36,30 @@ pub(crate) struct Table {
 impl Model for Table {
     ghost use Rattle.std.specs.Prelude.{◌≤◌};
     ghost use Rattle.tre_decimal.specs.declared.TheConstants.{SCALE_MAX};
-    ghost use Rattle.tre_num.specs.Rows.{ColumnTerms, terms_of};
+    ghost use Rattle.tre_num.specs.Needs.{terms_of};
+    ghost use Rattle.tre_num.specs.Told.{TableTerms};
 
-    ghost Value = { ColumnTerms };
+    ghost Value = { TableTerms };
 
-    ghost view = { λ t. terms_of t.definitions.items t.names t.events t.scale };
+    ghost view = { λ t. record {
+      terms = terms_of t.needed.value t.scale;
+      names = record { names = t.names; events = t.events };
+    } };
 
     ghost invariant = { λ t. t.scale ≤ SCALE_MAX };
 }
 
 impl Table {
-    pub(crate) fn new(definitions: Vec<Definition>, names: Names, events: Names, scale: u8) -> Table
+    /// A table of which these names are read, among all who share what is needed.
+    pub(crate) fn new(needed: Rc<Needed>, names: Names, events: Names, scale: u8) -> Table
         requires { scale ≤ SCALE_MAX }
-        ensures { result ≡ terms_of definitions.items names events scale }
+        ensures { result ≡ record {
+          terms = terms_of needed.value scale;
+          names = record { names = names; events = events };
+        } }
     {
         Table {
-            definitions,
+            needed,
             names,
             events,
             scale,
@@ -64,13 +74,13 @@ impl Table {
         segments: &mut Vec<Segment>,
     ) -> Result<(), TraceFault>
         ensures whole { (bytes : List ℕ) → R.remaining source ≡ Some bytes →
-            OnOk result ((rows_recording self.now true bytes).fault ≡ None) }
+            OnOk result ((rows_recording self.now.terms true bytes).fault ≡ None) }
         ensures adds { (bytes : List ℕ) → R.remaining source ≡ Some bytes →
             OnOk result (Adds self.now.names segments.old.items segments.new.items nothing
-            (rows_recording self.now true bytes)) }
+            (rows_recording self.now.terms true bytes)) }
         ensures refused { (bytes : List ℕ) → R.remaining source ≡ Some bytes →
             IfErr result (IsRefused self.now.names segments.old.items segments.new.items
-            nothing (rows_recording self.now true bytes)) }
+            nothing (rows_recording self.now.terms true bytes)) }
         ensures placed { IfErr result IsPlaced }
         ensures never_spent { IfErr result (λ fault. fault.kind ≢ Spent) }
     {
@@ -88,47 +98,52 @@ impl Table {
         segments: &mut Vec<Segment>,
     ) -> Result<(), TraceFault>
         ensures whole { (left : List (List (List ℕ))) → IsLeft R.remaining rows.old left →
-            OnOk result ((table_says self.now left).fault ≡ None) }
+            OnOk result ((table_says self.now.terms left).fault ≡ None) }
         ensures adds { (left : List (List (List ℕ))) → IsLeft R.remaining rows.old left →
             OnOk result (Adds self.now.names segments.old.items segments.new.items nothing
-            (table_says self.now left)) }
+            (table_says self.now.terms left)) }
         ensures refused { (left : List (List (List ℕ))) → IsLeft R.remaining rows.old left →
             IfErr result (IsRefused self.now.names segments.old.items segments.new.items
-            nothing (table_says self.now left)) }
+            nothing (table_says self.now.terms left)) }
         ensures placed { IfErr result IsPlaced }
         ensures never_spent { IfErr result (λ fault. fault.kind ≢ Spent) }
     {
         let found = next_row(rows, row)?;
-        let columns = self.columns_under(alloc, row)?;
+        let layout = self.layout_under(alloc, row)?;
         if !found {
             return Ok(());
         }
-        let width = row.len();
-        read_behind(rows, row, &columns, width, self.scale, segments)
+        read_behind(rows, row, &layout, segments)
     }
 
-    // The columns of all names under this header.
-    fn columns_under(&self, alloc: Global, header: &ByteRecord) -> Result<Vec<Column>, TraceFault>
-        ensures found { IfOk result (λ columns.
-            compared self.now (fields_of header.now) ≡ Some columns.items) }
-        ensures few { IfOk result (λ columns. length columns.items ≤ NAMES_MAX) }
+    // How rows are read under this header.
+    fn layout_under(&self, alloc: Global, header: &ByteRecord) -> Result<Layout, TraceFault>
+        ensures under { IfOk result (IsUnder self.now (fields_of header.now)) }
         ensures unknown { IfErr result (λ fault. fault.kind ≢ Memory →
-            (compared self.now (fields_of header.now) ≡ None)
+            (compared self.now.terms (fields_of header.now) ≡ None)
             × (fault ≡ record { place = 1; kind = UnknownName })) }
         ensures placed { IfErr result IsPlaced }
         ensures never_spent { IfErr result (λ fault. fault.kind ≢ Spent) }
     {
-        if !self.events.is_empty() {
+        if self.needed.has_events() {
             return Err(UNKNOWN);
         }
-        columns_of(alloc, &self.definitions, header, &self.names)
+        let all = all_columns(alloc, &self.needed, header)?;
+        layout_of(
+            alloc,
+            &self.needed.definitions,
+            header,
+            &self.names,
+            all,
+            self.scale,
+        )
     }
 }
 
 // The records of a source: no header among them, and of any lengths.
 fn records_of<R: Read + Drop>(alloc: Global, source: R) -> Reader<R>
     ensures { (bytes : List ℕ) → R.remaining source ≡ Some bytes →
-        IsLeft R.remaining result (records default_config (strip_bom bytes)) }
+        IsLeft R.remaining result (records_of bytes) }
 {
     ReaderBuilder::new()
         .has_headers(false)
@@ -153,28 +168,24 @@ fn next_row<R: Read + Drop>(rows: &mut Reader<R>, row: &mut ByteRecord) -> Resul
     Ok(false)
 }
 
-// Reads the rows behind a header of `width` fields, and puts their segments behind the others.
+// Reads the rows behind a header, and puts their segments behind the others.
 fn read_behind<R: Read + Drop>(
     rows: &mut Reader<R>,
     row: &mut ByteRecord,
-    columns: &[Column],
-    width: usize,
-    scale: u8,
+    layout: &Layout,
     segments: &mut Vec<Segment>,
 ) -> Result<(), TraceFault>
-    requires few { length columns.now ≤ NAMES_MAX }
-    requires scale { scale ≤ SCALE_MAX }
-    ensures whole { (terms : ColumnTerms) (header : List (List ℕ)) (left : List (List (List ℕ))) →
-        IsUnder terms header columns.now width scale → IsLeft R.remaining rows.old left →
-        OnOk result ((rows_from terms header columns.now 2 left 0).fault ≡ None) }
-    ensures adds { (terms : ColumnTerms) (header : List (List ℕ)) (left : List (List (List ℕ))) →
-        IsUnder terms header columns.now width scale → IsLeft R.remaining rows.old left →
-        OnOk result (Adds terms.names segments.old.items segments.new.items nothing
-        (rows_from terms header columns.now 2 left 0)) }
-    ensures refused { (terms : ColumnTerms) (header : List (List ℕ)) (left : List (List (List ℕ))) →
-        IsUnder terms header columns.now width scale → IsLeft R.remaining rows.old left →
-        IfErr result (IsRefused terms.names segments.old.items segments.new.items nothing
-        (rows_from terms header columns.now 2 left 0)) }
+    ensures whole { (by : TableTerms) (header : List (List ℕ)) (left : List (List (List ℕ))) →
+        IsUnder by header layout.now → IsLeft R.remaining rows.old left →
+        OnOk result ((rows_under by header layout.now left).fault ≡ None) }
+    ensures adds { (by : TableTerms) (header : List (List ℕ)) (left : List (List (List ℕ))) →
+        IsUnder by header layout.now → IsLeft R.remaining rows.old left →
+        OnOk result (Adds by.names segments.old.items segments.new.items nothing
+        (rows_under by header layout.now left)) }
+    ensures refused { (by : TableTerms) (header : List (List ℕ)) (left : List (List (List ℕ))) →
+        IsUnder by header layout.now → IsLeft R.remaining rows.old left →
+        IfErr result (IsRefused by.names segments.old.items segments.new.items nothing
+        (rows_under by header layout.now left)) }
     ensures placed { IfErr result IsPlaced }
     ensures never_spent { IfErr result (λ fault. fault.kind ≢ Spent) }
 {
@@ -186,7 +197,7 @@ fn read_behind<R: Read + Drop>(
         if !found {
             return Ok(());
         }
-        let segment = match read_row(columns, width, scale, end, row) {
+        let segment = match read_row(layout, end, row) {
             Ok(segment) => segment,
             Err(kind) => {
                 let place = (segments.len() - before) as u64 + 2;

@@ -29,7 +29,7 @@ use Rattle.tre_feed.specs.declared.fault.Fault.{Fault}
 use Rattle.tre_feed.specs.declared.fault.Fault.TheVariants.{Trace, TooLong, TooManyZones, Read, Write, Memory}
 use Rattle.tre_online.specs.Watch.{Watches}
 use Rattle.tre_words.specs.declared.job.Mode.{Mode}
-use Rattle.tre_words.specs.declared.job.Mode.TheVariants.{Offline, Online, Show, Generate, Watch as WatchMode}
+use Rattle.tre_words.specs.declared.job.Mode.TheVariants.{Offline, Online, Show, Generate, Watch as WatchMode, Check}
 use Rattle.tre_tell.proofs.Stretches.{blocks_for-rows, ending_for-rows, pushed_for, quiet_rows}
 
 -- the bytes of an open input
@@ -87,6 +87,7 @@ told_reads Online comes = tt
 told_reads Show comes = absurd (cc)
 told_reads (Generate count) comes = absurd (cc)
 told_reads (WatchMode file) comes = tt
+told_reads (Check file) comes = absurd (cc)
 
 -- what bytes come to, in the words of a request
 outcome_as : (request : Request) (bytes : List ℕ)

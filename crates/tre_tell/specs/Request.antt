@@ -5,19 +5,27 @@ use Rattle.tre_feed.specs.Traces.{trace_for}
 use Rattle.tre_syntax.specs.declared.pattern.Pattern.{Pattern}
 use Rattle.tre_trace.specs.Reading.{Recording}
 use Rattle.tre_trace.specs.Trace.{Timeline, IsTrace}
+use Rattle.tre_watch.specs.declared.form.Form.{Form}
 use Rattle.tre_words.specs.declared.job.Job.{Job}
 use Rattle.tre_tell.specs.Sought.{Sought, sought_by}
 
--- A job, its patterns, and what bytes say for it, closed or not yet.
+-- A job, the forms of its checks, if it has some, its patterns, and what bytes say for it, closed
+-- or not yet. The patterns of all checks stand behind one another.
 pub record Request : Type 0 where
   pub job : Job
+  pub forms : List Form
   pub patterns : List Sought
   pub recording : Bool → List ℕ → Recording
 
 -- what is asked where patterns have these labels, and bytes say this
-abbrev pub request_by : Job → List (List ℕ) → List Pattern → (Bool → List ℕ → Recording) → Request
-request_by job labels patterns recording =
-    record { job = job; patterns = sought_by labels patterns; recording = recording }
+abbrev pub request_by : Job → List Form → List (List ℕ) → List Pattern →
+    (Bool → List ℕ → Recording) → Request
+request_by job forms labels patterns recording = record {
+  job = job;
+  forms = forms;
+  patterns = sought_by labels patterns;
+  recording = recording;
+}
 
 -- What all bytes say: those past the limit aren't judged, and keep the input from closing.
 abbrev pub whole_recording : Request → List ℕ → Recording

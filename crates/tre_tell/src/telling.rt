@@ -1,5 +1,5 @@
 // An input that is told as it comes: a block for each stretch, and what its end completes.
-ghost use Rattle.std.specs.Prelude.{◌≡◌, ◌≤◌, ◌<◌, ◌+◌, ◌++◌, ℕ, List, Option, IsTrue, IfOk, IfErr, IfSome, false, true, length, map, string_bytes};
+ghost use Rattle.std.specs.Prelude.{◌≡◌, ◌≤◌, ◌<◌, ◌+◌, ◌++◌, ℕ, List, Option, [], IsTrue, IfOk, IfErr, IfSome, false, true, length, map, string_bytes};
 ghost use Rattle.tre_decimal.specs.declared.TheConstants.{SCALE_MAX};
 ghost use Rattle.tre_feed.specs.Input.{input_told, TakesAtMost};
 ghost use Rattle.tre_feed.specs.Standing.{Asks, IsNew, Wait, limit_of, recording_of};
@@ -92,7 +92,7 @@ pub fn tell_matches<S: Source, R: TraceReader + Drop, O: Sink>(
     requires limit { limit_of input.old ≡ job.now.max_bytes }
     requires asks { Asks R.names input.old (map names_of patterns.now) }
     requires new { IsNew R.terms R.represents R.names input.old }
-    ensures ends { EndsTelling (request_by job.now (map string_bytes labels.now) patterns.now
+    ensures ends { EndsTelling (request_by job.now [] (map string_bytes labels.now) patterns.now
         (recording_of R.recording R.terms input.old))
         (input_told (S.told source.old) (S.told source.new))
         (output_told (O.told out.old) (O.told out.new)) result }

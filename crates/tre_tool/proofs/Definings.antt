@@ -12,14 +12,13 @@ use Rattle.tre_words.specs.declared.job.Format.{Format}
 use Rattle.tre_words.specs.declared.job.Format.TheVariants.{Text as TextFormat, Vcd, Csv}
 use Rattle.tre_words.specs.declared.job.Job.{Job}
 use Rattle.tre_words.specs.declared.job.Mode.{Mode}
-use Rattle.tre_words.specs.declared.job.Mode.TheVariants.{Offline, Online, Show, Generate, Watch}
-use Rattle.tre_tool.specs.Checks.{SayPatterns}
+use Rattle.tre_words.specs.declared.job.Mode.TheVariants.{Offline, Online, Show, Generate, Watch, Check}
+use Rattle.tre_tool.specs.Checks.{SayPatterns, Saying}
 use Rattle.tre_tool.specs.Parts.{RefusesDefinitions}
-use Rattle.tre_tool.specs.Request.{AreDefinedIn, AreDefinitions, AreRefusedIn, IsRefusalOf, IsRefusalOfWatch, Spell, text_read, texts_with}
+use Rattle.tre_tool.specs.Request.{AreDefinedIn, AreDefinitions, AreRefusedIn, IsRefusalOf, IsRefusalOfWatch, IsRefusalOfChecks, Spell, text_read, texts_with}
 use Rattle.tre_tool.specs.Status.{let_status}
 use Rattle.tre_tool.specs.declared.status.Status.{Status}
 use Rattle.tre_tool.specs.declared.status.Status.TheVariants.{Memory}
-use Rattle.tre_watch.specs.Outcome.{Outcome}
 
 -- it is one list
 pub defined_in_once : (format : Format) (parts : List (List ℕ)) (lets lets' : List Defined)
@@ -55,6 +54,7 @@ pub text_read-others : (mode : Mode) (text : Option (List ℕ)) → (mode ≡ Sh
 text_read-others Offline text shown made = refl
 text_read-others Online text shown made = refl
 text_read-others (Watch file) text shown made = refl
+text_read-others (Check file) text shown made = refl
 text_read-others Show text shown made = absurd (shown refl)
 text_read-others (Generate count) text shown made = absurd (made count refl)
 
@@ -78,16 +78,12 @@ pub RefusesDefinitions-text : (job : Job) (text : List ℕ) (fault : LetFault)
 RefusesDefinitions-text job text (BadLet at) given refuses never = record {
   fault = BadLet at;
   is = refl;
-  text = text;
-  given = given;
-  refuses = refuses (λ e. cc);
+  refused = record { text = text; given = given; refuses = refuses (λ e. cc) };
 }
 RefusesDefinitions-text job text (Twice at) given refuses never = record {
   fault = Twice at;
   is = refl;
-  text = text;
-  given = given;
-  refuses = refuses (λ e. cc);
+  refused = record { text = text; given = given; refuses = refuses (λ e. cc) };
 }
 RefusesDefinitions-text job text LetMemory given refuses never = absurd (never refl)
 
@@ -97,18 +93,18 @@ pub IsRefusalOf-definitions : (job : Job) (status : Status) (patterns : List Sou
 IsRefusalOf-definitions job status patterns told spelt = rw told.is (record {
   patterns = patterns;
   sought = spelt;
-  text = told.text;
-  given = told.given;
-  refuses = told.refuses;
+  refused = told.refused;
 })
 
-pub IsRefusalOfWatch-definitions : (Says : ℕ → Outcome → Type 0) (job : Job) (status : Status)
+pub IsRefusalOfWatch-definitions : (Says : Saying) (job : Job) (status : Status)
     (patterns : List Sought) → RefusesDefinitions job status
     → SayPatterns Says job.scale patterns → IsRefusalOfWatch Says job status
 IsRefusalOfWatch-definitions Says job status patterns told said = rw told.is (record {
   patterns = patterns;
   sought = said;
-  text = told.text;
-  given = told.given;
-  refuses = told.refuses;
+  refused = told.refused;
 })
+
+pub IsRefusalOfChecks-definitions : (Says : Saying) (job : Job) (status : Status)
+    → RefusesDefinitions job status → IsRefusalOfChecks Says job status
+IsRefusalOfChecks-definitions Says job status told = rw told.is told.refused

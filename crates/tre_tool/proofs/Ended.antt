@@ -1,6 +1,6 @@
 -- How a run ended: the words ask for nothing, the file of checks couldn't be read, memory was
 -- wanting, or what they ask for was answered.
-use Rattle.std.proofs.Common.{◌≡◌, ◌≢◌, Result, Ok, Err, refl, inl, inr}
+use Rattle.std.proofs.Common.{◌≡◌, ◌≢◌, ℕ, zero, suc, ◌<◌, Result, Ok, Err, refl, inl, inr, arith}
 use Rattle.tre_answer.specs.Ends.{EndsOver}
 use Rattle.tre_feed.specs.declared.fault.Fault.{Fault}
 use Rattle.tre_feed.specs.declared.fault.Fault.TheVariants.{Trace as FaultTrace, TooLong as FaultTooLong, TooManyZones as FaultTooMany, Read as FaultRead, Write as FaultWrite}
@@ -8,20 +8,25 @@ use Rattle.tre_feed.specs.Input.{InputTold}
 use Rattle.tre_tell.specs.Outputs.{OutputTold}
 use Rattle.tre_words.specs.declared.job.Job.{Job}
 use Rattle.tre_tool.specs.Checks.{ChecksWereRead}
+use Rattle.tre_tool.specs.Parts.{done_status}
 use Rattle.tre_tool.specs.Request.{JobIsRefused, GiveNone}
 use Rattle.tre_tool.specs.Run.{EndsUnread, EndsMemory, AsksAs, EndsAs}
 use Rattle.tre_tool.specs.Status.{fault_status}
 use Rattle.tre_tool.specs.declared.status.Status.{Status}
-use Rattle.tre_tool.specs.declared.status.Status.TheVariants.{Done, Usage, Expression, Minus, Definitions, Watch, Trace, InputTooLong, TooManyZones, ReadFault, WriteFault, Memory}
+use Rattle.tre_tool.specs.declared.status.Status.TheVariants.{Done, Usage, Expression, Minus, Definitions, Watch, Trace, InputTooLong, TooManyZones, ReadFault, WriteFault, Failed, Memory}
 
--- An answer, or what ended it.
+-- An answer, by how many checks fail, or what ended it.
 abbrev pub Answer : Type 0
-Answer = Result (Unit {0}) Fault
+Answer = Result ℕ Fault
 
 -- how a run ends that was answered so
 abbrev pub answered_status : Answer → Status
-answered_status (Ok value) = Done
+answered_status (Ok failed) = done_status failed
 answered_status (Err fault) = fault_status fault
+
+some_failed : (failed : ℕ) → 0 < failed → Failed failed ≡ done_status failed
+some_failed zero some = absurd (omega (arith, some))
+some_failed (suc more) some = refl
 
 module _ (Gives : Job → Type 0) (checks input : InputTold) (output : OutputTold) where
   pub data Ended (status : Status) : Type 0 where
@@ -43,7 +48,8 @@ module _ (Gives : Job → Type 0) (checks input : InputTold) (output : OutputTol
       (ends.request.job, ends.asks.gives)
 
   pub ended_of : (status : Status) → EndsAs Gives checks input output status → Ended status
-  ended_of Done ends = by_answer (Ok tt) refl ends
+  ended_of Done ends = by_answer (Ok 0) refl ends
+  ended_of (Failed failed) ends = by_answer (Ok failed) (some_failed failed ends.0) ends.1
   ended_of Usage ends = by_usage refl ends.0
   ended_of (Expression fault) ends = by_refusal ends.0
   ended_of (Minus fault) ends = by_refusal ends.0

@@ -1,8 +1,8 @@
 -- What words of a made run give, and how such a run ends.
-use Rattle.std.proofs.Common.{◌≡◌, ◌∙◌, ℕ, Bool, true, false, List, [], All, Some, Ok, Err, ap, sym, subst, ⊎_elim, arith}
+use Rattle.std.proofs.Common.{◌≡◌, ◌∙◌, ℕ, Bool, true, false, List, [], All, None, Some, Ok, Err, ap, sym, subst, ◌⊎◌, inl, inr, ⊎_elim, arith}
 use Rattle.std.specs.Prelude.{IsTrue, MatchBool, option_map}
 use Rattle.std.proofs.lemmas.Bool.Decides.{when_true}
-use Rattle.tre_answer.specs.Ends.{IsAnswerIn, EndsOver}
+use Rattle.tre_answer.specs.Ends.{IsAnswerIn, EndsOver, has_checks}
 use Rattle.tre_feed.specs.declared.fault.Fault.TheVariants.{Trace as FaultTrace, TooLong as FaultTooLong, TooManyZones as FaultTooMany, Read as FaultRead, Write as FaultWrite, Memory as FaultMemory}
 use Rattle.tre_feed.specs.Input.{InputTold}
 use Rattle.tre_generate.specs.FixedPattern.{fixed_tree, fixed_vocabulary}
@@ -11,13 +11,12 @@ use Rattle.tre_tell.specs.Ends.{ReadsInput, as_it_comes, StandsAtMemory}
 use Rattle.tre_tell.specs.Online.{BlocksStand}
 use Rattle.tre_tell.specs.Outputs.{OutputTold, NothingWritten}
 use Rattle.tre_tell.specs.Request.{Request}
-use Rattle.tre_watch.specs.Outcome.{Outcome}
-use Rattle.tre_words.specs.Job.{GivesJob, made_count, made_job}
+use Rattle.tre_words.specs.Job.{GivesJob, file_of, is_whole, made_count, made_job}
 use Rattle.tre_words.specs.declared.job.Job.{Job}
 use Rattle.tre_words.specs.declared.job.Mode.{Mode}
-use Rattle.tre_words.specs.declared.job.Mode.TheVariants.{Offline, Generate, Watch as WatchMode}
-use Rattle.tre_tool.specs.Checks.{ChecksWereRead}
-use Rattle.tre_tool.specs.Request.{alone, ArePatterns, IsRefusalIn, AsksFor, JobIsRefused}
+use Rattle.tre_words.specs.declared.job.Mode.TheVariants.{Generate}
+use Rattle.tre_tool.specs.Checks.{ChecksWereRead, Saying}
+use Rattle.tre_tool.specs.Request.{IsAsked, IsRefusalIn, AsksFor, JobIsRefused}
 use Rattle.tre_tool.specs.MadeRun.{AsksForMadeRun, EndsMadeRun}
 use Rattle.tre_tool.specs.Run.{EndsAs}
 use Rattle.tre_tool.specs.declared.status.Status.{Status}
@@ -45,19 +44,18 @@ module _ (words : List (List ℕ)) (count : ℕ) (asks : AsksForMadeRun words co
   mode_given : (job : Job) → GivesJob words job → job.mode ≡ Generate count
   mode_given job gives = ap (λ (j : Job). j.mode) (job_given job gives)
 
-  module _ (Says : ℕ → Outcome → Type 0) where
+  module _ (Says : Saying) where
     summary_asked : (request : Request) (input : InputTold) (front text : List ℕ)
         → AsksFor (GivesJob words) Says request
-        → IsAnswerIn request.job.mode request input front text
+        → (failed : ℕ) → IsAnswerIn request.job.mode failed request input front text
         → IsSummary fixed_tree count text
-    summary_asked request input front text asked right =
-        let here : IsAnswerIn (Generate count) request input front text =
-        subst (λ (mode : Mode). IsAnswerIn mode request input front text)
+    summary_asked request input front text asked failed right =
+        let here : IsAnswerIn (Generate count) failed request input front text =
+        subst (λ (mode : Mode). IsAnswerIn mode failed request input front text)
         (mode_given request.job asked.gives) right in
-        let one : request.patterns ≡ alone fixed_tree fixed_vocabulary =
-        subst (λ (mode : Mode). ArePatterns mode Says request.job request.patterns)
-        (mode_given request.job asked.gives) asked.patterns in
-        let all = subst (All (λ pattern. IsSummary pattern.tree count text)) one here in
+        let one = subst (λ (mode : Mode). IsAsked mode Says request.job request.patterns
+        request.forms asked.lets asked.signals) (mode_given request.job asked.gives) asked.asks in
+        let all = subst (All (λ pattern. IsSummary pattern.tree count text)) one.are here in
         all 0 (record { label = []; tree = fixed_tree; names = fixed_vocabulary })
         (omega arith)
 
@@ -70,6 +68,14 @@ module _ (words : List (List ℕ)) (count : ℕ) (asks : AsksForMadeRun words co
         → ReadsInput request.job.mode → ⊥
     reads_nothing request asked reads =
         subst ReadsInput (mode_given request.job asked.gives) reads
+
+    none_failed : (request : Request) (failed : ℕ) → AsksFor (GivesJob words) Says request
+        → (has_checks request.job.mode ≡ true) ⊎ (failed ≡ 0) → failed ≡ 0
+    none_failed request failed asked (inr none) = none
+    none_failed request failed asked (inl checks) =
+        let never : false ≡ true =
+        sym (ap has_checks (mode_given request.job asked.gives)) ∙ checks in
+        absurd cc
 
     stands_nothing : (request : Request) (input : InputTold) (output : OutputTold)
         → AsksFor (GivesJob words) Says request → StandsAtMemory request input output
@@ -84,26 +90,28 @@ module _ (words : List (List ℕ)) (count : ℕ) (asks : AsksForMadeRun words co
         (answer : Answer) → AsksFor (GivesJob words) Says request
         → EndsOver request input output answer
         → EndsMadeRun count output (answered_status answer)
-    answered_made request input output (Ok value) asked done = record {
-      text = done.text;
-      right = summary_asked request input done.front done.text asked done.right;
-      writes = done.written.writes;
-      written = done.written.written;
-    }
+    answered_made request input output (Ok failed) asked done =
+        rw (none_failed request failed asked done.unchecked) (record {
+          text = done.text;
+          right = summary_asked request input done.front done.text asked failed done.right;
+          writes = done.written.writes;
+          written = done.written.written;
+        })
     answered_made request input output (Err (FaultTrace fault)) asked found =
         reads_nothing request asked found.1.reads_input
     answered_made request input output (Err FaultTooLong) asked found =
         reads_nothing request asked found.reads_input
     answered_made request input output (Err (FaultTooMany zones)) asked many =
-        let modes : Generate count ≡ Offline =
-        sym (mode_given request.job asked.gives) ∙ many.offline in
+        let whole : false ≡ true =
+        sym (ap is_whole (mode_given request.job asked.gives)) ∙ many.whole in
         cc
     answered_made request input output (Err FaultRead) asked found =
         reads_nothing request asked found.reads_input
     answered_made request input output (Err FaultWrite) asked found =
         record {
           text = found.text;
-          right = ⊎_elim (summary_asked request input found.front found.text asked)
+          right = ⊎_elim
+              (summary_asked request input found.front found.text asked found.failed)
               (λ block. written_once (as_it_comes request.job.mode)
               (ap as_it_comes (mode_given request.job asked.gives)) block.0) found.right;
           cause = found.cut.cause;
@@ -123,8 +131,8 @@ module _ (words : List (List ℕ)) (count : ℕ) (asks : AsksForMadeRun words co
     made_by status (by_refusal ends) =
         absurd (never_refused (ChecksWereRead checks) status ends)
     made_by status (by_unread is ends) =
-        let modes : Generate count ≡ WatchMode ends.file =
-        sym (mode_given ends.job ends.gives) ∙ ends.watches in
+        let none : None ≡ Some ends.file =
+        sym (ap file_of (mode_given ends.job ends.gives)) ∙ ends.named in
         absurd (cc)
     made_by status (by_memory is ends) =
         rw is (⊎_elim (λ none. none.unwritten)

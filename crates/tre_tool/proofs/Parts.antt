@@ -1,5 +1,5 @@
 -- The end of a run by the parts that it is made of.
-use Rattle.std.proofs.Common.{◌≡◌, ◌≢◌, List, ℕ, ◌≤◌, length, arith, Option, None, Some, IfSome, Result, Ok, Err, OnOk, OnErr, refl, sym, subst, inl, inr}
+use Rattle.std.proofs.Common.{◌≡◌, ◌≢◌, List, ℕ, zero, suc, ◌≤◌, ◌<◌, length, arith, Option, None, Some, IfSome, Result, Ok, Err, OnOk, OnErr, refl, sym, subst, inl, inr}
 use Rattle.std.specs.Io.KnownBytes.{Appends, Consumes}
 use Rattle.tre_answer.specs.Ends.{EndsOver, EndsDone}
 use Rattle.tre_answer.specs.Request.{request_for, sought_in}
@@ -15,20 +15,20 @@ use Rattle.tre_io.specs.declared.faults.Failed.{Failed}
 use Rattle.tre_tell.specs.Ends.{ReadsInput}
 use Rattle.tre_tell.specs.Outputs.{OutputTold}
 use Rattle.tre_tell.specs.Request.{Request}
-use Rattle.tre_watch.specs.Outcome.{Outcome}
-use Rattle.tre_words.specs.Job.{GivesJob}
+use Rattle.tre_words.specs.Job.{GivesJob, file_of}
 use Rattle.tre_words.specs.declared.job.Job.{Job}
 use Rattle.tre_words.specs.declared.job.Mode.{Mode}
-use Rattle.tre_words.specs.declared.job.Mode.TheVariants.{Offline, Online, Show, Generate, Watch as WatchMode}
+use Rattle.tre_words.specs.declared.job.Mode.TheVariants.{Offline, Online, Show, Generate, Watch as WatchMode, Check}
 use Rattle.tre_words.specs.declared.job.WordsFault.{WordsFault}
 use Rattle.tre_words.specs.declared.job.WordsFault.TheVariants.{Usage as WordsUsage, Memory as WordsMemory}
 use Rattle.tre_words.proofs.Jobs.{job_unique}
-use Rattle.tre_tool.specs.Checks.{ChecksWereRead}
-use Rattle.tre_tool.specs.Request.{ArePatterns, AreDefinitions, IsRefusalOf, IsRefusalOfWatch, IsRefusalIn, AsksFor, JobIsRefused, GiveNone}
+use Rattle.tre_tool.specs.Checks.{ChecksWereRead, Saying}
+use Rattle.tre_tool.specs.Parts.{done_status}
+use Rattle.tre_tool.specs.Request.{IsAsked, IsRefusalOf, IsRefusalOfWatch, IsRefusalOfChecks, IsRefusalIn, AsksFor, JobIsRefused, GiveNone}
 use Rattle.tre_tool.specs.Run.{ReadsChecks, ComesFirst, NothingDone, EndsAs, IsLineTold}
 use Rattle.tre_tool.specs.Status.{words_status, fault_status}
 use Rattle.tre_tool.specs.declared.status.Status.{Status}
-use Rattle.tre_tool.specs.declared.status.Status.TheVariants.{Done, Usage, Expression, Minus, Definitions, Watch, Trace, InputTooLong, TooManyZones, ReadFault, WriteFault, Memory}
+use Rattle.tre_tool.specs.declared.status.Status.TheVariants.{Done, Usage, Expression, Minus, Definitions, Watch, Trace, InputTooLong, TooManyZones, ReadFault, WriteFault, Failed as ChecksFail, Memory}
 
 -- ---- words
 
@@ -42,35 +42,35 @@ EndsAs-words Gives checks input output WordsMemory none good nothing =
     record { checks_read = good; reads = nothing.reads; stands = inl nothing }
 
 -- what they ask for, from what is found of a job
-pub AsksFor-of : (Gives : Job → Type 0) (Says : ℕ → Outcome → Type 0) (job : Job)
-    (meanings : Meanings) (asked : Asked) → Gives job
-    → ArePatterns job.mode Says job (sought_in asked)
-    → AreDefinitions job meanings.columns.items meanings.signals.items
+pub AsksFor-of : (Gives : Job → Type 0) (Says : Saying) (job : Job) (meanings : Meanings)
+    (asked : Asked) → Gives job
+    → IsAsked job.mode Says job (sought_in asked) asked.forms.items meanings.columns.items
+    meanings.signals.items
     → AsksFor Gives Says (request_for job meanings asked)
-AsksFor-of Gives Says job meanings asked gives patterns definitions = record {
+AsksFor-of Gives Says job meanings asked gives asks = record {
   gives = gives;
-  patterns = patterns;
   lets = meanings.columns.items;
   signals = meanings.signals.items;
-  definitions = definitions;
+  asks = asks;
   recorded = refl;
 }
 
 -- ---- before the input is looked at
 
 -- a status that is no refusal
-never_refused : (Says : ℕ → Outcome → Type 0) (mode : Mode) (job : Job) (status : Status)
+never_refused : (Says : Saying) (mode : Mode) (job : Job) (status : Status)
     → (IsRefusalOf job status → ⊥) → (IsRefusalOfWatch Says job status → ⊥)
-    → IsRefusalIn mode Says job status → ⊥
-never_refused Says Offline job status text file is = text is
-never_refused Says Online job status text file is = text is
-never_refused Says Show job status text file is = text is
-never_refused Says (Generate count) job status text file is = is
-never_refused Says (WatchMode name) job status text file is = file is
+    → (IsRefusalOfChecks Says job status → ⊥) → IsRefusalIn mode Says job status → ⊥
+never_refused Says Offline job status text file checks is = text is
+never_refused Says Online job status text file checks is = text is
+never_refused Says Show job status text file checks is = text is
+never_refused Says (Generate count) job status text file checks is = is
+never_refused Says (WatchMode name) job status text file checks is = file is
+never_refused Says (Check name) job status text file checks is = checks is
 
 -- The file of checks that the job names couldn't be read.
 abbrev pub IsUnreadIn : Job → InputTold → Type 0
-IsUnreadIn job checks = (file : List ℕ) × (job.mode ≡ WatchMode file) × IsUnreadable file checks
+IsUnreadIn job checks = (file : List ℕ) × (file_of job.mode ≡ Some file) × IsUnreadable file checks
 
 module _ (Gives : Job → Type 0) (checks input : InputTold) (output : OutputTold) (job : Job)
     (gives : Gives job) (nothing : NothingDone input output) where
@@ -93,7 +93,7 @@ module _ (Gives : Job → Type 0) (checks input : InputTold) (output : OutputTol
         job = job;
         gives = gives;
         file = is.0;
-        watches = is.1;
+        named = is.1;
         unread = is.2;
         nothing = nothing;
       })
@@ -107,22 +107,25 @@ module _ (Gives : Job → Type 0) (checks input : InputTold) (output : OutputTol
       refused_by (Watch fault) (refuses (λ e. cc) (λ e. cc))
   EndsAs-stopped Done refuses unread good = absurd
       (never_refused (ChecksWereRead checks) job.mode job Done (λ is. is) (λ is. is)
-      (refuses (λ e. cc) (λ e. cc)))
+      (λ is. is) (refuses (λ e. cc) (λ e. cc)))
   EndsAs-stopped Usage refuses unread good = absurd
       (never_refused (ChecksWereRead checks) job.mode job Usage (λ is. is) (λ is. is)
-      (refuses (λ e. cc) (λ e. cc)))
+      (λ is. is) (refuses (λ e. cc) (λ e. cc)))
   EndsAs-stopped (Trace fault) refuses unread good = absurd
       (never_refused (ChecksWereRead checks) job.mode job (Trace fault) (λ is. is) (λ is. is)
-      (refuses (λ e. cc) (λ e. cc)))
+      (λ is. is) (refuses (λ e. cc) (λ e. cc)))
   EndsAs-stopped InputTooLong refuses unread good = absurd
       (never_refused (ChecksWereRead checks) job.mode job InputTooLong (λ is. is) (λ is. is)
-      (refuses (λ e. cc) (λ e. cc)))
+      (λ is. is) (refuses (λ e. cc) (λ e. cc)))
   EndsAs-stopped (TooManyZones zones) refuses unread good = absurd
       (never_refused (ChecksWereRead checks) job.mode job (TooManyZones zones) (λ is. is)
-      (λ is. is) (refuses (λ e. cc) (λ e. cc)))
+      (λ is. is) (λ is. is) (refuses (λ e. cc) (λ e. cc)))
+  EndsAs-stopped (ChecksFail failed) refuses unread good = absurd
+      (never_refused (ChecksWereRead checks) job.mode job (ChecksFail failed) (λ is. is)
+      (λ is. is) (λ is. is) (refuses (λ e. cc) (λ e. cc)))
   EndsAs-stopped WriteFault refuses unread good = absurd
       (never_refused (ChecksWereRead checks) job.mode job WriteFault (λ is. is) (λ is. is)
-      (refuses (λ e. cc) (λ e. cc)))
+      (λ is. is) (refuses (λ e. cc) (λ e. cc)))
 
 -- ---- the answer
 
@@ -130,7 +133,7 @@ module _ (Gives : Job → Type 0) (checks input : InputTold) (output : OutputTol
 pub EndsAs-answered : (Gives : Job → Type 0) (checks input : InputTold)
     (output : OutputTold) (request : Request) (fault : Fault)
     → AsksFor Gives (ChecksWereRead checks) request → AllReadsGood checks
-    → EndsOver {T = Unit {0}} request input output (Err fault)
+    → EndsOver request input output (Err fault)
     → EndsAs Gives checks input output (fault_status fault)
 EndsAs-answered Gives checks input output request (FaultTrace fault) asks good over = (
   over.0,
@@ -150,12 +153,25 @@ EndsAs-answered Gives checks input output request FaultMemory asks good over = r
   stands = inr (record { request = request; asks = asks; is_so = over.1 });
 }
 
+some_behind : (n : ℕ) → 0 < suc n
+some_behind n = omega (arith)
+
 -- it was written
 pub EndsAs-done : (Gives : Job → Type 0) (checks input : InputTold) (output : OutputTold)
-    (request : Request) → AsksFor Gives (ChecksWereRead checks) request
-    → EndsDone request input output → EndsAs Gives checks input output Done
-EndsAs-done Gives checks input output request asks done =
+    (request : Request) (failed : ℕ) → AsksFor Gives (ChecksWereRead checks) request
+    → EndsDone failed request input output
+    → EndsAs Gives checks input output (done_status failed)
+EndsAs-done Gives checks input output request zero asks done =
     record { request = request; asks = asks; is_so = done }
+EndsAs-done Gives checks input output request (suc more) asks done = (
+  some_behind more,
+  record { request = request; asks = asks; is_so = done },
+)
+
+-- an answer comes behind a look at the input, too
+pub never_first-done : (failed : ℕ) → ComesFirst (done_status failed) → ⊥
+never_first-done zero first = first
+never_first-done (suc more) first = first
 
 -- its end comes behind a look at the input
 pub never_first : (fault : Fault) → ComesFirst (fault_status fault) → ⊥
@@ -208,22 +224,22 @@ kept_as words job other Kept gives gives' kept = subst (λ (j : Job). (ReadsInpu
 -- what is so of its file of checks, if it has one
 pub of_file : (words : List (List ℕ)) (job other : Job) (file : List ℕ)
     (IsSo : List ℕ → Type 0) → GivesJob words job → GivesJob words other
-    → other.mode ≡ WatchMode file
-    → ((name : List ℕ) → job.mode ≡ WatchMode name → IsSo name) → IsSo file
-of_file words job other file IsSo gives gives' watches so =
-    so file (subst (λ (j : Job). j.mode ≡ WatchMode file)
-    (sym (job_unique words job other gives gives')) watches)
+    → file_of other.mode ≡ Some file
+    → ((name : List ℕ) → file_of job.mode ≡ Some name → IsSo name) → IsSo file
+of_file words job other file IsSo gives gives' named so =
+    so file (subst (λ (j : Job). file_of j.mode ≡ Some file)
+    (sym (job_unique words job other gives gives')) named)
 
--- a name that is told is that of the file of each watch, where it is so for each of them
-pub of_watch : (name : Option (List ℕ)) (words : List (List ℕ))
-    → ((job : Job) (file : List ℕ) → GivesJob words job → job.mode ≡ WatchMode file
+-- a name that is told is that of the file of each job, where it is so for each of them
+pub of_named : (name : Option (List ℕ)) (words : List (List ℕ))
+    → ((job : Job) (file : List ℕ) → GivesJob words job → file_of job.mode ≡ Some file
     → IfSome name (λ told. told ≡ file))
     → IfSome name (λ told. (job : Job) (file : List ℕ) → GivesJob words job
-    → job.mode ≡ WatchMode file → told ≡ file)
-of_watch None words each = tt
-of_watch (Some told) words each = each
+    → file_of job.mode ≡ Some file → told ≡ file)
+of_named None words each = tt
+of_named (Some told) words each = each
 
--- only a watch reads a file of checks
+-- only words that name a file of checks have it read
 pub kept_by : (words : List (List ℕ)) (job : Job) (Kept : Type 0) → GivesJob words job
     → ((ReadsChecks job.mode → ⊥) → Kept)
     → ((other : Job) → GivesJob words other → ReadsChecks other.mode → ⊥) → Kept

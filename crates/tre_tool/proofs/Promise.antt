@@ -1,7 +1,7 @@
 -- What the end of a run says of each part of its promise.
 use Rattle.std.specs.Prelude.{nat_le}
-use Rattle.std.proofs.Common.{◌≡◌, ◌∙◌, ℕ, Bool, true, List, Option, None, Some, IfSome, Ok, Err, length, refl, sym, ap, subst, inl, inr, arith}
-use Rattle.tre_answer.specs.Ends.{IsAnswerIn, EndsOver}
+use Rattle.std.proofs.Common.{◌≡◌, ◌∙◌, ℕ, zero, suc, Bool, true, List, Option, None, Some, IfSome, Ok, Err, length, refl, sym, ap, subst, ◌⊎◌, inl, inr, arith}
+use Rattle.tre_answer.specs.Ends.{AreTooManyIn, IsAnswerIn, EndsOver, has_checks}
 use Rattle.tre_feed.specs.declared.fault.Fault.TheVariants.{Trace as FaultTrace, TooLong as FaultTooLong, TooManyZones as FaultTooMany, Read as FaultRead, Write as FaultWrite, Memory as FaultMemory}
 use Rattle.tre_feed.specs.Input.{InputTold}
 use Rattle.tre_feed.specs.Comes.{Outcome, completes, refuses, exceeds, outcome_from}
@@ -13,40 +13,41 @@ use Rattle.tre_tell.specs.Outputs.{OutputTold}
 use Rattle.tre_tell.specs.Request.{Request, AreReadAs, outcome_for, whole_recording}
 use Rattle.tre_trace.specs.Trace.{Timeline}
 use Rattle.tre_trace.specs.declared.fault.TraceFault.{TraceFault}
-use Rattle.tre_watch.specs.Outcome.{Outcome as ChecksOutcome, IsOutcome}
-use Rattle.tre_watch.proofs.Outcomes.{one_outcome}
+use Rattle.tre_words.specs.Job.{file_of, is_whole}
 use Rattle.tre_words.specs.declared.job.Job.{Job}
 use Rattle.tre_words.specs.declared.job.Mode.{Mode}
-use Rattle.tre_words.specs.declared.job.Mode.TheVariants.{Offline, Online, Show, Generate, Watch as WatchMode}
+use Rattle.tre_words.specs.declared.job.Mode.TheVariants.{Offline, Online, Show, Generate, Watch, Check}
 use Rattle.tre_tool.specs.Checks.{ChecksWereRead, ChecksAreTold}
 use Rattle.tre_tool.specs.Request.{AsksFor, JobIsRefused, GiveNone}
-use Rattle.tre_tool.specs.Run.{ChecksFailed, EndsAs, IsStatusFor, IsUnlessMemory, RunIsComplete}
+use Rattle.tre_tool.specs.Run.{ChecksFailed, EndsAs, IsStatusFor, IsAnswered, IsUnlessMemory, ReadsChecks, RunIsComplete}
+use Rattle.tre_tool.specs.Parts.{done_status}
 use Rattle.tre_tool.specs.declared.status.Status.{Status}
 use Rattle.tre_tool.specs.declared.status.Status.TheVariants.{Done, Usage, TooManyZones, Memory}
 use Rattle.tre_tool.proofs.Ended.{Answer, answered_status, Ended, by_usage, by_refusal, by_unread, by_memory, by_answer, ended_of}
-use Rattle.tre_tool.proofs.Once.{GiveOne, the_request, asked_or_refused, refused_once}
+use Rattle.tre_tool.proofs.Once.{Agree, GiveOne, the_request, asked_or_refused, refused_once}
 
 -- ---- what a file of checks comes to
 
-told_as : (scale : ℕ) (bytes : List ℕ) (one other : ChecksOutcome) (file : Option (List ℕ))
-    → file ≡ Some bytes → IfSome file (λ all. IsOutcome scale all one)
-    → IsOutcome scale bytes other → one ≡ other
-told_as scale bytes one other file told whole comes =
-    one_outcome scale bytes one other
-    (subst (λ o. IfSome o (λ all. IsOutcome scale all one)) told whole) comes
+of_told : (bytes : List ℕ) (file : Option (List ℕ)) (IsSo : List ℕ → Type 0)
+    → file ≡ Some bytes → IfSome file IsSo → IsSo bytes
+of_told bytes file IsSo told whole = subst (λ o. IfSome o IsSo) told whole
 
--- what was read of it comes to what it comes to
-pub read_as_told : (checks : InputTold) (scale : ℕ) (one other : ChecksOutcome)
-    → ChecksWereRead checks scale one → ChecksAreTold checks scale other → one ≡ other
-read_as_told checks scale one other read told =
-    told_as scale told.bytes one other checks.before.file told.told read.comes.whole told.comes
+-- what was read of it is what is told
+pub read_as_told : (checks : InputTold) → Agree (ChecksWereRead checks) (ChecksAreTold checks)
+read_as_told checks IsSo IsAlso read told = (
+  told.bytes,
+  of_told told.bytes checks.before.file IsSo told.told read.comes.whole,
+  told.is_so,
+)
 
--- its bytes come to one thing
-pub told_once : (checks : InputTold) (scale : ℕ) (one other : ChecksOutcome)
-    → ChecksAreTold checks scale one → ChecksAreTold checks scale other → one ≡ other
-told_once checks scale one other told told' =
-    told_as scale told'.bytes one other checks.before.file told'.told
-    (rw told.told told.comes) told'.comes
+-- it tells one list of bytes
+pub told_once : (checks : InputTold) → Agree (ChecksAreTold checks) (ChecksAreTold checks)
+told_once checks IsSo IsAlso one other =
+    let bytes : one.bytes ≡ other.bytes = one_file (sym one.told ∙ other.told) in
+    (other.bytes, subst IsSo bytes one.is_so, other.is_so)
+  where
+    one_file : {x y : List ℕ} → Some x ≡ Some y → x ≡ y
+    one_file e = cc
 
 -- ---- what must come
 
@@ -82,10 +83,15 @@ traces_complete request bytes traces are =
     ap (λ (fault : Option TraceFault). outcome_from (nat_le (length bytes) limit) fault) faultless
     ∙ ap (λ (whole : Bool). outcome_from whole None) closed
 
-done_completes : (request : Request) (bytes : List ℕ) (traces : List Timeline)
-    → AreReadAs request bytes traces → IsStatusFor (outcome_for request bytes) Done
-done_completes request bytes traces are =
-    rw (traces_complete request bytes traces are) (inl tt)
+answered : (failed : ℕ) → IsAnswered (done_status failed)
+answered zero = tt
+answered (suc more) = tt
+
+done_completes : (failed : ℕ) (request : Request) (bytes : List ℕ) (traces : List Timeline)
+    → AreReadAs request bytes traces
+    → IsStatusFor (outcome_for request bytes) (done_status failed)
+done_completes failed request bytes traces are =
+    rw (traces_complete request bytes traces are) (inl (answered failed))
 
 many_completes : (request : Request) (bytes : List ℕ) (zones : ℕ) (traces : List Timeline)
     → AreReadAs request bytes traces
@@ -94,17 +100,72 @@ many_completes request bytes zones traces are =
     rw (traces_complete request bytes traces are) (inl tt)
 
 -- a run that is done, in each mode that reads its input
-done_in : (mode : Mode) (request : Request) (input : InputTold) (front text : List ℕ)
-    → IsAnswerIn mode request input front text → ReadsInput mode
-    → IfSome input.before.file (λ bytes. IsStatusFor (outcome_for request bytes) Done)
-done_in Offline request input front text right reads = weaker input.before.file _ _
-    (λ bytes so. done_completes request bytes so.right.traces so.right.are) right.1.whole
-done_in Online request input front text right reads = weaker input.before.file _ _
-    (λ bytes so. done_completes request bytes so.traces so.are) right.1.whole
-done_in (WatchMode file) request input front text right reads = weaker input.before.file _ _
-    (λ bytes so. done_completes request bytes so.traces so.are) right.1.whole
-done_in Show request input front text right reads = absurd reads
-done_in (Generate count) request input front text right reads = absurd reads
+done_in : (mode : Mode) (failed : ℕ) (request : Request) (input : InputTold) (front text : List ℕ)
+    → IsAnswerIn mode failed request input front text → ReadsInput mode
+    → IfSome input.before.file
+    (λ bytes. IsStatusFor (outcome_for request bytes) (done_status failed))
+done_in Offline failed request input front text right reads = weaker input.before.file _ _
+    (λ bytes so. done_completes failed request bytes so.right.traces so.right.are) right.1.whole
+done_in Online failed request input front text right reads = weaker input.before.file _ _
+    (λ bytes so. done_completes failed request bytes so.traces so.are) right.1.whole
+done_in (Watch file) failed request input front text right reads = weaker input.before.file _ _
+    (λ bytes so. done_completes failed request bytes so.traces so.are) right.1.whole
+done_in (Check file) failed request input front text right reads = weaker input.before.file _ _
+    (λ bytes so. done_completes failed request bytes so.right.traces so.right.are) right.1.whole
+done_in Show failed request input front text right reads = absurd reads
+done_in (Generate count) failed request input front text right reads = absurd reads
+
+-- and one that has too many zones
+many_in : (mode : Mode) (request : Request) (bytes : List ℕ) (zones : ℕ)
+    → AreTooManyIn mode request bytes zones
+    → IsStatusFor (outcome_for request bytes) (TooManyZones zones)
+many_in Offline request bytes zones so =
+    many_completes request bytes zones so.right.traces so.right.are
+many_in Online request bytes zones so =
+    many_completes request bytes zones so.right.traces so.right.are
+many_in Show request bytes zones so =
+    many_completes request bytes zones so.right.traces so.right.are
+many_in (Generate count) request bytes zones so =
+    many_completes request bytes zones so.right.traces so.right.are
+many_in (Watch file) request bytes zones so =
+    many_completes request bytes zones so.right.traces so.right.are
+many_in (Check file) request bytes zones so =
+    many_completes request bytes zones so.right.traces so.right.are
+
+-- checks are judged, and watched, over an input
+reads_whole : (mode : Mode) → is_whole mode ≡ true → ReadsInput mode
+reads_whole Offline is = tt
+reads_whole Online is = tt
+reads_whole (Watch file) is = tt
+reads_whole (Check file) is = tt
+reads_whole Show is = absurd cc
+reads_whole (Generate count) is = absurd cc
+
+reads_behind : (mode : Mode) (file : List ℕ) → file_of mode ≡ Some file → ReadsInput mode
+reads_behind Offline file named = tt
+reads_behind Online file named = tt
+reads_behind (Watch name) file named = tt
+reads_behind (Check name) file named = tt
+reads_behind Show file named = absurd cc
+reads_behind (Generate count) file named = absurd cc
+
+none_failed : (mode : Mode) (failed : ℕ) → ¬ ReadsInput mode
+    → (has_checks mode ≡ true) ⊎ (failed ≡ 0) → failed ≡ 0
+none_failed mode failed unread (inr none) = none
+none_failed (Check file) failed unread (inl checks) = absurd (unread tt)
+none_failed (Watch file) failed unread (inl checks) = absurd (unread tt)
+none_failed Offline failed unread (inl checks) = absurd (unread tt)
+none_failed Online failed unread (inl checks) = absurd (unread tt)
+none_failed Show failed unread (inl checks) = absurd cc
+none_failed (Generate count) failed unread (inl checks) = absurd cc
+
+names_file : (mode : Mode) (file : List ℕ) → file_of mode ≡ Some file → ReadsChecks mode
+names_file (Watch name) file named = refl
+names_file (Check name) file named = refl
+names_file Offline file named = absurd cc
+names_file Online file named = absurd cc
+names_file Show file named = absurd cc
+names_file (Generate count) file named = absurd cc
 
 module _ (request : Request) (input : InputTold) (output : OutputTold) where
   -- what must come of a request whose input is read
@@ -113,15 +174,15 @@ module _ (request : Request) (input : InputTold) (output : OutputTold) where
       → ¬ CountRises output.before.faults output.now.faults
       → IfSome input.before.file (λ bytes.
       IsStatusFor (outcome_for request bytes) (answered_status answer))
-  answered_read (Ok value) done reads read written =
-      done_in request.job.mode request input done.front done.text done.right reads
+  answered_read (Ok failed) done reads read written =
+      done_in request.job.mode failed request input done.front done.text done.right reads
   answered_read (Err (FaultTrace fault)) found reads read written =
       weaker input.before.file _ _ (λ bytes so. rw so.0 (inl refl)) found.1.comes.whole
   answered_read (Err FaultTooLong) found reads read written =
       weaker input.before.file _ _ (λ bytes so. rw so.0 (inl refl)) found.comes.whole
   answered_read (Err (FaultTooMany zones)) many reads read written =
-      weaker input.before.file _ _ (λ bytes so. many_completes request bytes zones
-      so.right.traces so.right.are) many.cause.whole
+      weaker input.before.file _ _ (λ bytes so. many_in request.job.mode request bytes zones so)
+      many.cause.whole
   answered_read (Err FaultRead) found reads read written =
       absurd (read (one_more _ _ found.unread.cause))
   answered_read (Err FaultWrite) found reads read written =
@@ -133,12 +194,13 @@ module _ (request : Request) (input : InputTold) (output : OutputTold) where
   answered_unread : (answer : Answer) → EndsOver request input output answer
       → ¬ ReadsInput request.job.mode → ¬ CountRises output.before.faults output.now.faults
       → IsUnlessMemory Done (answered_status answer)
-  answered_unread (Ok value) done unread written = inl refl
+  answered_unread (Ok failed) done unread written =
+      inl (ap done_status (none_failed request.job.mode failed unread done.unchecked))
   answered_unread (Err (FaultTrace fault)) found unread written =
       absurd (unread found.1.reads_input)
   answered_unread (Err FaultTooLong) found unread written = absurd (unread found.reads_input)
   answered_unread (Err (FaultTooMany zones)) many unread written =
-      absurd (unread (rw many.offline tt))
+      absurd (unread (reads_whole request.job.mode many.whole))
   answered_unread (Err FaultRead) found unread written = absurd (unread found.reads_input)
   answered_unread (Err FaultWrite) found unread written =
       absurd (written (one_more _ _ found.cut.cause))
@@ -147,21 +209,21 @@ module _ (request : Request) (input : InputTold) (output : OutputTold) where
 module _ (Gives : Job → Type 0) (once : GiveOne Gives) (checks input : InputTold)
     (output : OutputTold) where
   -- what was read is what is told
-  same : (scale : ℕ) (one other : ChecksOutcome) → ChecksWereRead checks scale one
-      → ChecksAreTold checks scale other → one ≡ other
+  same : Agree (ChecksWereRead checks) (ChecksAreTold checks)
   same = read_as_told checks
 
-  back : (scale : ℕ) (one other : ChecksOutcome) → ChecksAreTold checks scale one
-      → ChecksWereRead checks scale other → one ≡ other
-  back scale one other told read = sym (read_as_told checks scale other one read told)
+  back : Agree (ChecksAreTold checks) (ChecksWereRead checks)
+  back IsSo IsAlso told read =
+      let both = read_as_told checks IsAlso IsSo read told in
+      (both.0, both.2, both.1)
 
   -- a file that couldn't be read is that of the job
   failed : (job other : Job) (file : List ℕ) → Gives job → Gives other
-      → job.mode ≡ WatchMode file → checks.now.faults ≡ count_after checks.before.faults
+      → file_of job.mode ≡ Some file → checks.now.faults ≡ count_after checks.before.faults
       → ChecksFailed other.mode checks
-  failed job other file gives gives' watches cause =
+  failed job other file gives gives' named cause =
       subst (λ (j : Job). ChecksFailed j.mode checks) (once job other gives gives')
-      (subst (λ (mode : Mode). ChecksFailed mode checks) (sym watches) (tt, one_more _ _ cause))
+      (names_file job.mode file named, one_more _ _ cause)
 
   read_as : (request : Request) (status : Status) → AsksFor Gives (ChecksAreTold checks) request
       → Ended Gives checks input output status → ReadsInput request.job.mode
@@ -175,7 +237,7 @@ module _ (Gives : Job → Type 0) (once : GiveOne Gives) (checks input : InputTo
       absurd (asked_or_refused Gives once (ChecksAreTold checks) (ChecksWereRead checks) back
       request status asks ends)
   read_as request status asks (by_unread is ends) reads known read written =
-      absurd (known (failed ends.job request.job ends.file ends.gives asks.gives ends.watches
+      absurd (known (failed ends.job request.job ends.file ends.gives asks.gives ends.named
       ends.unread.cause))
   read_as request status asks (by_memory is ends) reads known read written =
       rw is (free input.before.file _ (λ bytes. memory_is_free (outcome_for request bytes)))
@@ -195,9 +257,9 @@ module _ (Gives : Job → Type 0) (once : GiveOne Gives) (checks input : InputTo
       absurd (asked_or_refused Gives once (ChecksAreTold checks) (ChecksWereRead checks) back
       request status asks ends)
   unread_as request status asks (by_unread is ends) unread written =
-      let watches = subst (λ (j : Job). j.mode ≡ WatchMode ends.file)
-      (once ends.job request.job ends.gives asks.gives) ends.watches in
-      absurd (unread (rw watches tt))
+      let named = subst (λ (j : Job). file_of j.mode ≡ Some ends.file)
+      (once ends.job request.job ends.gives asks.gives) ends.named in
+      absurd (unread (reads_behind request.job.mode ends.file named))
   unread_as request status asks (by_memory is ends) unread written = inr is
   unread_as request status asks (by_answer answer is some) unread written =
       rw is (answered_unread request input output answer
@@ -214,7 +276,7 @@ module _ (Gives : Job → Type 0) (once : GiveOne Gives) (checks input : InputTo
       inl (refused_once Gives once (ChecksWereRead checks) (ChecksAreTold checks) same status
       refusal ends told)
   refused_as status refusal (by_unread is ends) told known =
-      absurd (known (failed ends.job told.job ends.file ends.gives told.gives ends.watches
+      absurd (known (failed ends.job told.job ends.file ends.gives told.gives ends.named
       ends.unread.cause))
   refused_as status refusal (by_memory is ends) told known = inr is
   refused_as status refusal (by_answer answer is some) told known =

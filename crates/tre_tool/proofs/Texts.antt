@@ -17,11 +17,11 @@ use Rattle.tre_trace.specs.Reading.{Vocabulary}
 use Rattle.tre_words.specs.declared.job.Job.{Job}
 use Rattle.tre_words.specs.declared.job.Format.{Format}
 use Rattle.tre_tool.specs.Parts.{plain_sought, patterns_with}
-use Rattle.tre_tool.specs.Request.{Spell, text_read, texts_with, AreDefinedIn, AreDefinitions, AreRefusedIn, IsRefusedMinus, AreRefusedDefinitions, IsRefusalOf}
+use Rattle.tre_tool.specs.Request.{Spell, text_read, texts_with, AreDefinedIn, AreDefinitions, AreRefusedIn, IsRefusedMinus, IsRefusedText, AreRefusedDefinitions, IsRefusalOf}
 use Rattle.tre_tool.specs.Status.{parse_status, minus_status}
 use Rattle.tre_tool.proofs.Definings.{defined_in_once, defined_in_or_refused, refused_in_once}
 use Rattle.tre_tool.specs.declared.status.Status.{Status}
-use Rattle.tre_tool.specs.declared.status.Status.TheVariants.{Done, Usage, Expression, Minus, Definitions, Watch, Trace, InputTooLong, TooManyZones, ReadFault, WriteFault, Memory}
+use Rattle.tre_tool.specs.declared.status.Status.TheVariants.{Done, Usage, Expression, Minus, Definitions, Watch, Trace, InputTooLong, TooManyZones, ReadFault, WriteFault, Failed, Memory}
 
 -- a text spells one pattern
 sought_of : List ℕ → PatternTree → Vocabulary → Sought
@@ -205,10 +205,9 @@ all_or_second job fault patterns told so =
     (subst (λ taken. Spell job.scale (texts_with job.expr taken) patterns) told.given so)
 
 -- definitions that are refused are none
-pub defined_or_refused : (AreSought : List Sought → Type 0) (job : Job) (fault : LetFault)
-    (lets : List Defined) (signals : List SignalDefined)
-    → AreRefusedDefinitions AreSought job fault → AreDefinitions job lets signals → ⊥
-defined_or_refused AreSought job fault lets signals told so =
+pub defined_or_refused : (job : Job) (fault : LetFault) (lets : List Defined)
+    (signals : List SignalDefined) → IsRefusedText job fault → AreDefinitions job lets signals → ⊥
+defined_or_refused job fault lets signals told so =
     defined_in_or_refused job.format (parts_of told.text) lets signals fault
     (subst (λ text. AreDefinedBy job.format text lets signals) told.given so) told.refuses
 
@@ -229,10 +228,9 @@ minus_once job one other told told' =
     (subst (λ text. IsOutcome job.scale text (refused one))
     (given_once job.minus told.given told'.given) told.refuses) told'.refuses
 
-pub lets_once : (AreSought AreAlso : List Sought → Type 0) (job : Job) (one other : LetFault)
-    → AreRefusedDefinitions AreSought job one → AreRefusedDefinitions AreAlso job other
-    → one ≡ other
-lets_once AreSought AreAlso job one other told told' =
+pub lets_once : (job : Job) (one other : LetFault) → IsRefusedText job one
+    → IsRefusedText job other → one ≡ other
+lets_once job one other told told' =
     refused_in_once job.format (parts_of told'.text) one other
     (subst (λ text. AreRefusedIn job.format (parts_of text) one)
     (given_once (text_read job.mode job.lets) told.given told'.given) told.refuses) told'.refuses
@@ -258,6 +256,7 @@ refuses_of job InputTooLong is = absurd is
 refuses_of job (TooManyZones zones) is = absurd is
 refuses_of job ReadFault is = absurd is
 refuses_of job WriteFault is = absurd is
+refuses_of job (Failed checks) is = absurd is
 refuses_of job Memory is = absurd is
 refuses_of job (Watch fault) is = absurd is
 
@@ -267,7 +266,7 @@ both_refuse job one other (of_expression fault is told) (of_expression fault' is
 both_refuse job one other (of_minus fault is told) (of_minus fault' is' told') =
     is ∙ (ap Minus (minus_once job fault fault' told told') ∙ sym is')
 both_refuse job one other (of_definitions fault is told) (of_definitions fault' is' told') =
-    is ∙ (ap Definitions (lets_once _ _ job fault fault' told told') ∙ sym is')
+    is ∙ (ap Definitions (lets_once job fault fault' told.refused told'.refused) ∙ sym is')
 both_refuse job one other (of_expression fault is told) (of_minus fault' is' told') = absurd
     (first_or_refused job.scale job.expr fault [] told'.patterns told told'.spelt)
 both_refuse job one other (of_minus fault is told) (of_expression fault' is' told') = absurd
@@ -296,7 +295,7 @@ or_refused job refusal patterns lets signals (of_expression fault is told) so de
 or_refused job refusal patterns lets signals (of_minus fault is told) so defined =
     all_or_second job fault patterns told so
 or_refused job refusal patterns lets signals (of_definitions fault is told) so defined =
-    defined_or_refused _ job fault lets signals told defined
+    defined_or_refused job fault lets signals told.refused defined
 
 -- what a job gives isn't both refused and there
 pub texts_or_refused : (job : Job) (refusal : Status) (patterns : List Sought)

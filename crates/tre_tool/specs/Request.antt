@@ -1,6 +1,6 @@
 -- What words ask for: a job, the patterns that it looks for, and the definitions of their names.
--- `Gives` is the job that the words give, and `Says` what the file of checks comes to, which the
--- words of a watch name.
+-- `Gives` is the job that the words give, and `Says` what is so of the bytes of the file of checks
+-- that they may name.
 use Rattle.std.specs.Prelude.{◌≡◌, ◌⊎◌, ℕ, List, [], ◌∷◌, Option, None, Some}
 use Rattle.std.specs.Option.{MatchOption, option_to_list}
 use Rattle.tre_define.specs.Signals.{AreRefused, DefineSignals, SignalDefined}
@@ -15,14 +15,16 @@ use Rattle.tre_syntax.specs.PatternTree.{PatternTree}
 use Rattle.tre_tell.specs.Request.{Request}
 use Rattle.tre_tell.specs.Sought.{Sought}
 use Rattle.tre_trace.specs.Reading.{Vocabulary}
-use Rattle.tre_watch.specs.Outcome.{Outcome, faulty}
+use Rattle.tre_watch.specs.Outcome.{Known, columns as of_columns, judged, nothing, signals as of_signals, watched}
+use Rattle.tre_watch.specs.declared.fault.WatchFault.{WatchFault}
+use Rattle.tre_watch.specs.declared.form.Form.{Form}
 use Rattle.tre_words.specs.declared.job.Format.{Format}
 use Rattle.tre_words.specs.declared.job.Format.TheVariants.{Text as TextFormat, Vcd, Csv}
 use Rattle.tre_words.specs.declared.job.Job.{Job}
 use Rattle.tre_words.specs.declared.job.Mode.{Mode}
-use Rattle.tre_words.specs.declared.job.Mode.TheVariants.{Show, Generate, Watch}
+use Rattle.tre_words.specs.declared.job.Mode.TheVariants.{Show, Generate, Watch, Check}
 use Rattle.tre_answer.specs.Recorded.{recording_in}
-use Rattle.tre_tool.specs.Checks.{SayPatterns}
+use Rattle.tre_tool.specs.Checks.{Saying, SayFault, SayPatterns, SayVerdicts}
 use Rattle.tre_tool.specs.declared.status.Status.{Status}
 use Rattle.tre_tool.specs.declared.status.Status.TheVariants.{Expression, Minus, Definitions, Watch as WatchStatus}
 
@@ -42,7 +44,7 @@ abbrev pub texts_with : List ℕ → Option (List ℕ) → List (List ℕ)
 texts_with text taken = text ∷ option_to_list taken
 
 -- The patterns of a job: those of its texts, or of the file of a watch. A made run has its own.
-abbrev pub ArePatterns : Mode → (ℕ → Outcome → Type 0) → Job → List Sought → Type 0
+abbrev pub ArePatterns : Mode → Saying → Job → List Sought → Type 0
 ArePatterns (Generate count) Says job patterns = patterns ≡ alone fixed_tree fixed_vocabulary
 ArePatterns (Watch file) Says job patterns = SayPatterns Says job.scale patterns
 ArePatterns mode Says job patterns = Spell job.scale (texts_with job.expr job.minus) patterns
@@ -70,6 +72,38 @@ AreDefinitions job lets signals =
     MatchOption (text_read job.mode job.lets) ((lets ≡ []) × (signals ≡ []))
     (λ text. AreDefinedIn job.format (parts_of text) lets signals)
 
+-- the definitions that are known in a format
+abbrev pub known_by : Format → List Defined → List SignalDefined → Known
+known_by TextFormat lets signals = nothing
+known_by Vcd lets signals = of_signals signals
+known_by Csv lets signals = of_columns lets
+
+-- Nothing is judged: the job asks for these patterns, with the definitions that its words give.
+pub record AsksPlainly (ArePatterns : Job → List Sought → Type 0) (job : Job)
+    (patterns : List Sought) (forms : List Form) (lets : List Defined)
+    (signals : List SignalDefined) : Type 0 where
+  pub are : ArePatterns job patterns
+  pub formless : forms ≡ []
+  pub definitions : AreDefinitions job lets signals
+
+-- It asks for checks: its file says them behind the definitions that its words give.
+pub record AsksVerdicts (Says : Saying) (job : Job) (patterns : List Sought) (forms : List Form)
+    (lets : List Defined) (signals : List SignalDefined) : Type 0 where
+  pub columns : List Defined
+  pub parts : List SignalDefined
+  pub definitions : AreDefinitions job columns parts
+  pub verdicts : SayVerdicts Says (known_by job.format columns parts) job.scale patterns forms lets
+      signals
+
+-- A job in this mode asks for these patterns, the forms of their checks if they are judged, and
+-- these definitions of names.
+abbrev pub IsAsked : Mode → Saying → Job → List Sought → List Form → List Defined
+    → List SignalDefined → Type 0
+IsAsked (Check file) Says job patterns forms lets signals =
+    AsksVerdicts Says job patterns forms lets signals
+IsAsked mode Says job patterns forms lets signals =
+    AsksPlainly (ArePatterns mode Says) job patterns forms lets signals
+
 -- The text of the pattern that is taken away is, and that of the one that is looked for isn't.
 pub record IsRefusedMinus (job : Job) (fault : ParseFault) : Type 0 where
   pub patterns : List Sought
@@ -78,14 +112,25 @@ pub record IsRefusedMinus (job : Job) (fault : ParseFault) : Type 0 where
   pub given : job.minus ≡ Some text
   pub refuses : IsOutcome job.scale text (refused fault)
 
--- A definition is refused, and what the job looks for isn't: these patterns are it.
+-- The text of the job's definitions is refused so.
+pub record IsRefusedText (job : Job) (fault : LetFault) : Type 0 where
+  pub text : List ℕ
+  pub given : text_read job.mode job.lets ≡ Some text
+  pub refuses : AreRefusedIn job.format (parts_of text) fault
+
+-- It is, and what the job looks for isn't: these patterns are it.
 pub record AreRefusedDefinitions (AreSought : List Sought → Type 0) (job : Job) (fault : LetFault)
     : Type 0 where
   pub patterns : List Sought
   pub sought : AreSought patterns
-  pub text : List ℕ
-  pub given : text_read job.mode job.lets ≡ Some text
-  pub refuses : AreRefusedIn job.format (parts_of text) fault
+  pub refused : IsRefusedText job fault
+
+-- The file of checks is refused so behind the definitions of the job's words, which aren't.
+pub record IsRefusedFile (Says : Saying) (job : Job) (fault : WatchFault) : Type 0 where
+  pub columns : List Defined
+  pub parts : List SignalDefined
+  pub definitions : AreDefinitions job columns parts
+  pub refuses : SayFault Says (judged (known_by job.format columns parts)) job.scale fault
 
 -- What a job gives is refused so, before its input is looked at: the first of its texts that is.
 abbrev pub IsRefusalOf : Job → Status → Type 0
@@ -96,32 +141,37 @@ IsRefusalOf job (Definitions fault) =
 IsRefusalOf job refusal = ⊥
 
 -- A watch is refused so: its file of checks is, or the file isn't and the definitions are.
-abbrev pub IsRefusalOfWatch : (ℕ → Outcome → Type 0) → Job → Status → Type 0
+abbrev pub IsRefusalOfWatch : Saying → Job → Status → Type 0
 IsRefusalOfWatch Says job (Definitions fault) =
     AreRefusedDefinitions (SayPatterns Says job.scale) job fault
-IsRefusalOfWatch Says job (WatchStatus fault) = Says job.scale (faulty fault)
+IsRefusalOfWatch Says job (WatchStatus fault) = SayFault Says watched job.scale fault
 IsRefusalOfWatch Says job refusal = ⊥
 
+-- Checks with verdicts are: the definitions of the words are, or they aren't and the file is.
+abbrev pub IsRefusalOfChecks : Saying → Job → Status → Type 0
+IsRefusalOfChecks Says job (Definitions fault) = IsRefusedText job fault
+IsRefusalOfChecks Says job (WatchStatus fault) = IsRefusedFile Says job fault
+IsRefusalOfChecks Says job refusal = ⊥
+
 -- A job in this mode is. Of a made run nothing is refused.
-abbrev pub IsRefusalIn : Mode → (ℕ → Outcome → Type 0) → Job → Status → Type 0
+abbrev pub IsRefusalIn : Mode → Saying → Job → Status → Type 0
 IsRefusalIn (Generate count) Says job refusal = ⊥
 IsRefusalIn (Watch file) Says job refusal = IsRefusalOfWatch Says job refusal
+IsRefusalIn (Check file) Says job refusal = IsRefusalOfChecks Says job refusal
 IsRefusalIn mode Says job refusal = IsRefusalOf job refusal
 
--- The words give this job, and these are its patterns and definitions, by which bytes say this.
-pub record AsksFor (Gives : Job → Type 0) (Says : ℕ → Outcome → Type 0) (request : Request)
-    : Type 0 where
+-- The words give this job, and this is what it asks for, with the definitions by which bytes say
+-- this.
+pub record AsksFor (Gives : Job → Type 0) (Says : Saying) (request : Request) : Type 0 where
   pub gives : Gives request.job
-  pub patterns : ArePatterns request.job.mode Says request.job request.patterns
   pub lets : List Defined
   pub signals : List SignalDefined
-  pub definitions : AreDefinitions request.job lets signals
+  pub asks : IsAsked request.job.mode Says request.job request.patterns request.forms lets signals
   pub recorded : request.recording ≡ recording_in request.job.format request.job.scale
       request.patterns lets signals
 
 -- They give a job that is refused so.
-pub record JobIsRefused (Gives : Job → Type 0) (Says : ℕ → Outcome → Type 0) (refusal : Status)
-    : Type 0 where
+pub record JobIsRefused (Gives : Job → Type 0) (Says : Saying) (refusal : Status) : Type 0 where
   pub job : Job
   pub gives : Gives job
   pub refuses : IsRefusalIn job.mode Says job refusal
@@ -130,6 +180,6 @@ abbrev pub GiveNone : (Job → Type 0) → Type 0
 GiveNone Gives = (job : Job) → Gives job → ⊥
 
 -- They ask for nothing: they give no job, or one that is refused.
-abbrev pub AsksForNothing : (Job → Type 0) → (ℕ → Outcome → Type 0) → Type 0
+abbrev pub AsksForNothing : (Job → Type 0) → Saying → Type 0
 AsksForNothing Gives Says =
     GiveNone Gives ⊎ ((refusal : Status) × JobIsRefused Gives Says refusal)

@@ -1,6 +1,6 @@
 -- The promise of a run: how it ends, what each status means, and what was written. `Gives` is the
--- job that the words give, and `checks` the source of the file of checks that a watch names.
-use Rattle.std.specs.Prelude.{◌≡◌, ◌⊎◌, ℕ, ◌≤◌, List, [], length, IfSome, IsTrue, String, false, map, string_bytes}
+-- job that the words give, and `checks` the source of the file of checks that they may name.
+use Rattle.std.specs.Prelude.{◌≡◌, ◌⊎◌, ℕ, ◌≤◌, ◌<◌, Some, is_some, List, [], length, IfSome, IsTrue, String, false, map, string_bytes}
 use Rattle.std.specs.Io.KnownBytes.{Consumes}
 use Rattle.tre_answer.specs.Ends.{EndsDone, EndsTooMany, EndsWriteFault}
 use Rattle.tre_feed.specs.Front.{IsUnreadable}
@@ -12,14 +12,13 @@ use Rattle.tre_tell.specs.Ends.{ReadsInput, StandsAtMemory, EndsAtInput, EndsRea
 use Rattle.tre_tell.specs.Outputs.{OutputTold, NothingWritten}
 use Rattle.tre_tell.specs.Request.{Request, outcome_for}
 use Rattle.tre_tell.specs.Streams.{WroteText, WroteFront}
-use Rattle.tre_words.specs.Job.{GivesJob}
+use Rattle.tre_words.specs.Job.{GivesJob, file_of}
 use Rattle.tre_words.specs.declared.job.Job.{Job}
 use Rattle.tre_words.specs.declared.job.Mode.{Mode}
-use Rattle.tre_words.specs.declared.job.Mode.TheVariants.{Watch}
 use Rattle.tre_tool.specs.Checks.{ChecksWereRead, ChecksAreTold}
 use Rattle.tre_tool.specs.Request.{AsksFor, JobIsRefused, GiveNone}
 use Rattle.tre_tool.specs.declared.status.Status.{Status}
-use Rattle.tre_tool.specs.declared.status.Status.TheVariants.{Done, Usage, Expression, Minus, Definitions, Watch as WatchStatus, Trace, InputTooLong, TooManyZones, ReadFault, WriteFault, Memory}
+use Rattle.tre_tool.specs.declared.status.Status.TheVariants.{Done, Usage, Expression, Minus, Definitions, Watch, Trace, InputTooLong, TooManyZones, ReadFault, WriteFault, Failed, Memory}
 
 abbrev pub Gives : {Z : Type 0} → List (String Z) → Job → Type 0
 Gives words = GivesJob (map string_bytes words)
@@ -31,8 +30,7 @@ IsFrontOf IsName most input = IsTrue input.now.opened → IfSome input.before.na
     × Consumes input.before.file input.now.left taken
 
 abbrev pub ReadsChecks : Mode → Type 0
-ReadsChecks (Watch file) = Unit {0}
-ReadsChecks mode = ⊥
+ReadsChecks mode = IsTrue (is_some (file_of mode))
 
 -- One failure to read the file of checks was counted, where one is read.
 abbrev pub ChecksFailed : Mode → InputTold → Type 0
@@ -44,7 +42,7 @@ ComesFirst Usage = Unit {0}
 ComesFirst (Expression fault) = Unit {0}
 ComesFirst (Minus fault) = Unit {0}
 ComesFirst (Definitions fault) = Unit {0}
-ComesFirst (WatchStatus fault) = Unit {0}
+ComesFirst (Watch fault) = Unit {0}
 ComesFirst status = ⊥
 
 -- The input wasn't opened, no failure was counted, and nothing was written.
@@ -59,7 +57,7 @@ pub record EndsUnread (Gives : Job → Type 0) (checks input : InputTold) (outpu
   pub job : Job
   pub gives : Gives job
   pub file : List ℕ
-  pub watches : job.mode ≡ Watch file
+  pub named : file_of job.mode ≡ Some file
   pub unread : IsUnreadable file checks
   pub nothing : NothingDone input output
 
@@ -85,7 +83,9 @@ IsLineTold output line = WroteText output line ⊎ WroteFront output [] line
 -- The end of a run, status by status. What is refused is told before the input is looked at.
 abbrev pub EndsAs : (Job → Type 0) → InputTold → InputTold → OutputTold → Status → Type 0
 EndsAs Gives checks input output Done =
-    AsksAs Gives checks (λ request. EndsDone request input output)
+    AsksAs Gives checks (λ request. EndsDone 0 request input output)
+EndsAs Gives checks input output (Failed failed) =
+    (0 < failed) × AsksAs Gives checks (λ request. EndsDone failed request input output)
 EndsAs Gives checks input output Usage = GiveNone Gives × NothingDone input output
 EndsAs Gives checks input output (Trace fault) = IsInputKind fault.kind
     × AsksAs Gives checks (λ request. EndsAtInput (refuses fault) request input output)
@@ -107,6 +107,7 @@ IsUnlessMemory wanted status = (status ≡ wanted) ⊎ (status ≡ Memory)
 -- It is one that a run has which was answered: its answer was written, or has too many zones.
 abbrev pub IsAnswered : Status → Type 0
 IsAnswered Done = Unit {0}
+IsAnswered (Failed checks) = Unit {0}
 IsAnswered (TooManyZones zones) = Unit {0}
 IsAnswered status = ⊥
 

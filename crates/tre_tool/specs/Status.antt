@@ -13,7 +13,7 @@ use Rattle.tre_watch.specs.declared.fault.WatchFault.TheVariants.{TooLarge as Fi
 use Rattle.tre_words.specs.declared.job.WordsFault.{WordsFault}
 use Rattle.tre_words.specs.declared.job.WordsFault.TheVariants.{Usage as WordsUsage, Memory as WordsMemory}
 use Rattle.tre_tool.specs.declared.status.Status.{Status}
-use Rattle.tre_tool.specs.declared.status.Status.TheVariants.{Done, Usage, Expression, Minus, Definitions, Watch, Trace, InputTooLong, TooManyZones, ReadFault, WriteFault, Memory}
+use Rattle.tre_tool.specs.declared.status.Status.TheVariants.{Done, Usage, Expression, Minus, Definitions, Watch, Trace, InputTooLong, TooManyZones, ReadFault, WriteFault, Failed, Memory}
 
 -- how a run ends over words that give no job, or that memory was wanting to read
 abbrev pub words_status : WordsFault → Status
@@ -108,6 +108,7 @@ told (Definitions (BadLet at)) = (11, codes "montre: definitions: BadLet at " ++
 told (Definitions (Twice at)) = (11, codes "montre: definitions: Twice at " ++ number_line at)
 told (Definitions LetMemory) = (11, codes "montre: definitions: Memory\n")
 told (Watch fault) = (12, codes "montre: watch: " ++ watch_words fault)
+told (Failed checks) = (13, codes "montre: failed checks " ++ number_line checks)
 
 abbrev pub code_of : Status → ℕ
 code_of status = (told status).0

@@ -1,7 +1,7 @@
 // What a job asks for, as its texts or its file of checks say it.
 ghost use Rattle.std.specs.Option.{option_map};
-ghost use Rattle.std.specs.Prelude.{◌≡◌, ◌≢◌, ◌≤◌, ◌+◌, ◌∷◌, [], List, None, IfOk, IfErr, IfSome, IsTrue, false, length, ℕ};
-ghost use Rattle.tre_answer.specs.Request.{FitsJob, sought_in};
+ghost use Rattle.std.specs.Prelude.{◌≡◌, ◌≢◌, ◌≤◌, ◌+◌, ◌∷◌, [], List, None, Some, IfOk, IfErr, IfSome, IsTrue, false, length, ℕ};
+ghost use Rattle.tre_answer.specs.Request.{sought_in};
 ghost use Rattle.tre_decimal.specs.declared.TheConstants.{SCALE_MAX};
 ghost use Rattle.tre_define.specs.Texts.{parts_of};
 ghost use Rattle.tre_feed.specs.Input.{TakesAtMost, input_told};
@@ -13,10 +13,9 @@ ghost use Rattle.tre_tool.specs.Request.{Spell, alone, text_read, texts_with, Ar
 ghost use Rattle.tre_tool.specs.Run.{ReadsChecks};
 ghost use Rattle.tre_tool.specs.Status.{minus_status};
 ghost use Rattle.tre_watch.specs.declared.reader.TheConstants.{FILE_MAX};
-ghost use Rattle.tre_words.specs.Job.{IsJob};
-ghost use Rattle.tre_words.specs.declared.job.Mode.TheVariants.{Watch};
+ghost use Rattle.tre_words.specs.Job.{IsJob, file_of};
 
-use crate::checks::asked_of_checks;
+use crate::checks::{asked_of_verdicts, asked_of_watch, meanings_of};
 use crate::status::Status;
 use std::alloc::{AllocError, Global};
 use tre_answer::{Asked, Definitions};
@@ -151,6 +150,7 @@ fn plainly_asked(
         length asked.labels.items ≡ length asked.patterns.items) }
     ensures some { IfOk result (λ asked. 1 ≤ length asked.patterns.items) }
     ensures alone { taken ≡ None → IfOk result (λ asked. length asked.patterns.items ≡ 1) }
+    ensures forms { IfOk result (λ asked. asked.forms.items ≡ []) }
 {
     let mut patterns = Vec::new(alloc);
     let mut labels = Vec::new(alloc);
@@ -160,15 +160,22 @@ fn plainly_asked(
         patterns.push(other)?;
         labels.push(String::new(alloc))?;
     }
-    Ok(Asked { patterns, labels })
+    Ok(Asked {
+        patterns,
+        labels,
+        forms: Vec::new(alloc),
+    })
 }
 
 // What the texts of a job ask for.
 fn asked_by_texts(alloc: Global, job: &Job) -> Result<Question, Status>
-    requires job { IsJob job.now }
+    requires { job.now.scale ≤ SCALE_MAX }
     ensures spells { IfOk result (λ question. Spell job.now.scale
         (texts_with job.now.expr job.now.minus) (sought_in question.asked)) }
-    ensures fits { IfOk result (λ question. FitsJob job.now question.asked) }
+    ensures forms { IfOk result (λ question. question.asked.forms.items ≡ []) }
+    ensures labels { IfOk result (λ question.
+        length question.asked.labels.items ≡ length question.asked.patterns.items) }
+    ensures some { IfOk result (λ question. 1 ≤ length question.asked.patterns.items) }
     ensures alone { IfOk result (λ question. job.now.minus ≡ None →
         length question.asked.patterns.items ≡ 1) }
     ensures defines { IfOk result (λ question. AreDefinitions job.now
@@ -189,6 +196,7 @@ fn asked_of_made_run(alloc: Global) -> Result<Question, Status>
         ≡ alone fixed_tree fixed_vocabulary) }
     ensures labels { IfOk result (λ question. length question.asked.labels.items ≡ 1) }
     ensures alone { IfOk result (λ question. length question.asked.patterns.items ≡ 1) }
+    ensures forms { IfOk result (λ question. question.asked.forms.items ≡ []) }
     ensures columns { IfOk result (λ question. question.definitions.columns.items ≡ []) }
     ensures signals { IfOk result (λ question. question.definitions.signals.items ≡ []) }
     ensures failed { IfErr result (λ status. status ≡ Status.Memory) }
@@ -202,29 +210,36 @@ fn asked_of_made_run(alloc: Global) -> Result<Question, Status>
 }
 
 /// What a job asks for: the first of its texts that is refused ends the run, and definitions are
-/// the last. A watch reads its file of checks from `checks`; no other job looks at that.
+/// the last. A watch reads its file of checks from `checks` before the definitions; where checks
+/// are judged, definitions are read first, since those of the file come behind them. No other job
+/// looks at `checks`.
 pub fn asked_by<P: Source>(alloc: Global, job: &Job, checks: &mut P) -> Result<Question, Status>
     requires closed { (P.told checks.old).opened ≡ false }
     requires job { IsJob job.now }
     ensures asks { IfOk result (λ question. IsAskedBy job.now
         (input_told (P.told checks.old) (P.told checks.new)) question.asked
-        question.definitions.columns.items
-        question.definitions.signals.items) }
+        question.definitions.columns.items question.definitions.signals.items) }
     ensures stops { IfErr result (StopsAsking job.now
         (input_told (P.told checks.old) (P.told checks.new))) }
     ensures untouched { (ReadsChecks job.now.mode → ⊥) → checks.new ≡ checks.old }
     ensures bounded { IsTrue (P.told checks.new).opened →
         TakesAtMost (FILE_MAX + 1) (P.told checks.old).file (P.told checks.new).left }
     ensures by_name { IsTrue (P.told checks.new).opened → (file : List ℕ) →
-        job.now.mode ≡ Watch file → IfSome (P.told checks.old).name (λ told. told ≡ file) }
+        file_of job.now.mode ≡ Some file → IfSome (P.told checks.old).name (λ told. told ≡ file) }
 {
     match &job.mode {
         Mode::Generate { .. } => {
             let question = asked_of_made_run(alloc)?;
             Ok(question)
         }
+        Mode::Check { file } => {
+            let given = definitions_by(alloc, job)?;
+            let known = meanings_of(job.format, given);
+            let question = asked_of_verdicts(alloc, file.text(), job.scale, known, checks)?;
+            Ok(question)
+        }
         Mode::Watch { file } => {
-            let asked = asked_of_checks(alloc, file.text(), job.scale, checks)?;
+            let asked = asked_of_watch(alloc, file.text(), job.scale, checks)?;
             let definitions = definitions_by(alloc, job)?;
             Ok(Question { asked, definitions })
         }

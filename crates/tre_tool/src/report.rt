@@ -187,6 +187,7 @@ pub fn tell_status<E: Sink>(status: &Status, err: &mut E) -> Result<(), Failed>
             put_pieces(err, &["montre: trace: ", name, " at ", place, "\n"])
         }
         Status::TooManyZones { zones } => tell_number(err, "montre: too many zones ", *zones),
+        Status::Failed { checks } => tell_number(err, "montre: failed checks ", *checks),
         Status::InputTooLong => put_pieces(err, &["montre: input too long\n"]),
         Status::ReadFault => put_pieces(err, &["montre: read fault\n"]),
         Status::WriteFault => put_pieces(err, &["montre: write fault\n"]),

@@ -33,6 +33,8 @@ pub enum Status {
     ReadFault,
     /// The output couldn't be written.
     WriteFault,
+    /// The answer was written, and so many checks fail.
+    Failed { checks: u64 },
     /// There was no memory.
     Memory,
 }
@@ -57,6 +59,7 @@ impl Status {
             Status::Minus(_) => 10,
             Status::Definitions(_) => 11,
             Status::Watch(_) => 12,
+            Status::Failed { .. } => 13,
         }
     }
 }

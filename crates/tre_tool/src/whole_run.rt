@@ -1,4 +1,4 @@
-ghost use Rattle.std.specs.Prelude.{◌≡◌, ◌+◌, ℕ, IsTrue, IfSome, List, false};
+ghost use Rattle.std.specs.Prelude.{◌≡◌, ◌+◌, ℕ, IsTrue, IfSome, List, Some, false};
 ghost use Rattle.tre_tell.specs.Ends.{ReadsInput};
 ghost use Rattle.tre_feed.specs.Input.{TakesAtMost, input_told};
 ghost use Rattle.tre_tell.specs.Outputs.{output_told};
@@ -8,8 +8,8 @@ ghost use Rattle.tre_tool.specs.Request.{AsksForNothing};
 ghost use Rattle.tre_tool.specs.Run.{Gives, ReadsChecks, ComesFirst, EndsAs, RunIsComplete, IsLineTold, IsFrontOf};
 ghost use Rattle.tre_tool.specs.Status.{error_line};
 ghost use Rattle.tre_watch.specs.declared.reader.TheConstants.{FILE_MAX};
+ghost use Rattle.tre_words.specs.Job.{file_of};
 ghost use Rattle.tre_words.specs.declared.job.Job.{Job};
-ghost use Rattle.tre_words.specs.declared.job.Mode.TheVariants.{Watch};
 
 use crate::asked::{Question, asked_by};
 use crate::report::tell_status;
@@ -26,7 +26,7 @@ fn run_words<P: Source, S: Source, O: Sink>(
     checks: &mut P,
     input: &mut S,
     out: &mut O,
-) -> Result<(), Status>
+) -> Result<u64, Status>
     requires checks { (P.told checks.old).opened ≡ false }
     requires input { (S.told input.old).opened ≡ false }
     ensures ends { EndsAs (Gives words.now) (input_told (P.told checks.old) (P.told checks.new))
@@ -44,7 +44,7 @@ fn run_words<P: Source, S: Source, O: Sink>(
     ensures reads { (job : Job) → Gives words.now job → IsFrontOf (λ name. name ≡ job.input)
         (job.max_bytes + 1) (input_told (S.told input.old) (S.told input.new)) }
     ensures checks_by_name { (job : Job) (file : List ℕ) → Gives words.now job →
-        job.mode ≡ Watch file → IsTrue (P.told checks.new).opened →
+        file_of job.mode ≡ Some file → IsTrue (P.told checks.new).opened →
         IfSome (P.told checks.old).name (λ told. told ≡ file) }
     ensures checks_at_most { IsTrue (P.told checks.new).opened →
         TakesAtMost (FILE_MAX + 1) (P.told checks.old).file (P.told checks.new).left }
@@ -52,16 +52,17 @@ fn run_words<P: Source, S: Source, O: Sink>(
     let job = read_words(alloc, words)?;
     let question = asked_by(alloc, &job, checks)?;
     let Question { asked, definitions } = question;
-    answer(alloc, &asked, definitions, &job, input, out)?;
-    Ok(())
+    let failed = answer(alloc, &asked, definitions, &job, input, out)?;
+    Ok(failed)
 }
 
 // The status of a run that ended so.
-fn ending(ended: Result<(), Status>) -> Status
+fn ending(ended: Result<u64, Status>) -> Status
     ensures { result ≡ status_of ended }
 {
     match ended {
-        Ok(()) => Status::Done,
+        Ok(0) => Status::Done,
+        Ok(checks) => Status::Failed { checks },
         Err(status) => status,
     }
 }
@@ -71,9 +72,10 @@ fn ending(ended: Result<(), Status>) -> Status
 /// away, and with `--normal` the zones are the one list that their pairs have. With `--online` it
 /// writes a block of zones for each segment as soon as that is complete, and at the end those that
 /// events there complete; with `--watch` as the first word it does so for all patterns of a file
-/// of checks, which it reads from `checks` before the input is opened; with `--show` it writes the
-/// pattern's text instead. With `--generate` as the first word it reads no input, and writes the
-/// summary of a made trace.
+/// of checks, which it reads from `checks` before the input is opened; with `--check` as the first
+/// word it reads such a file too, and writes what becomes of each of its checks over the whole
+/// input; with `--show` it writes the pattern's text instead. With `--generate` as the first word
+/// it reads no input, and writes the summary of a made trace.
 ///
 /// The words are those after the program's name. What `ends` says of bytes holds where the sources
 /// and the sinks tell their bytes; what it says of counts holds for every source and sink. A count
@@ -107,8 +109,8 @@ pub fn run_all<P: Source, S: Source, O: Sink, E: Sink>(
         (input.new ≡ input.old) × (out.new ≡ out.old) }
     ensures nothing_first { ComesFirst result → (input.new ≡ input.old) × (out.new ≡ out.old) }
 
-    // A run that shows the pattern's text, or makes its trace, reads no input, and only a watch
-    // reads a file of checks.
+    // A run that shows the pattern's text, or makes its trace, reads no input, and only one whose
+    // words name a file of checks reads that.
     ensures source_untouched { (job : Job) → Gives words.now job → ¬ ReadsInput job.mode →
         input.new ≡ input.old }
     ensures checks_untouched { ((job : Job) → Gives words.now job → ¬ ReadsChecks job.mode) →
@@ -123,7 +125,7 @@ pub fn run_all<P: Source, S: Source, O: Sink, E: Sink>(
     ensures input { (job : Job) → Gives words.now job → IsFrontOf (λ name. name ≡ job.input)
         (job.max_bytes + 1) (input_told (S.told input.old) (S.told input.new)) }
     ensures file { IsFrontOf (λ name. (job : Job) (file : List ℕ) → Gives words.now job →
-        job.mode ≡ Watch file → name ≡ file) (FILE_MAX + 1)
+        file_of job.mode ≡ Some file → name ≡ file) (FILE_MAX + 1)
         (input_told (P.told checks.old) (P.told checks.new)) }
 {
     let status = ending(run_words(alloc, words, checks, input, out));

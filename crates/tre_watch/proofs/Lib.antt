@@ -1,11 +1,11 @@
--- the front of some bytes that passes a test, and what stands behind it
-pub mod Fronts
--- where a check stands on a line
-pub mod Checks
--- what becomes of a file
+-- that a line says one thing
+pub mod Saying
+-- that it says something
+pub mod Standing
+-- what becomes of a file: one thing
 pub mod Outcomes
--- what is answered of one check
-pub mod Answering
+-- what lines lead to
+pub mod Lines
 -- that something becomes of every file
 pub mod Existence
 -- that nothing is refused for want of memory

@@ -1,346 +1,257 @@
--- What becomes of a file: it is one thing, and what the lines lead to.
-use Rattle.std.proofs.Common.{◌≡◌, ℕ, ◌+◌, ◌<◌, ◌≤◌, ◌⊎◌, ◌≢◌, ◌↔◌, IsTrue, Bool, true, false, nat_le, nat_lt, MatchBool, is_some, List, [], ◌∷◌, ◌++◌, length, get_or, take, drop, Result, Ok, Err, refl, sym, subst, ◌∙◌, inl, inr, ⊎_elim, arith}
-use Rattle.std.proofs.lemmas.Bool.{cases_lt}
-use Rattle.std.proofs.lemmas.Bool.Decides.{nat_tests}
-use Rattle.std.proofs.lemmas.List.{length_push}
-use Rattle.std.proofs.lemmas.List.Elements.{All-from_get_or}
-use Rattle.std.proofs.lemmas.List.Splits.{slice_split_none, slice_split_first}
-use Rattle.std.proofs.lemmas.List.Sums.{position_or_len_is}
+-- What becomes of a file: it is one thing.
+use Rattle.std.proofs.Common.{◌≡◌, ℕ, ◌+◌, Bool, true, false, nat_le, nat_lt, MatchBool, is_some, List, [], ◌∷◌, ◌++◌, length, refl, sym, ap, subst, ◌∙◌, inl, inr, ⊎_elim}
 use Rattle.std.specs.Char.{is_newline}
-use Rattle.std.specs.List.{slice_split, position_or_len}
-use Rattle.memchr.specs.Find.{is_byte, Passes, Nowhere, NoneBefore}
+use Rattle.std.specs.List.{AllZip, slice_split}
+use Rattle.tre_define.specs.Signals.{SignalDefined, name_of_signal, Spells as SpellsSignal}
+use Rattle.tre_define.specs.Texts.{PartHasFault, named}
+use Rattle.tre_define.specs.declared.let_fault.LetFault.{LetFault}
+use Rattle.tre_define.specs.declared.let_fault.LetFault.TheVariants.{BadLet, Twice as DefinedTwice, Memory as LetMemory}
+use Rattle.tre_define.proofs.OneSignals.{same-definitions as same-signals}
+use Rattle.tre_num.specs.Defined.{name_of_let}
+use Rattle.tre_num.specs.Definitions.{Spells as SpellsColumn}
+use Rattle.tre_num.proofs.OneReading.{same-definition as same-column}
 use Rattle.tre_state.specs.Names.{place_of}
 use Rattle.tre_state.specs.declared.names.TheConstants.{NAMES_MAX}
-use Rattle.tre_parse.specs.Outcome.{Outcome as Parsed, spelt, refused, IsOutcome as ParsesTo}
+use Rattle.tre_parse.specs.Outcome.{spelt, refused, IsOutcome as ParsesTo}
+use Rattle.tre_parse.specs.declared.fault.ParseFault.{ParseFault}
 use Rattle.tre_parse.proofs.Outcomes.{outcome_once}
 use Rattle.tre_watch.specs.declared.fault.WatchFault.{WatchFault}
-use Rattle.tre_watch.specs.declared.fault.WatchFault.TheVariants.{TooLarge, BadLine, TooMany, Twice, Pattern, Empty, Memory}
-use Rattle.tre_watch.specs.declared.plan.Plan.{Plan}
+use Rattle.tre_watch.specs.declared.fault.WatchFault.TheVariants.{TooLarge, BadLine, TooMany, Twice, Pattern}
 use Rattle.tre_watch.specs.declared.reader.TheConstants.{FILE_MAX}
-use Rattle.tre_parse.specs.declared.fault.ParseFault.{ParseFault}
-use Rattle.tre_parse.specs.declared.fault.ParseFault.TheVariants.{Memory as ParseMemory}
-use Rattle.tre_watch.specs.Steps.{AnswersPlan, LineLeads, LineStops}
-use Rattle.tre_watch.specs.Lines.{content_of, Said, silence, mistake, check, Says}
-use Rattle.tre_watch.specs.Outcome.{SpeltPattern, Outcome, planned, faulty, AfterText, Follows, ended, IsOutcomeFrom, IsOutcome}
-use Rattle.tre_watch.proofs.Checks.{check_once as one_check}
+use Rattle.tre_watch.specs.Lines.{Said, check, definition, mistake, silence}
+use Rattle.tre_watch.specs.Outcome.{AfterLet, AfterTexts, ComesTo, Defines, Follows, GoesBehind, HasFirstFault, HasLetFault, IsOutcome, IsOutcomeFrom, Kind, Known, Outcome, SpeltChecks, SpeltPattern, SpellsPattern, columns, faulty, judged, let_fault, may_stand, no_checks, nothing, signals, watched, with_check, with_known}
+use Rattle.tre_watch.proofs.Saying.{says_once}
 
--- ---- at most one
+-- ---- texts
 
-apart : {A : Type 0} (t : Bool) → t ≡ true → t ≡ false → A
-apart t one other = absurd (cc)
+pattern_once : (scale : ℕ) (text : List ℕ) (one other : SpeltPattern) → SpellsPattern scale text one
+    → SpellsPattern scale text other → one ≡ other
+pattern_once scale text one other first second =
+    let same = outcome_once scale text (spelt one.tree one.names) (spelt other.tree other.names)
+    first second in
+    let tree : one.tree ≡ other.tree = cc in
+    let names : one.names ≡ other.names = cc in
+    ap (λ t. record { tree = t; names = one.names }) tree
+    ∙ ap (λ n. record { tree = other.tree; names = n }) names
 
-says_once : (line : List ℕ) (one other : Said) → Says line one → Says line other → one ≡ other
-says_once line silence silence one two = refl
-says_once line silence mistake one two = apart _ one two.0
-says_once line silence (check name text) one two = apart _ one two.0
-says_once line mistake silence one two = apart _ two one.0
-says_once line mistake mistake one two = refl
-says_once line mistake (check name text) one two =
-    absurd (one.1 name text two.1)
-says_once line (check name text) silence one two = apart _ two one.0
-says_once line (check name text) mistake one two =
-    absurd (two.1 name text one.1)
-says_once line (check name text) (check other others) one two =
-    let same = one_check (content_of line) name text other others one.1 two.1 in
-    let e = same.0 in
-    let f = same.1 in
+patterns_once : (scale : ℕ) (texts : List (List ℕ)) (one other : List SpeltPattern)
+    → AllZip (SpellsPattern scale) texts one → AllZip (SpellsPattern scale) texts other
+    → one ≡ other
+patterns_once scale [] [] [] first second = refl
+patterns_once scale [] [] (pattern ∷ other) first second = absurd second
+patterns_once scale [] (pattern ∷ one) other first second = absurd first
+patterns_once scale (text ∷ texts) [] other first second = absurd first
+patterns_once scale (text ∷ texts) (pattern ∷ one) [] first second = absurd second
+patterns_once scale (text ∷ texts) (pattern ∷ one) (pattern' ∷ other) first second =
+    ap (λ p. p ∷ one) (pattern_once scale text pattern pattern' first.0 second.0)
+    ∙ ap (λ ps. pattern' ∷ ps) (patterns_once scale texts one other first.1 second.1)
+
+spelt_or_refused : (scale : ℕ) (text : List ℕ) (pattern : SpeltPattern) (fault : ParseFault)
+    → SpellsPattern scale text pattern → ParsesTo scale text (refused fault) → ⊥
+spelt_or_refused scale text pattern fault spells refuses =
+    let same = outcome_once scale text (spelt pattern.tree pattern.names) (refused fault) spells
+    refuses in
+    absurd (cc)
+
+patterns_or_fault : (scale : ℕ) (texts : List (List ℕ)) (patterns : List SpeltPattern)
+    (fault : ParseFault) → AllZip (SpellsPattern scale) texts patterns
+    → HasFirstFault scale texts fault → ⊥
+patterns_or_fault scale [] patterns fault spell has = has
+patterns_or_fault scale (text ∷ texts) [] fault spell has = spell
+patterns_or_fault scale (text ∷ texts) (pattern ∷ patterns) fault spell has =
+    ⊎_elim
+    (λ refuses. spelt_or_refused scale text pattern fault spell.0 refuses)
+    (λ later. patterns_or_fault scale texts patterns fault spell.1 later.2)
+    has
+
+fault_once : (scale : ℕ) (texts : List (List ℕ)) (one other : ParseFault)
+    → HasFirstFault scale texts one → HasFirstFault scale texts other → one ≡ other
+fault_once scale [] one other first second = absurd first
+fault_once scale (text ∷ texts) one other (inl here) (inl there) =
+    let same = outcome_once scale text (refused one) (refused other) here there in
+    cc
+fault_once scale (text ∷ texts) one other (inl here) (inr there) =
+    absurd (spelt_or_refused scale text there.0 one there.1 here)
+fault_once scale (text ∷ texts) one other (inr here) (inl there) =
+    absurd (spelt_or_refused scale text here.0 other here.1 there)
+fault_once scale (text ∷ texts) one other (inr here) (inr there) =
+    fault_once scale texts one other here.2 there.2
+
+-- ---- definitions
+
+signal_once : (text : List ℕ) (one other : SignalDefined) → SpellsSignal text one
+    → SpellsSignal text other → one ≡ other
+signal_once text one other first second =
+    let same = same-signals (text ∷ []) (one ∷ []) (other ∷ []) (first, tt) (second, tt) in
     cc
 
-module _ (scale number : ℕ) (one other : Outcome) where
-  after_once : (parsed : Parsed) (On On' : SpeltPattern → Type 0)
-      → ((pattern : SpeltPattern) → On pattern → On' pattern → one ≡ other)
-      → AfterText parsed number one On → AfterText parsed number other On' → one ≡ other
-  after_once (refused fault) On On' once first second = first ∙ sym second
-  after_once (spelt tree names) On On' once first second =
-      once (record { tree = tree; names = names }) first second
+module _ {D : Type 0} (Spells : List ℕ → D → Type 0) (name_of : D → List ℕ)
+    (once : (text : List ℕ) (one other : D) → Spells text one → Spells text other → one ≡ other)
+    (text : List ℕ) (old : List D) where
+  behind_once : (new others : List D) → GoesBehind Spells name_of text old new
+      → GoesBehind Spells name_of text old others → new ≡ others
+  behind_once new others one two =
+      one.3 ∙ (ap (λ (d : D). old ++ d ∷ []) (once text one.0 two.0 one.1 two.1) ∙ sym two.3)
 
-  check_once : (full there : Bool) (text : List ℕ) (On On' : SpeltPattern → Type 0)
-      → ((pattern : SpeltPattern) → On pattern → On' pattern → one ≡ other)
-      → MatchBool full (one ≡ faulty (TooMany number))
-      (MatchBool there (one ≡ faulty (Twice number))
-      ((parsed : Parsed) × ParsesTo scale text parsed × AfterText parsed number one On))
-      → MatchBool full (other ≡ faulty (TooMany number))
-      (MatchBool there (other ≡ faulty (Twice number))
-      ((parsed : Parsed) × ParsesTo scale text parsed × AfterText parsed number other On'))
+  behind_or_fault : (new : List D) (why : LetFault) (at : ℕ)
+      → GoesBehind Spells name_of text old new → PartHasFault Spells name_of old at text why → ⊥
+  behind_or_fault new (BadLet n) at one bad = bad.1 one.0 one.1
+  behind_or_fault new (DefinedTwice n) at one bad =
+      bad.1.2 (ap (λ (d : D). named name_of old (name_of d)) (once text bad.1.0 one.0 bad.1.1 one.1)
+      ∙ one.2)
+  behind_or_fault new LetMemory at one bad = bad
+
+  let_fault_once : (one other : LetFault) (at number : ℕ) → PartHasFault Spells name_of old at text one
+      → PartHasFault Spells name_of old at text other
+      → let_fault number one ≡ let_fault number other
+  let_fault_once (BadLet n) (BadLet m) at number one two = refl
+  let_fault_once (DefinedTwice n) (DefinedTwice m) at number one two = refl
+  let_fault_once (BadLet n) (DefinedTwice m) at number one two = absurd (one.1 two.1.0 two.1.1)
+  let_fault_once (DefinedTwice n) (BadLet m) at number one two = absurd (two.1 one.1.0 one.1.1)
+  let_fault_once LetMemory other at number one two = absurd one
+  let_fault_once other LetMemory at number one two = absurd two
+
+defines_once : (text : List ℕ) (old new other : Known) → Defines text old new
+    → Defines text old other → new ≡ other
+defines_once text (signals old) (signals new) (signals other) one two =
+    ap signals (behind_once SpellsSignal name_of_signal signal_once text old new other one two)
+defines_once text (columns old) (columns new) (columns other) one two =
+    ap columns (behind_once SpellsColumn name_of_let same-column text old new other one two)
+defines_once text nothing new other one two = absurd one
+defines_once text (signals old) (signals new) nothing one two = absurd two
+defines_once text (signals old) (signals new) (columns other) one two = absurd two
+defines_once text (signals old) nothing other one two = absurd one
+defines_once text (signals old) (columns new) other one two = absurd one
+defines_once text (columns old) (columns new) nothing one two = absurd two
+defines_once text (columns old) (columns new) (signals other) one two = absurd two
+defines_once text (columns old) nothing other one two = absurd one
+defines_once text (columns old) (signals new) other one two = absurd one
+
+defines_or_fault : (text : List ℕ) (number : ℕ) (old new : Known) (fault : WatchFault)
+    → Defines text old new → HasLetFault number text old fault → ⊥
+defines_or_fault text number (signals old) (signals new) fault one bad =
+    behind_or_fault SpellsSignal name_of_signal signal_once text old new bad.0 (length old + 1) one
+    bad.1
+defines_or_fault text number (columns old) (columns new) fault one bad =
+    behind_or_fault SpellsColumn name_of_let same-column text old new bad.0 (length old + 1) one
+    bad.1
+defines_or_fault text number nothing new fault one bad = one
+defines_or_fault text number (signals old) nothing fault one bad = one
+defines_or_fault text number (signals old) (columns new) fault one bad = one
+defines_or_fault text number (columns old) nothing fault one bad = one
+defines_or_fault text number (columns old) (signals new) fault one bad = one
+
+let_once : (text : List ℕ) (number : ℕ) (old : Known) (one other : WatchFault)
+    → HasLetFault number text old one → HasLetFault number text old other → one ≡ other
+let_once text number nothing one other first second = first ∙ sym second
+let_once text number (signals old) one other first second =
+    first.2 ∙ (let_fault_once SpellsSignal name_of_signal signal_once text old first.0 second.0
+    (length old + 1) number first.1 second.1 ∙ sym second.2)
+let_once text number (columns old) one other first second =
+    first.2 ∙ (let_fault_once SpellsColumn name_of_let same-column text old first.0 second.0
+    (length old + 1) number first.1 second.1 ∙ sym second.2)
+
+-- ---- lines
+
+module _ (verdicts : Bool) (scale number : ℕ) (one other : Outcome) where
+  after_once : (texts : List (List ℕ)) (On On' : List SpeltPattern → Type 0)
+      → ((patterns : List SpeltPattern) → On patterns → On' patterns → one ≡ other)
+      → AfterTexts scale texts number one On → AfterTexts scale texts number other On'
       → one ≡ other
-  check_once true there text On On' once first second = first ∙ sym second
-  check_once false true text On On' once first second = first ∙ sym second
-  check_once false false text On On' once first second =
-      after_once first.0 On On' once first.2
-      (subst (λ (parsed : Parsed). AfterText parsed number other On')
-      (sym (outcome_once scale text first.0 second.0 first.1 second.1)) second.2)
+  after_once texts On On' once (inl first) (inl second) =
+      once second.0
+      (subst On (patterns_once scale texts first.0 second.0 first.1 second.1) first.2) second.2
+  after_once texts On On' once (inl first) (inr second) =
+      absurd (patterns_or_fault scale texts first.0 second.0 first.1 second.1)
+  after_once texts On On' once (inr first) (inl second) =
+      absurd (patterns_or_fault scale texts second.0 first.0 second.1 first.1)
+  after_once texts On On' once (inr first) (inr second) =
+      first.2 ∙ (ap (λ fault. faulty (Pattern number fault))
+      (fault_once scale texts first.0 second.0 first.1 second.1) ∙ sym second.2)
 
-  follows_once : (said : Said) (names : List (List ℕ)) (patterns : List SpeltPattern)
-      (On On' : List (List ℕ) → List SpeltPattern → Type 0)
-      → ((names : List (List ℕ)) (patterns : List SpeltPattern) → On names patterns
-      → On' names patterns → one ≡ other)
-      → Follows scale said names patterns number one On
-      → Follows scale said names patterns number other On'
+  known_once : (known : Known) (text : List ℕ) (On On' : Known → Type 0)
+      → ((known : Known) → On known → On' known → one ≡ other)
+      → AfterLet known text number one On → AfterLet known text number other On' → one ≡ other
+  known_once known text On On' once (inl first) (inl second) =
+      once second.0
+      (subst On (defines_once text known first.0 second.0 first.1 second.1) first.2) second.2
+  known_once known text On On' once (inl first) (inr second) =
+      absurd (defines_or_fault text number known first.0 second.0 first.1 second.1)
+  known_once known text On On' once (inr first) (inl second) =
+      absurd (defines_or_fault text number known second.0 first.0 second.1 first.1)
+  known_once known text On On' once (inr first) (inr second) =
+      first.2 ∙ (ap faulty (let_once text number known first.0 second.0 first.1 second.1)
+      ∙ sym second.2)
+
+  check_once : (may full there : Bool) (texts : List (List ℕ)) (On On' : List SpeltPattern → Type 0)
+      → ((patterns : List SpeltPattern) → On patterns → On' patterns → one ≡ other)
+      → MatchBool may (MatchBool full (one ≡ faulty (TooMany number))
+      (MatchBool there (one ≡ faulty (Twice number)) (AfterTexts scale texts number one On)))
+      (one ≡ faulty (BadLine number))
+      → MatchBool may (MatchBool full (other ≡ faulty (TooMany number))
+      (MatchBool there (other ≡ faulty (Twice number)) (AfterTexts scale texts number other On')))
+      (other ≡ faulty (BadLine number))
       → one ≡ other
-  follows_once silence names patterns On On' once first second = once names patterns first second
-  follows_once mistake names patterns On On' once first second = first ∙ sym second
-  follows_once (check name text) names patterns On On' once first second =
-      check_once (nat_le NAMES_MAX (length names)) (is_some (place_of names name)) text
-      (λ pattern. On (names ++ name ∷ []) (patterns ++ pattern ∷ []))
-      (λ pattern. On' (names ++ name ∷ []) (patterns ++ pattern ∷ []))
-      (λ pattern. once (names ++ name ∷ []) (patterns ++ pattern ∷ [])) first second
+  check_once false full there texts On On' once first second = first ∙ sym second
+  check_once true true there texts On On' once first second = first ∙ sym second
+  check_once true false true texts On On' once first second = first ∙ sym second
+  check_once true false false texts On On' once first second =
+      after_once texts On On' once first second
 
-lines_once : (scale : ℕ) (lines : List (List ℕ)) (names : List (List ℕ))
-    (patterns : List SpeltPattern)
-    (number : ℕ) (one other : Outcome) → IsOutcomeFrom scale names patterns number lines one
-    → IsOutcomeFrom scale names patterns number lines other → one ≡ other
+  follows_once : (said : Said) (checks : SpeltChecks) (On On' : SpeltChecks → Type 0)
+      → ((checks : SpeltChecks) → On checks → On' checks → one ≡ other)
+      → Follows verdicts scale said checks number one On
+      → Follows verdicts scale said checks number other On' → one ≡ other
+  follows_once silence checks On On' once first second = once checks first second
+  follows_once mistake checks On On' once first second = first ∙ sym second
+  follows_once (check form name texts) checks On On' once first second =
+      check_once (may_stand verdicts form) (nat_le NAMES_MAX (length checks.names))
+      (is_some (place_of checks.names name)) texts
+      (λ patterns. On (with_check checks form name patterns))
+      (λ patterns. On' (with_check checks form name patterns))
+      (λ patterns. once (with_check checks form name patterns)) first second
+  follows_once (definition text) checks On On' once first second =
+      known_once checks.known text (λ known. On (with_known checks known))
+      (λ known. On' (with_known checks known)) (λ known. once (with_known checks known)) first
+      second
+
+lines_once : (verdicts : Bool) (scale : ℕ) (lines : List (List ℕ)) (checks : SpeltChecks)
+    (number : ℕ) (one other : Outcome) → IsOutcomeFrom verdicts scale checks number lines one
+    → IsOutcomeFrom verdicts scale checks number lines other → one ≡ other
 unfolding IsOutcomeFrom
-lines_once scale [] names patterns number one other first second = first ∙ sym second
-lines_once scale (line ∷ lines) names patterns number one other first second =
+lines_once verdicts scale [] checks number one other first second = first ∙ sym second
+lines_once verdicts scale (line ∷ lines) checks number one other first second =
     let same = says_once line first.0 second.0 first.1 second.1 in
-    follows_once scale number one other first.0 names patterns
-    (λ names patterns. IsOutcomeFrom scale names patterns (number + 1) lines one)
-    (λ names patterns. IsOutcomeFrom scale names patterns (number + 1) lines other)
-    (λ names patterns. lines_once scale lines names patterns (number + 1) one other)
+    follows_once verdicts scale number one other first.0 checks
+    (λ checks. IsOutcomeFrom verdicts scale checks (number + 1) lines one)
+    (λ checks. IsOutcomeFrom verdicts scale checks (number + 1) lines other)
+    (λ checks. lines_once verdicts scale lines checks (number + 1) one other)
     first.2
-    (subst (λ (said : Said). Follows scale said names patterns number other
-    (λ names patterns. IsOutcomeFrom scale names patterns (number + 1) lines other)) (sym same)
+    (subst (λ (said : Said). Follows verdicts scale said checks number other
+    (λ checks. IsOutcomeFrom verdicts scale checks (number + 1) lines other)) (sym same)
     second.2)
 
-file_once : (scale : ℕ) (large : Bool) (bytes : List ℕ) (one other : Outcome)
+file_once : (verdicts : Bool) (known : Known) (scale : ℕ) (large : Bool) (bytes : List ℕ)
+    (one other : Outcome)
     → MatchBool large (one ≡ faulty TooLarge)
-    (IsOutcomeFrom scale [] [] 1 (slice_split is_newline bytes) one)
+    (IsOutcomeFrom verdicts scale (no_checks known) 1 (slice_split is_newline bytes) one)
     → MatchBool large (other ≡ faulty TooLarge)
-    (IsOutcomeFrom scale [] [] 1 (slice_split is_newline bytes) other)
+    (IsOutcomeFrom verdicts scale (no_checks known) 1 (slice_split is_newline bytes) other)
     → one ≡ other
-file_once scale true bytes one other first second = first ∙ sym second
-file_once scale false bytes one other first second =
-    lines_once scale (slice_split is_newline bytes) [] [] 1 one other first second
+file_once verdicts known scale true bytes one other first second = first ∙ sym second
+file_once verdicts known scale false bytes one other first second =
+    lines_once verdicts scale (slice_split is_newline bytes) (no_checks known) 1 one other first
+    second
 
-pub one_outcome : (scale : ℕ) (bytes : List ℕ) (one other : Outcome) → IsOutcome scale bytes one
-    → IsOutcome scale bytes other → one ≡ other
-one_outcome scale bytes one other first second =
-    file_once scale (nat_lt FILE_MAX (length bytes)) bytes one other first second
+pub comes_once : (verdicts : Bool) (known : Known) (scale : ℕ) (bytes : List ℕ)
+    (one other : Outcome) → ComesTo verdicts known scale bytes one
+    → ComesTo verdicts known scale bytes other → one ≡ other
+comes_once verdicts known scale bytes one other first second =
+    file_once verdicts known scale (nat_lt FILE_MAX (length bytes)) bytes one other first second
 
--- ---- one line
-
-at_true : (test : Bool) (Then Else : Type 0) → test ≡ true → Then → MatchBool test Then Else
-at_true true Then Else e is = is
-at_true false Then Else e is = absurd (cc)
-
-at_false : (test : Bool) (Then Else : Type 0) → test ≡ false → Else → MatchBool test Then Else
-at_false true Then Else e is = absurd (cc)
-at_false false Then Else e is = is
-
-is_full : (names : List (List ℕ)) → NAMES_MAX ≤ length names
-    → nat_le NAMES_MAX (length names) ≡ true
-is_full names many = grind (arith, nat_tests)
-
-has_room : (names : List (List ℕ)) → length names < NAMES_MAX
-    → nat_le NAMES_MAX (length names) ≡ false
-has_room names few = grind (arith, nat_tests)
-
-module _ (scale number : ℕ) (line : List ℕ) (names : List (List ℕ)) (patterns : List SpeltPattern)
-  where
-    pub leads_silence : Says line silence → LineLeads scale number line names patterns names patterns
-    unfolding IsOutcomeFrom
-    leads_silence says = record {
-      on = λ lines outcome rest. (silence, says, rest);
-      paired = λ e. e;
-    }
-
-    pub stops_mistake : Says line mistake → LineStops scale number line names patterns (BadLine number)
-    unfolding IsOutcomeFrom
-    stops_mistake says = record {
-      why = inr (λ lines. (mistake, says, refl));
-      never_memory = tt;
-    }
-
-    pub stops_memory : (fault : WatchFault) → fault ≡ Memory
-        → LineStops scale number line names patterns fault
-    stops_memory fault e = record { why = inl e; never_memory = rw e tt }
-
-    module _ (name text : List ℕ) (says : Says line (check name text)) where
-      pub stops_many : NAMES_MAX ≤ length names → LineStops scale number line names patterns
-          (TooMany number)
-      unfolding IsOutcomeFrom
-      stops_many many = record {
-        why = inr (λ lines. (
-          check name text,
-          says,
-          at_true (nat_le NAMES_MAX (length names)) _ _ (is_full names many) refl,
-        ));
-        never_memory = tt;
-      }
-
-      pub stops_twice : length names < NAMES_MAX → is_some (place_of names name) ≡ true
-          → LineStops scale number line names patterns (Twice number)
-      unfolding IsOutcomeFrom
-      stops_twice few there = record {
-        why = inr (λ lines. (
-          check name text,
-          says,
-          at_false (nat_le NAMES_MAX (length names)) _ _ (has_room names few)
-              (at_true (is_some (place_of names name)) _ _ there refl),
-        ));
-        never_memory = tt;
-      }
-
-      pub stops_text : length names < NAMES_MAX → is_some (place_of names name) ≡ false
-          → (fault : ParseFault) → ParsesTo scale text (refused fault) → fault ≢ ParseMemory
-          → LineStops scale number line names patterns (Pattern number fault)
-      unfolding IsOutcomeFrom
-      stops_text few none fault parses other = record {
-        why = inr (λ lines. (
-          check name text,
-          says,
-          at_false (nat_le NAMES_MAX (length names)) _ _ (has_room names few)
-              (at_false (is_some (place_of names name)) _ _ none
-              (refused fault, parses, refl)),
-        ));
-        never_memory = other;
-      }
-
-      pub leads_check : length names < NAMES_MAX → is_some (place_of names name) ≡ false
-          → (pattern : SpeltPattern) → ParsesTo scale text (spelt pattern.tree pattern.names)
-          → LineLeads scale number line names patterns (names ++ name ∷ []) (patterns ++ pattern ∷ [])
-      unfolding IsOutcomeFrom
-      leads_check few none pattern parses = record {
-        on = λ lines outcome rest. (
-          check name text,
-          says,
-          at_false (nat_le NAMES_MAX (length names)) _ _ (has_room names few)
-              (at_false (is_some (place_of names name)) _ _ none
-              (spelt pattern.tree pattern.names, parses, rest)),
-        );
-        paired = λ e. omega (arith, length_push names name, length_push patterns pattern);
-      }
-
--- ---- all lines
-
-not_true : (t : Bool) → (t ≡ true → ⊥) → t ≡ false
-not_true true never = absurd (never refl)
-not_true false never = refl
-
-lines_next : (rest : List ℕ) (end : ℕ)
-    → NoneBefore (Passes (is_byte 10) rest) 0 (length rest) end → Passes (is_byte 10) rest end
-    → slice_split is_newline rest
-    ≡ take end rest ∷ slice_split is_newline (drop (end + 1) rest)
-lines_next rest end before at =
-    let high = before.high in
-    let place : position_or_len is_newline rest ≡ end =
-    position_or_len_is is_newline rest end 0 (omega arith)
-    (λ k below. not_true (is_newline (get_or rest k 0)) (before.before k (omega arith) below))
-    (λ _. at) in
-    let split = slice_split_first is_newline rest 0 (omega arith) in
-    rw place at split
-
-lines_last : (rest : List ℕ) → Nowhere (Passes (is_byte 10) rest) 0 (length rest)
-    → slice_split is_newline rest ≡ rest ∷ []
-lines_last rest none =
-    slice_split_none is_newline rest
-    (All-from_get_or (λ byte. is_newline byte ≡ false) rest 0
-    (λ k below. not_true (is_newline (get_or rest k 0)) (none k (omega arith) below)))
-
--- What becomes of the rest of the file with these checks becomes of the file.
-pub record Reaches (scale : ℕ) (bytes : List ℕ) (names : List (List ℕ))
-    (patterns : List SpeltPattern) (number : ℕ) (rest : List ℕ) : Type 0 where
-  pub on : (outcome : Outcome)
-      → IsOutcomeFrom scale names patterns number (slice_split is_newline rest) outcome
-      → IsOutcomeFrom scale [] [] 1 (slice_split is_newline bytes) outcome
-  pub paired : length names ≡ length patterns
-
-pub Reaches-start : (scale : ℕ) (bytes : List ℕ) → Reaches scale bytes [] [] 1 bytes
-Reaches-start scale bytes = record { on = λ outcome h. h; paired = refl }
-
-module _ (scale : ℕ) (bytes : List ℕ) (names : List (List ℕ)) (patterns : List SpeltPattern)
-    (number : ℕ) (rest : List ℕ) (reaches : Reaches scale bytes names patterns number rest) where
-  pub Reaches-next : (end : ℕ) → NoneBefore (Passes (is_byte 10) rest) 0 (length rest) end
-      → Passes (is_byte 10) rest end → (new_names : List (List ℕ))
-      (new_patterns : List SpeltPattern)
-      → LineLeads scale number (take end rest) names patterns new_names new_patterns
-      → Reaches scale bytes new_names new_patterns (number + 1) (drop (end + 1) rest)
-  Reaches-next end before at new_names new_patterns leads = record {
-    on = λ outcome h. reaches.on outcome
-        (subst (λ (lines : List (List ℕ)). IsOutcomeFrom scale names patterns number lines outcome)
-        (sym (lines_next rest end before at))
-        (leads.on (slice_split is_newline (drop (end + 1) rest)) outcome h));
-    paired = leads.paired reaches.paired;
-  }
-
-  pub Reaches-stop : (end : ℕ) → NoneBefore (Passes (is_byte 10) rest) 0 (length rest) end
-      → Passes (is_byte 10) rest end → (fault : WatchFault)
-      → LineStops scale number (take end rest) names patterns fault
-      → (fault ≡ Memory)
-      ⊎ IsOutcomeFrom scale [] [] 1 (slice_split is_newline bytes) (faulty fault)
-  Reaches-stop end before at fault stops =
-      ⊎_elim (λ e. inl e)
-      (λ why. inr (reaches.on (faulty fault)
-      (subst (λ (lines : List (List ℕ)). IsOutcomeFrom scale names patterns number lines
-      (faulty fault))
-      (sym (lines_next rest end before at))
-      (why (slice_split is_newline (drop (end + 1) rest))))))
-      stops.why
-
-  pub Reaches-last_stop : Nowhere (Passes (is_byte 10) rest) 0 (length rest)
-      → (fault : WatchFault) → LineStops scale number rest names patterns fault
-      → (fault ≡ Memory)
-      ⊎ IsOutcomeFrom scale [] [] 1 (slice_split is_newline bytes) (faulty fault)
-  Reaches-last_stop none fault stops =
-      ⊎_elim (λ e. inl e)
-      (λ why. inr (reaches.on (faulty fault)
-      (subst (λ (lines : List (List ℕ)). IsOutcomeFrom scale names patterns number lines
-      (faulty fault))
-      (sym (lines_last rest none)) (why []))))
-      stops.why
-
-  pub Reaches-end : Nowhere (Passes (is_byte 10) rest) 0 (length rest)
-      → (new_names : List (List ℕ)) (new_patterns : List SpeltPattern)
-      → LineLeads scale number rest names patterns new_names new_patterns
-      → IsOutcomeFrom scale [] [] 1 (slice_split is_newline bytes) (ended new_names new_patterns)
-  unfolding IsOutcomeFrom
-  Reaches-end none new_names new_patterns leads =
-      reaches.on (ended new_names new_patterns)
-      (subst (λ (lines : List (List ℕ)).
-      IsOutcomeFrom scale names patterns number lines (ended new_names new_patterns))
-      (sym (lines_last rest none)) (leads.on [] (ended new_names new_patterns) refl))
-
-pub ended_empty : (names : List (List ℕ)) (patterns : List SpeltPattern) → names ≡ []
-    → ended names patterns ≡ faulty Empty
-ended_empty names patterns none = rw none refl
-
-pub ended_some : (names : List (List ℕ)) (patterns : List SpeltPattern) → (names ≡ [] → ⊥)
-    → ended names patterns ≡ planned names patterns
-ended_some [] patterns some = absurd (some refl)
-ended_some (name ∷ names) patterns some = refl
-
--- ---- the answer
-
-small_file : (scale : ℕ) (large : Bool) (bytes : List ℕ) (outcome : Outcome) → large ≡ false
-    → IsOutcomeFrom scale [] [] 1 (slice_split is_newline bytes) outcome
-    → MatchBool large (outcome ≡ faulty TooLarge)
-    (IsOutcomeFrom scale [] [] 1 (slice_split is_newline bytes) outcome)
-small_file scale true bytes outcome e is = absurd (cc)
-small_file scale false bytes outcome e is = is
-
-not_large : (bytes : List ℕ) → length bytes ≤ FILE_MAX
-    → nat_lt FILE_MAX (length bytes) ≡ false
-not_large bytes small = grind (arith, nat_tests)
-
-pub answers_file : (scale : ℕ) (bytes : List ℕ) → length bytes ≤ FILE_MAX
-    → (answer : Result Plan WatchFault)
-    → AnswersPlan (IsOutcomeFrom scale [] [] 1 (slice_split is_newline bytes)) answer
-    → AnswersPlan (IsOutcome scale bytes) answer
-answers_file scale bytes small (Ok plan) is =
-    small_file scale (nat_lt FILE_MAX (length bytes)) bytes _ (not_large bytes small) is
-answers_file scale bytes small (Err fault) is =
-    ⊎_elim (λ e. inl e)
-    (λ h. inr (small_file scale (nat_lt FILE_MAX (length bytes)) bytes (faulty fault)
-    (not_large bytes small) h)) is
-
--- A test for more that says no.
-pub at_most : (t : Bool) (most count : ℕ) → t ≡ false → IsTrue t ↔ (most < count) → count ≤ most
-at_most t most count e is =
-    ⊎_elim (λ lt. let told = is.1 lt in absurd (cc)) (λ le. le) (cases_lt most count)
-
-pub answers_only : (scale : ℕ) (bytes : List ℕ) (answer : Result Plan WatchFault)
-    → AnswersPlan (IsOutcome scale bytes) answer → (outcome : Outcome) → IsOutcome scale bytes outcome
-    → AnswersPlan (λ other. outcome ≡ other) answer
-answers_only scale bytes (Ok plan) is outcome other = one_outcome scale bytes outcome _ other is
-answers_only scale bytes (Err fault) is outcome other =
-    ⊎_elim (λ e. inl e) (λ h. inr (one_outcome scale bytes outcome (faulty fault) other h)) is
+pub one_outcome : (kind : Kind) (scale : ℕ) (bytes : List ℕ) (one other : Outcome)
+    → IsOutcome kind scale bytes one → IsOutcome kind scale bytes other → one ≡ other
+one_outcome watched scale bytes one other first second =
+    comes_once false nothing scale bytes one other first second
+one_outcome (judged known) scale bytes one other first second =
+    comes_once true known scale bytes one other first second

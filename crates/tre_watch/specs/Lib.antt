@@ -1,4 +1,5 @@
--- What a reader must believe: what a line of a plan says, and what becomes of a file.
+-- What a reader must believe: what a line of a file of checks says, and what becomes of the file.
+pub mod Forms
 pub mod Lines
 pub mod Outcome
 -- What the functions inside promise each other.

@@ -1,24 +1,30 @@
-//! A plan: a file of named patterns, which are to be watched at once.
+//! Files of named patterns: those that are to be watched at once, and those that are to be judged.
 //!
-//! [`read_plan`] reads the bytes of such a file. Each line is blank, a comment, or a check: a name,
-//! `=` and a pattern. The layers above may rely on `IsOutcome` (specs/Outcome.antt), which says for
-//! every file and scale what becomes of it: it has one outcome, and `read_plan` answers that or
-//! `Memory`.
+//! Each line of such a file is blank, a comment, a definition or a check. [`read_plan`] reads the
+//! bytes of a file that is to be watched, in which each check is a name, `=` and a pattern;
+//! [`read_checks`] one that is to be judged, in which checks of all [`Form`]s stand, and one that
+//! has a verdict at least. The layers above may rely on `IsOutcome` (specs/Outcome.antt), which
+//! says for every file of both kinds and every scale what becomes of it: it has one outcome, and
+//! that is answered, or `Memory`.
 //!
 //! ```text
 //! # of the bus
+//! let busy = tb.state == 3
 //! slow = <:req:> ; (!ack % [10,20])
-//! both = {req && ack}
+//! never both = {req && ack}
+//! each served = rise(req) |-> (!ack ; rise(ack)) % [0,20]
 //! ```
 #![tactic(auto)]
 
+pub use checks::{Checks, Meanings};
 pub use fault::WatchFault;
-pub use plan::Plan;
-pub use reader::{FILE_MAX, read_plan};
+pub use form::Form;
+pub use reader::{FILE_MAX, read_checks, read_plan};
 
-mod check;
+mod add;
+mod checks;
 mod fault;
+mod form;
 pub mod laws;
 mod line;
-mod plan;
 mod reader;

@@ -7,7 +7,7 @@ use Rattle.clap.specs.Words.{Row, fault_of}
 use Rattle.tre_decimal.specs.Decimal.{is_numeral}
 use Rattle.tre_decimal.specs.declared.TheConstants.{SCALE_MAX}
 use Rattle.tre_words.specs.CommandLine.{FindsJob, command_line, found_in, rows_in}
-use Rattle.tre_words.specs.Job.{GivesJob, GivesPlain, GivesWatch, IsCount, IsJob, MayStand, MayWatch, Says, SaysJob, begins_with, is_given, made_count, made_job, number_written, watch_job}
+use Rattle.tre_words.specs.Job.{GivesJob, GivesOver, GivesPlain, IsCount, IsJob, MayReadFile, MayStand, MayWatch, Says, SaysJob, begins_with, is_given, job_over, made_count, made_job, number_written}
 use Rattle.tre_words.specs.Settings.{Text, said}
 use Rattle.tre_words.proofs.ByClap.{by_clap, from_clap}
 use Rattle.tre_words.proofs.Taken.{AreUtf8}
@@ -15,7 +15,7 @@ use Rattle.tre_words.specs.declared.job.TheConstants.{COUNT_MAX, LIMIT_MAX}
 use Rattle.tre_words.specs.declared.job.Format.{Format}
 use Rattle.tre_words.specs.declared.job.Job.{Job}
 use Rattle.tre_words.specs.declared.job.Mode.{Mode}
-use Rattle.tre_words.specs.declared.job.Mode.TheVariants.{Offline, Online, Show, Generate, Watch}
+use Rattle.tre_words.specs.declared.job.Mode.TheVariants.{Offline, Online, Show, Generate, Watch, Check}
 
 one_value : {X : Type 0} {x y : X} → Some x ≡ Some y → x ≡ y
 one_value e = cc
@@ -80,33 +80,48 @@ plain_once words job other gives gives' =
     found_once (rows_in words) job other (by_clap words job gives).finds
     (by_clap words other gives').finds
 
-watched_once : (words : List Text) (job other : Job) → GivesWatch words job
-    → GivesWatch words other → job ≡ other
-watched_once words job other gives gives' =
-    gives.watched
-    ∙ (ap watch_job (plain_once words gives.plain gives'.plain gives.gives gives'.gives)
-    ∙ sym gives'.watched)
+-- ---- the first word
 
--- Words give this job where the first says that it is that of a made run, or of a watch.
-abbrev GivesWhere : Bool → Bool → List Text → Job → Type 0
-GivesWhere made watched words job =
+abbrev made_first : List Text → Bool
+made_first words = begins_with (codes "--generate") words
+
+abbrev watch_first : List Text → Bool
+watch_first words = begins_with (codes "--watch") words
+
+abbrev check_first : List Text → Bool
+check_first words = begins_with (codes "--check") words
+
+over_once : (May : Job → Type 0) (mode : Text → Mode) (words : List Text) (job other : Job)
+    → GivesOver May mode words job → GivesOver May mode words other → job ≡ other
+over_once May mode words job other gives gives' =
+    gives.over
+    ∙ (ap (job_over mode) (plain_once words gives.plain gives'.plain gives.gives gives'.gives)
+    ∙ sym gives'.over)
+
+-- Words give this job where the first says that it is that of a made run, of a watch, or of checks.
+abbrev GivesWhere : Bool → Bool → Bool → List Text → Job → Type 0
+GivesWhere made watched checked words job =
     MatchBool made
     (option_map made_job (made_count words) ≡ Some job)
-    (MatchBool watched (GivesWatch (drop 1 words) job) (GivesPlain words job))
+    (MatchBool watched (GivesOver MayWatch Watch (drop 1 words) job)
+    (MatchBool checked (GivesOver MayReadFile Check (drop 1 words) job) (GivesPlain words job)))
 
-given_once : (made watched : Bool) (words : List Text) (job other : Job)
-    → GivesWhere made watched words job → GivesWhere made watched words other → job ≡ other
-given_once true watched words job other gives gives' = one_value (sym gives ∙ gives')
-given_once false true words job other gives gives' =
-    watched_once (drop 1 words) job other gives gives'
-given_once false false words job other gives gives' =
+given_once : (made watched checked : Bool) (words : List Text) (job other : Job)
+    → GivesWhere made watched checked words job → GivesWhere made watched checked words other
+    → job ≡ other
+given_once true watched checked words job other gives gives' = one_value (sym gives ∙ gives')
+given_once false true checked words job other gives gives' =
+    over_once MayWatch Watch (drop 1 words) job other gives gives'
+given_once false false true words job other gives gives' =
+    over_once MayReadFile Check (drop 1 words) job other gives gives'
+given_once false false false words job other gives gives' =
     plain_once words job other gives gives'
 
 pub job_unique : (words : List Text) (job other : Job) → GivesJob words job
     → GivesJob words other → job ≡ other
 job_unique words job other gives gives' =
-    given_once (begins_with (codes "--generate") words) (begins_with (codes "--watch") words) words
-    job other gives.gives gives'.gives
+    given_once (made_first words) (watch_first words) (check_first words) words job other
+    gives.gives gives'.gives
 
 -- ---- numbers within their limits
 
@@ -238,9 +253,9 @@ from_made words (Some count) job is e =
     subst IsJob (one_value e) (made_is_job count (made_within words count is))
 from_made words None job is e = cc
 
--- ---- jobs of watches
+-- ---- jobs over a file of checks
 
-watch_is_job : (plain : Job) → IsJob plain → MayWatch plain → IsJob (watch_job plain)
+watch_is_job : (plain : Job) → IsJob plain → MayWatch plain → IsJob (job_over Watch plain)
 watch_is_job plain is may = record {
   small = is.small;
   scale = is.scale;
@@ -250,7 +265,7 @@ watch_is_job plain is may = record {
     normal = λ given. let false_true : true ≡ false = sym given ∙ may.normal in cc;
     max_zones = is.together.max_zones;
     minus = λ given.
-        let false_true : true ≡ false = sym given ∙ ap is_some may.minus in cc;
+        let false_true : true ≡ false = sym given ∙ ap is_some may.reads.minus in cc;
     columns = is.together.columns;
     lets = is.together.lets;
   };
@@ -258,71 +273,123 @@ watch_is_job plain is may = record {
   watched = λ file mode. may.format;
 }
 
-from_watch : (words : List Text) (job : Job) → GivesWatch words job → IsJob job
-from_watch words job gives =
-    subst IsJob (sym gives.watched)
-    (watch_is_job gives.plain (from_options words gives.plain gives.gives) gives.may)
+check_is_job : (plain : Job) → IsJob plain → MayReadFile plain → IsJob (job_over Check plain)
+check_is_job plain is may = record {
+  small = is.small;
+  scale = is.scale;
+  zones = is.zones;
+  counted = λ count mode. cc;
+  together = record {
+    normal = λ given. refl;
+    max_zones = is.together.max_zones;
+    minus = λ given. let false_true : true ≡ false = sym given ∙ ap is_some may.minus in cc;
+    columns = is.together.columns;
+    lets = is.together.lets;
+  };
+  offline = λ mode csv. cc;
+  watched = λ file mode. cc;
+}
+
+-- what is true of the job in the mode of a file, where it is of each job that may be so
+abbrev KeepsJob : (Job → Type 0) → (Text → Mode) → Type 0
+KeepsJob May mode = (plain : Job) → IsJob plain → May plain → IsJob (job_over mode plain)
+
+from_file : (May : Job → Type 0) (mode : Text → Mode) → KeepsJob May mode → (words : List Text)
+    (job : Job) → GivesOver May mode words job → IsJob job
+from_file May mode keeps words job gives =
+    subst IsJob (sym gives.over)
+    (keeps gives.plain (from_options words gives.plain gives.gives) gives.may)
 
 -- ---- jobs of words
 
-from_words : (made watched : Bool) (words : List Text) (job : Job)
-    → GivesWhere made watched words job → IsJob job
-from_words true watched words job gives = from_made words (made_count words) job refl gives
-from_words false true words job gives = from_watch (drop 1 words) job gives
-from_words false false words job gives = from_options words job gives
+from_words : (made watched checked : Bool) (words : List Text) (job : Job)
+    → GivesWhere made watched checked words job → IsJob job
+from_words true watched checked words job gives =
+    from_made words (made_count words) job refl gives
+from_words false true checked words job gives =
+    from_file MayWatch Watch watch_is_job (drop 1 words) job gives
+from_words false false true words job gives =
+    from_file MayReadFile Check check_is_job (drop 1 words) job gives
+from_words false false false words job gives = from_options words job gives
 
 -- what is true of each job that words give
 pub IsJob-given : (words : List Text) (job : Job) → GivesJob words job → IsJob job
 IsJob-given words job gives =
-    from_words (begins_with (codes "--generate") words) (begins_with (codes "--watch") words) words
-    job gives.gives
+    from_words (made_first words) (watch_first words) (check_first words) words job gives.gives
 
--- ---- the first word
-
-abbrev made_first : List Text → Bool
-made_first words = begins_with (codes "--generate") words
-
-abbrev watch_first : List Text → Bool
-watch_first words = begins_with (codes "--watch") words
+-- ---- words by their first
 
 pub first_made : (words : List Text) (job : Job) → made_first words ≡ true
     → option_map made_job (made_count words) ≡ Some job → GivesJob words job
 first_made words job is gives = record {
-  gives = subst (λ (b : Bool). GivesWhere b (watch_first words) words job) (sym is) gives;
+  gives = subst (λ (b : Bool). GivesWhere b (watch_first words) (check_first words) words job)
+      (sym is) gives;
 }
 
 pub first_made-none : (words : List Text) (job : Job) → made_first words ≡ true
     → made_count words ≡ None → GivesJob words job → ⊥
 first_made-none words job is none gives =
     let made : option_map made_job (made_count words) ≡ Some job =
-    subst (λ (b : Bool). GivesWhere b (watch_first words) words job) is gives.gives in
+    subst (λ (b : Bool). GivesWhere b (watch_first words) (check_first words) words job) is
+    gives.gives in
     let given : None ≡ Some job = sym (ap (option_map made_job) none) ∙ made in
     cc
 
--- the words behind a first word that asks for a watch
-pub first_watched : (words : List Text) (job : Job) → made_first words ≡ false
-    → watch_first words ≡ true → GivesWatch (drop 1 words) job ↔ GivesJob words job
-first_watched words job other is = (
+-- words of which the first asks for no made run
+not_made : (words : List Text) (job : Job) → made_first words ≡ false
+    → GivesWhere false (watch_first words) (check_first words) words job ↔ GivesJob words job
+not_made words job other = (
   (λ gives. record {
-    gives =
-        subst (λ (b : Bool). GivesWhere b (watch_first words) words job) (sym other)
-        (subst (λ (b : Bool). GivesWhere false b words job) (sym is) gives);
+    gives = subst (λ (b : Bool). GivesWhere b (watch_first words) (check_first words) words job)
+        (sym other) gives;
   }),
-  (λ given.
-      subst (λ (b : Bool). GivesWhere false b words job) is
-      (subst (λ (b : Bool). GivesWhere b (watch_first words) words job) other given.gives)),
+  (λ given. subst (λ (b : Bool). GivesWhere b (watch_first words) (check_first words) words job)
+      other given.gives),
 )
 
--- words of which the first asks for neither
+-- the words behind a first word that asks for a watch
+pub first_watched : (words : List Text) (job : Job) → made_first words ≡ false
+    → watch_first words ≡ true
+    → GivesOver MayWatch Watch (drop 1 words) job ↔ GivesJob words job
+first_watched words job other is =
+    let given = not_made words job other in (
+      (λ gives. given.0
+          (subst (λ (b : Bool). GivesWhere false b (check_first words) words job) (sym is) gives)),
+      (λ gives. subst (λ (b : Bool). GivesWhere false b (check_first words) words job) is
+          (given.1 gives)),
+    )
+
+-- words of which the first asks for none of both
+not_watched : (words : List Text) (job : Job) → made_first words ≡ false
+    → watch_first words ≡ false
+    → GivesWhere false false (check_first words) words job ↔ GivesJob words job
+not_watched words job made other =
+    let given = not_made words job made in (
+      (λ gives. given.0
+          (subst (λ (b : Bool). GivesWhere false b (check_first words) words job) (sym other)
+          gives)),
+      (λ gives. subst (λ (b : Bool). GivesWhere false b (check_first words) words job) other
+          (given.1 gives)),
+    )
+
+-- the words behind a first word that asks for checks with verdicts
+pub first_checked : (words : List Text) (job : Job) → made_first words ≡ false
+    → watch_first words ≡ false → check_first words ≡ true
+    → GivesOver MayReadFile Check (drop 1 words) job ↔ GivesJob words job
+first_checked words job made watched is =
+    let given = not_watched words job made watched in (
+      (λ gives. given.0
+          (subst (λ (b : Bool). GivesWhere false false b words job) (sym is) gives)),
+      (λ gives. subst (λ (b : Bool). GivesWhere false false b words job) is (given.1 gives)),
+    )
+
+-- words of which the first asks for none of these
 pub first_plain : (words : List Text) (job : Job) → made_first words ≡ false
-    → watch_first words ≡ false → GivesPlain words job ↔ GivesJob words job
-first_plain words job other plain = (
-  (λ gives. record {
-    gives =
-        subst (λ (b : Bool). GivesWhere b (watch_first words) words job) (sym other)
-        (subst (λ (b : Bool). GivesWhere false b words job) (sym plain) gives);
-  }),
-  (λ given.
-      subst (λ (b : Bool). GivesWhere false b words job) plain
-      (subst (λ (b : Bool). GivesWhere b (watch_first words) words job) other given.gives)),
-)
+    → watch_first words ≡ false → check_first words ≡ false
+    → GivesPlain words job ↔ GivesJob words job
+first_plain words job made watched other =
+    let given = not_watched words job made watched in (
+      (λ gives. given.0
+          (subst (λ (b : Bool). GivesWhere false false b words job) (sym other) gives)),
+      (λ gives. subst (λ (b : Bool). GivesWhere false false b words job) other (given.1 gives)),
+    )

@@ -11,7 +11,7 @@ use Rattle.tre_words.specs.declared.job.Format.{Format}
 use Rattle.tre_words.specs.declared.job.Format.TheVariants.{Text as TextFormat, Vcd, Csv}
 use Rattle.tre_words.specs.declared.job.Job.{Job}
 use Rattle.tre_words.specs.declared.job.Mode.{Mode}
-use Rattle.tre_words.specs.declared.job.Mode.TheVariants.{Offline, Online, Show, Generate, Watch}
+use Rattle.tre_words.specs.declared.job.Mode.TheVariants.{Offline, Online, Show, Generate, Watch, Check}
 
 -- ---- what a job is
 
@@ -20,9 +20,21 @@ pub record IsCount (count : ℕ) : Type 0 where
   pub some : 1 ≤ count
   pub few : count ≤ COUNT_MAX
 
+-- the file of checks that a run in this mode reads before its input
+abbrev pub file_of : Mode → Option (List ℕ)
+file_of (Watch file) = Some file
+file_of (Check file) = Some file
+file_of mode = None
+
+-- whether the answer is one over the whole input: its matches, or what becomes of checks
+abbrev pub is_whole : Mode → Bool
+is_whole Offline = true
+is_whole (Check file) = true
+is_whole mode = false
+
 -- What the job has may stand together.
 pub record StandsTogether (job : Job) : Type 0 where
-  pub normal : job.normal ≡ true → job.mode ≡ Offline
+  pub normal : job.normal ≡ true → is_whole job.mode ≡ true
   pub max_zones : is_some job.max_zones ≡ true → job.normal ≡ true
   pub minus : is_some job.minus ≡ true → job.mode ≡ Offline
   pub columns : job.format ≡ Csv → job.minus ≡ None
@@ -120,27 +132,32 @@ pub record GivesPlain (words : List Text) (job : Job) : Type 0 where
   pub says : SaysJob (said settings) job
   pub stands : MayStand (said settings) job
 
--- ---- watches
+-- ---- files of checks
 
--- The job of the words behind `--watch` may be that of a watch: one without columns, strips, and a
+-- The job of the words behind `--watch` or `--check` may be over a file of checks: one without a
 -- pattern whose matches are taken away. At most one of its file and its input is standard input.
-pub record MayWatch (plain : Job) : Type 0 where
+pub record MayReadFile (plain : Job) : Type 0 where
   pub mode : plain.mode ≡ Offline
-  pub format : plain.format ≢ Csv
-  pub normal : plain.normal ≡ false
   pub minus : plain.minus ≡ None
   pub apart : plain.expr ≡ codes "-" → plain.input ≢ codes "-"
 
--- the watch whose file stands where the pattern's text does in other words
-abbrev pub watch_job : Job → Job
-watch_job plain = record plain { mode = Watch plain.expr; expr = [] }
+-- It may be that of a watch: one without columns and strips.
+pub record MayWatch (plain : Job) : Type 0 where
+  pub reads : MayReadFile plain
+  pub format : plain.format ≢ Csv
+  pub normal : plain.normal ≡ false
 
--- The words behind `--watch` give the watch of a job that may be one.
-pub record GivesWatch (words : List Text) (job : Job) : Type 0 where
+-- the job in the mode of a file, which stands where the pattern's text does in other words
+abbrev pub job_over : (Text → Mode) → Job → Job
+job_over mode plain = record plain { mode = mode plain.expr; expr = [] }
+
+-- The words behind the first give the job in the mode of a file of one that may be so.
+pub record GivesOver (May : Job → Type 0) (mode : Text → Mode) (words : List Text) (job : Job)
+    : Type 0 where
   pub plain : Job
   pub gives : GivesPlain words plain
-  pub may : MayWatch plain
-  pub watched : job ≡ watch_job plain
+  pub may : May plain
+  pub over : job ≡ job_over mode plain
 
 -- ---- made runs
 
@@ -160,14 +177,17 @@ abbrev pub begins_with : Text → List Text → Bool
 begins_with word [] = false
 begins_with word (first ∷ words) = bytes_eq first word
 
--- The words give this job: the first says whether it is that of a made run, of a watch, or neither.
+-- The words give this job: the first says whether it is that of a made run, of a watch, of checks
+-- with verdicts, or none of these.
 pub record GivesJob (words : List Text) (job : Job) : Type 0 where
   pub gives :
       MatchBool (begins_with (codes "--generate") words)
       (option_map made_job (made_count words) ≡ Some job)
       (MatchBool (begins_with (codes "--watch") words)
-      (GivesWatch (drop 1 words) job)
-      (GivesPlain words job))
+      (GivesOver MayWatch Watch (drop 1 words) job)
+      (MatchBool (begins_with (codes "--check") words)
+      (GivesOver MayReadFile Check (drop 1 words) job)
+      (GivesPlain words job)))
 
 -- The words give no job.
 abbrev pub GivesNoJob : List Text → Type 0

@@ -32,6 +32,11 @@ pub enum Mode {
         /// The name of the file; `-` is standard input.
         file: Word,
     },
+    /// It judges each check of a file over the whole input.
+    Check {
+        /// The name of the file; `-` is standard input.
+        file: Word,
+    },
 }
 
 /// How the input tells a trace.

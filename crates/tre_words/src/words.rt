@@ -2,9 +2,10 @@
 ghost use Rattle.std.specs.Prelude.{◌≡◌, ◌↔◌, map, string_bytes, IfOk, IsErrOf, Some, None, true, false, codes, option_map};
 ghost use Rattle.clap.specs.Words.{found_of, rows_of};
 ghost use Rattle.tre_words.specs.CommandLine.{found_in, FindsJob};
-ghost use Rattle.tre_words.specs.Job.{begins_with, is_given, made_count, made_job, watch_job, DefinesFor, StandsTogether, MayStand, IsJob, MayWatch, GivesPlain, GivesWatch, GivesJob, GivesNoJob};
+ghost use Rattle.tre_words.specs.Job.{begins_with, is_given, is_whole, job_over, made_count, made_job, DefinesFor, StandsTogether, MayStand, IsJob, MayReadFile, MayWatch, GivesPlain, GivesOver, GivesJob, GivesNoJob};
 ghost use Rattle.tre_words.specs.declared.job.Format.TheVariants.{Csv};
 ghost use Rattle.tre_words.specs.declared.job.Job.{Job};
+ghost use Rattle.tre_words.specs.declared.job.Mode.TheVariants.{Watch, Check};
 
 use crate::command_line::{is_given, parse_words, value_of};
 use crate::job::{COUNT_MAX, Format, Job, LIMIT_DEFAULT, Mode, Word, WordsFault};
@@ -12,13 +13,20 @@ use crate::values::{job_in, number_written};
 use clap::ArgMatches;
 use std::alloc::{AllocError, Global};
 
+// Whether the answer is one over the whole input.
+fn is_whole(mode: &Mode) -> bool
+    ensures { result ≡ is_whole mode.now }
+{
+    matches!(mode, Mode::Offline | Mode::Check { .. })
+}
+
 // Whether what the job has may stand together.
 fn stands_together(job: &Job) -> bool
     ensures { result ≡ true ↔ StandsTogether job.now }
 {
     let offline = matches!(job.mode, Mode::Offline);
     let columns = job.format == Format::Csv;
-    if (job.normal || job.minus.is_some()) && !offline {
+    if job.normal && !is_whole(&job.mode) || job.minus.is_some() && !offline {
         return false;
     }
     if job.max_zones.is_some() && !job.normal {
@@ -76,21 +84,25 @@ fn read_options(alloc: Global, words: &[String]) -> Result<Job, WordsFault>
     plain_job(alloc, &matches)
 }
 
-// Whether the job of the words behind `--watch` may be that of a watch.
-fn may_watch(plain: &Job) -> bool
-    ensures { result ≡ true ↔ MayWatch plain.now }
+// Whether the job of the words behind `--watch` or `--check` may be over a file of checks.
+fn may_read_file(plain: &Job) -> bool
+    ensures { result ≡ true ↔ MayReadFile plain.now }
 {
     if plain.expr.text() == "-" && plain.input.text() == "-" {
         return false;
     }
-    if plain.format == Format::Csv || plain.normal || plain.minus.is_some() {
-        return false;
-    }
-    matches!(plain.mode, Mode::Offline)
+    plain.minus.is_none() && matches!(plain.mode, Mode::Offline)
+}
+
+// Whether it may be that of a watch.
+fn may_watch(plain: &Job) -> bool
+    ensures { result ≡ true ↔ MayWatch plain.now }
+{
+    may_read_file(plain) && plain.format != Format::Csv && !plain.normal
 }
 
 fn watch_job(alloc: Global, plain: Job) -> Result<Job, AllocError>
-    ensures { IfOk result (λ job. job ≡ watch_job plain) }
+    ensures { IfOk result (λ job. job ≡ job_over Watch plain) }
 {
     let expr = Word::new(alloc, "")?;
     Ok(Job {
@@ -100,18 +112,44 @@ fn watch_job(alloc: Global, plain: Job) -> Result<Job, AllocError>
     })
 }
 
+fn check_job(alloc: Global, plain: Job) -> Result<Job, AllocError>
+    ensures { IfOk result (λ job. job ≡ job_over Check plain) }
+{
+    let expr = Word::new(alloc, "")?;
+    Ok(Job {
+        mode: Mode::Check { file: plain.expr },
+        expr,
+        ..plain
+    })
+}
+
 // Reads the words behind `--watch`.
 fn read_watch(alloc: Global, words: &[String]) -> Result<Job, WordsFault>
-    ensures ok { IfOk result (GivesWatch (map string_bytes words.now)) }
+    ensures ok { IfOk result (GivesOver MayWatch Watch (map string_bytes words.now)) }
     ensures is_job { IfOk result IsJob }
     ensures usage { IsErrOf result WordsFault.Usage → (job : Job) →
-        ¬ GivesWatch (map string_bytes words.now) job }
+        ¬ GivesOver MayWatch Watch (map string_bytes words.now) job }
 {
     let plain = read_options(alloc, words)?;
     if !may_watch(&plain) {
         return Err(WordsFault::Usage);
     }
     let job = watch_job(alloc, plain)?;
+    Ok(job)
+}
+
+// Reads the words behind `--check`.
+fn read_check(alloc: Global, words: &[String]) -> Result<Job, WordsFault>
+    ensures ok { IfOk result (GivesOver MayReadFile Check (map string_bytes words.now)) }
+    ensures is_job { IfOk result IsJob }
+    ensures usage { IsErrOf result WordsFault.Usage → (job : Job) →
+        ¬ GivesOver MayReadFile Check (map string_bytes words.now) job }
+{
+    let plain = read_options(alloc, words)?;
+    if !may_read_file(&plain) {
+        return Err(WordsFault::Usage);
+    }
+    let job = check_job(alloc, plain)?;
     Ok(job)
 }
 
@@ -173,7 +211,9 @@ fn read_made_run(alloc: Global, words: &[String]) -> Result<Job, WordsFault>
 /// `[--online] [--show] [--format text|vcd|csv] [--input NAME] [--max-bytes N] [--scale K]
 /// [--normal] [--max-zones L] [--minus EXPR2] [--let TEXT] [--define TEXT] EXPR`, or
 /// `--generate K`, or
-/// `--watch [--format text|vcd] [--input NAME] [--max-bytes N] [--scale K] [--define TEXT] FILE`.
+/// `--watch [--format text|vcd] [--input NAME] [--max-bytes N] [--scale K] [--define TEXT] FILE`,
+/// or `--check [--format text|vcd|csv] [--input NAME] [--max-bytes N] [--scale K] [--normal]
+/// [--max-zones L] [--let TEXT] [--define TEXT] FILE`.
 pub fn read_words(alloc: Global, words: &[String]) -> Result<Job, WordsFault>
     ensures ok { IfOk result (GivesJob (map string_bytes words.now)) }
     ensures is_job { IfOk result IsJob }
@@ -184,6 +224,9 @@ pub fn read_words(alloc: Global, words: &[String]) -> Result<Job, WordsFault>
     }
     if begins_with(words, "--watch") {
         return read_watch(alloc, &words[1..]);
+    }
+    if begins_with(words, "--check") {
+        return read_check(alloc, &words[1..]);
     }
     read_options(alloc, words)
 }

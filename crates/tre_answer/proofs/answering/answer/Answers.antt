@@ -17,11 +17,12 @@ returns-in_ok-text-in-Show-clause-ends g c =
     let first = get_or_read c.args.asked.now.patterns.items 0 c.index.result.now
     c.requires.fits.some c.index.ensures c.index.result.now in
     let alone = c.requires.alone (shown_unread c.args.job.now.mode c.in-Show.is) in
-    EndsOver-written (request_for c.args.job.now c.args.definitions c.args.asked.now) _ _ _
+    rw c.done_with.ensures
+    (EndsOver-written 0 (request_for c.args.job.now c.args.definitions c.args.asked.now) _ _ _
     (shown_for c.args.job.now c.args.definitions c.args.asked.now c.requires.fits alone
     c.index.result.now first _ refl _ c.in-Show.is c.in_ok-text-in-Show.ensures)
     _ c.as_str.ensures.value c.write_text.result c.write_text.ensures.all c.write_text.ensures.good c.write_text.ensures.part
-    c.write_text.ensures.cause c.write_text.ensures.fault
+    c.write_text.ensures.cause c.write_text.ensures.fault)
 
 pub returns-in_err-pattern-in-Generate-clause-ends :
     goal.returns-in_err-pattern-in-Generate-clause-ends
@@ -44,11 +45,12 @@ returns-in_ok-text-in-Generate-clause-ends g c =
     c.requires.fits.some c.index-in-Generate.ensures c.index-in-Generate.result.now in
     let count = c.in-Generate.count in
     let alone = c.requires.alone (made_unread c.args.job.now.mode count c.in-Generate.is) in
-    EndsOver-written (request_for c.args.job.now c.args.definitions c.args.asked.now) _ _ _
+    rw c.done_with-in-Generate.ensures
+    (EndsOver-written 0 (request_for c.args.job.now c.args.definitions c.args.asked.now) _ _ _
     (made_for c.args.job.now c.args.definitions c.args.asked.now c.requires.fits alone
     c.index-in-Generate.result.now first _ refl _ count c.in_ok-pattern-in-Generate.pattern
     c.in-Generate.is
     c.in_ok-pattern-in-Generate.ensures.tree c.in_ok-text-in-Generate.ensures)
     _ c.as_str-in-Generate.ensures.value c.write_text-in-Generate.result c.write_text-in-Generate.ensures.all
     c.write_text-in-Generate.ensures.good c.write_text-in-Generate.ensures.part
-    c.write_text-in-Generate.ensures.cause c.write_text-in-Generate.ensures.fault
+    c.write_text-in-Generate.ensures.cause c.write_text-in-Generate.ensures.fault)

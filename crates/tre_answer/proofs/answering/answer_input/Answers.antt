@@ -1,7 +1,6 @@
 use Rattle.std.proofs.Common.{refl}
-use Rattle.std.proofs.lemmas.List.{get_or_read}
 use Rattle.std.proofs.lemmas.Result.{err_from_is_err_and}
-use Rattle.tre_answer.proofs.Recorded.{alone_names, dump_says, rows_says, text_says}
+use Rattle.tre_answer.proofs.Recorded.{dump_says, rows_says, text_says}
 use Rattle.tre_answer.proofs.Unread.{EndsOver-early, EndsOver-said}
 use Rattle.tre_answer.proofs.answering.answer_input.Goals as goal
 
@@ -59,20 +58,14 @@ returns-in_err-input-in-Csv-clause-ends g c =
     _ _ c.requires.closed refl (record { unwritten = refl; writes = refl }))
 
 pub answer_by-requires-in-Csv-clause-input : goal.answer_by-requires-in-Csv-clause-input
-answer_by-requires-in-Csv-clause-input g c =
-    let first = get_or_read c.args.asked.now.patterns.items 0 c.index-pattern.result.now
-    c.requires.fits.some c.index-pattern.ensures c.index-pattern.result.now in
-    record {
-      asks = rw (alone_names c.args.asked.now.patterns.items c.index-pattern.result.now
-          (c.requires.fits.columns c.in-Csv.is) first) at c.in_ok-input-in-Csv.ensures.asks;
-      limit = c.in_ok-input-in-Csv.ensures.limit;
-    }
+answer_by-requires-in-Csv-clause-input g c = record {
+  asks = rw c.deref-in-Csv.ensures.value at c.in_ok-input-in-Csv.ensures.asks;
+  limit = c.in_ok-input-in-Csv.ensures.limit;
+}
 
 pub returns-in_ok-input-in-Csv-clause-ends : goal.returns-in_ok-input-in-Csv-clause-ends
 returns-in_ok-input-in-Csv-clause-ends g c =
-    let first = get_or_read c.args.asked.now.patterns.items 0 c.index-pattern.result.now
-    c.requires.fits.some c.index-pattern.ensures c.index-pattern.result.now in
     EndsOver-said c.args.job.now c.args.asked.now _ _ c.answer_by-in-Csv.result _ _
     (rows_says c.args.job.now c.args.definitions c.args.asked.now
-    c.requires.fits c.index-pattern.result.now first c.in-Csv.is
+    c.requires.fits _ c.deref-in-Csv.ensures.value c.in-Csv.is
     c.in_ok-input-in-Csv.ensures.recording) c.answer_by-in-Csv.ensures.ends

@@ -1,9 +1,10 @@
-use Rattle.std.proofs.Common.{◌∙◌, ◌<◌, length, map, refl, sym, arith}
+use Rattle.std.proofs.Common.{ap, ◌∙◌, ◌<◌, length, map, refl, sym, arith}
 use Rattle.std.proofs.lemmas.List.{length-map}
 use Rattle.std.proofs.lemmas.Result.{err_from_is_err_and}
 use Rattle.std.specs.Prelude.{string_bytes}
 use Rattle.tre_syntax.specs.Pattern.{names_of}
 use Rattle.tre_tell.proofs.Loop.{asked_sought}
+use Rattle.tre_words.specs.Job.{is_whole}
 use Rattle.tre_answer.specs.Listed.{listed_zones}
 use Rattle.tre_answer.proofs.Found.{IsFound-whole, IsFoundFor-text, StopsAs-input, StopsAs-over, StopsAs-wanting, a_trace_each, normal_limit}
 use Rattle.tre_answer.proofs.offline.find_matches.Goals as goal
@@ -11,7 +12,7 @@ use Rattle.tre_answer.proofs.offline.find_matches.Goals as goal
 pub returns-in_err-traces-clause-stops : goal.returns-in_err-traces-clause-stops
 returns-in_err-traces-clause-stops g c =
     let p = err_from_is_err_and c.from_residual.result c.from_residual.ensures.1 in
-    rw (p.1, p.2) (StopsAs-input _ _ c.requires.offline _ _
+    rw (p.1, p.2) (StopsAs-input _ _ (ap is_whole c.requires.offline) _ _
     c.in_err-traces.field-0.0 c.requires.input.limit c.text.ensures
     c.in_err-traces.ensures.stops)
 
@@ -25,7 +26,7 @@ returns-in_err-found-clause-stops g c =
     let p = err_from_is_err_and c.from_residual-in_err-found.result
     c.from_residual-in_err-found.ensures.1 in
     rw (p.1, p.2)
-    (StopsAs-wanting _ _ c.requires.offline (c.in_ok-traces.ensures.read _ c.requires.input.asks).reads)
+    (StopsAs-wanting _ _ (ap is_whole c.requires.offline) (c.in_ok-traces.ensures.read _ c.requires.input.asks).reads)
 
 pub returns-in_err-check_count-clause-stops : goal.returns-in_err-check_count-clause-stops
 returns-in_err-check_count-clause-stops g c =

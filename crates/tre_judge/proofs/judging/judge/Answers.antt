@@ -1,61 +1,61 @@
-use Rattle.std.proofs.Common.{refl}
-use Rattle.tre_pairs.specs.Pairs.{Either}
+use Rattle.std.proofs.lemmas.Result.{IfOk-weaker}
+use Rattle.tre_pairs.proofs.Laws.{IsOrdered}
+use Rattle.tre_pairs.proofs.Order.{IsOrdered-Either}
+use Rattle.tre_syntax.proofs.Begins.{IsOrdered-begun}
+use Rattle.tre_syntax.proofs.CutMeaning.{IsOrdered-rest}
+use Rattle.tre_syntax.specs.Begun.{HasBegun, MayMatch}
+use Rattle.tre_syntax.specs.Meaning.{Matches}
+use Rattle.tre_syntax.specs.Pattern.{pattern_tree}
+use Rattle.tre_syntax.specs.PatternTree.{PatternTree}
+use Rattle.tre_syntax.specs.Rest.{whole}
+use Rattle.tre_trace.specs.Trace.{Timeline}
 use Rattle.tre_zone.specs.ZoneList.{SetHolds}
-use Rattle.tre_judge.specs.Verdicts.{Fails, Unanswered}
-use Rattle.tre_judge.proofs.Deciding.{left_alike, some_pair, no_pair, own_pair, own_none, nothing}
+use Rattle.tre_judge.specs.Verdicts.{Unanswered}
+use Rattle.tre_judge.proofs.Alike.{Alike, Alike-set, Unanswered-alike, shown_of, verdict_of}
 use Rattle.tre_judge.proofs.judging.judge.Goals as goal
+use Rattle.tre_judge.proofs.judging.judge.Goals.{After-drop-subject-inside-2}
 
-pub returns-then-not-is_empty-clause-shown : goal.returns-then-not-is_empty-clause-shown
-returns-then-not-is_empty-clause-shown c =
-    left_alike c.args.arrow (SetHolds c.args.subject.now) c.args.begun c.args.answers.now
-    c.join.new.self c.in_ok-failing.failing c.zones-begun.ensures.set.canonical
-    c.zones-answers.ensures.set.canonical c.zones-may.ensures.set.canonical
-    c.in_ok-join.ensures.held c.in_ok-failing.ensures
+may_ordered : (tree : PatternTree) (trace : Timeline) → IsOrdered (MayMatch tree trace)
+may_ordered tree trace = IsOrdered-Either (Matches tree trace) (HasBegun tree trace)
+    (IsOrdered-rest tree (whole trace)) (IsOrdered-begun (whole trace) tree)
 
-pub returns-then-not-is_empty-clause-verdict : goal.returns-then-not-is_empty-clause-verdict
-returns-then-not-is_empty-clause-verdict c =
-    some_pair c.in_ok-failing.failing
-    (Fails c.args.arrow (SetHolds c.args.subject.now)
-    (Either (SetHolds c.args.begun) (SetHolds c.args.answers.now)))
-    (left_alike c.args.arrow (SetHolds c.args.subject.now) c.args.begun c.args.answers.now
-    c.join.new.self c.in_ok-failing.failing c.zones-begun.ensures.set.canonical
-    c.zones-answers.ensures.set.canonical c.zones-may.ensures.set.canonical
-    c.in_ok-join.ensures.held c.in_ok-failing.ensures)
-    c.zones-failing.ensures.tight (λ h. let e = c.if-not-is_empty.ensures.1 h in (cc))
+-- the sets hold the matches of the first pattern, and of the second what answers and what may
+same : (c : After-drop-subject-inside-2)
+    → Alike (SetHolds c.in_ok-subject.subject)
+    (Matches (pattern_tree c.args.pattern.now) c.args.trace)
+same c = Alike-set c.in_ok-subject.subject _ c.zones-subject.ensures.set.canonical
+    (IsOrdered-rest (pattern_tree c.args.pattern.now) (whole c.args.trace))
+    c.in_ok-subject.ensures.exact
 
-pub returns-then-is_empty-clause-verdict : goal.returns-then-is_empty-clause-verdict
-returns-then-is_empty-clause-verdict c =
-    own_none c.args.subject.now (c.if-is_empty.ensures.0 refl)
+failing : (c : After-drop-subject-inside-2)
+    → Alike (Unanswered c.args.form (SetHolds c.in_ok-subject.subject) (SetHolds c.in_ok-may.may))
+    (Unanswered c.args.form (Matches (pattern_tree c.args.pattern.now) c.args.trace)
+    (MayMatch (pattern_tree c.args.second.now) c.args.other.now))
+failing c = Unanswered-alike c.args.form c.in_ok-subject.subject c.in_ok-may.may _ _
+    c.zones-subject.ensures.set.canonical c.zones-may.ensures.set.canonical
+    (IsOrdered-rest (pattern_tree c.args.pattern.now) (whole c.args.trace))
+    (may_ordered (pattern_tree c.args.second.now) c.args.other.now)
+    c.in_ok-subject.ensures.exact c.in_ok-may.ensures
 
-pub returns-then-is_empty-clause-shown : goal.returns-then-is_empty-clause-shown
-returns-then-is_empty-clause-shown c =
-    nothing c.in_ok-failing.failing (c.if-not-is_empty.ensures.0 refl)
-
-pub returns-then-is_empty-2-clause-verdict : goal.returns-then-is_empty-2-clause-verdict
-returns-then-is_empty-2-clause-verdict c = (
-  no_pair c.in_ok-unanswered.unanswered (Unanswered c.args.arrow (SetHolds c.args.subject.now)
-      (SetHolds c.args.answers.now))
-      c.in_ok-unanswered.ensures (c.if-is_empty-2.ensures.0 refl),
-  own_pair c.args.subject.now c.zones-subject.ensures.tight
-      (λ h. let e = c.if-is_empty.ensures.1 h in (cc)),
-)
-
-pub returns-then-is_empty-2-clause-shown : goal.returns-then-is_empty-2-clause-shown
-returns-then-is_empty-2-clause-shown c =
-    nothing c.in_ok-unanswered.unanswered (c.if-is_empty-2.ensures.0 refl)
+unanswered : (c : After-drop-subject-inside-2)
+    → Alike (Unanswered c.args.form (SetHolds c.in_ok-subject.subject)
+    (SetHolds c.in_ok-answers.answers))
+    (Unanswered c.args.form (Matches (pattern_tree c.args.pattern.now) c.args.trace)
+    (Matches (pattern_tree c.args.second.now) c.args.other.now))
+unanswered c = Unanswered-alike c.args.form c.in_ok-subject.subject c.in_ok-answers.answers _ _
+    c.zones-subject.ensures.set.canonical c.zones-answers.ensures.set.canonical
+    (IsOrdered-rest (pattern_tree c.args.pattern.now) (whole c.args.trace))
+    (IsOrdered-rest (pattern_tree c.args.second.now) (whole c.args.other.now))
+    c.in_ok-subject.ensures.exact c.in_ok-answers.ensures
 
 pub returns-clause-verdict : goal.returns-clause-verdict
-returns-clause-verdict c = (
-  no_pair c.in_ok-failing.failing
-      (Fails c.args.arrow (SetHolds c.args.subject.now)
-      (Either (SetHolds c.args.begun) (SetHolds c.args.answers.now)))
-      (left_alike c.args.arrow (SetHolds c.args.subject.now) c.args.begun c.args.answers.now
-      c.join.new.self c.in_ok-failing.failing c.zones-begun.ensures.set.canonical
-      c.zones-answers.ensures.set.canonical c.zones-may.ensures.set.canonical
-      c.in_ok-join.ensures.held c.in_ok-failing.ensures)
-      (c.if-not-is_empty.ensures.0 refl),
-  some_pair c.in_ok-unanswered.unanswered (Unanswered c.args.arrow (SetHolds c.args.subject.now)
-      (SetHolds c.args.answers.now))
-      c.in_ok-unanswered.ensures c.zones-unanswered.ensures.tight
-      (λ h. let e = c.if-is_empty-2.ensures.1 h in (cc)),
-)
+returns-clause-verdict c = IfOk-weaker c.judge_sets.result _ _
+    (λ judged is. verdict_of c.args.form c.requires judged.verdict c.in_ok-subject.subject
+    c.in_ok-may.may c.in_ok-answers.answers judged.shown _ _ _ (same c) (failing c) (unanswered c)
+    is) c.judge_sets.ensures
+
+pub returns-clause-shown : goal.returns-clause-shown
+returns-clause-shown c = IfOk-weaker c.judge_sets.result _ _
+    (λ judged is. shown_of c.args.form c.requires judged.verdict c.in_ok-subject.subject
+    c.in_ok-may.may c.in_ok-answers.answers judged.shown _ _ _ (same c) (failing c) (unanswered c)
+    is) c.judge_sets.ensures

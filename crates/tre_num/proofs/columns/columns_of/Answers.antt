@@ -1,6 +1,5 @@
-use Rattle.std.proofs.Common.{rules, ◌≡◌, ◌<◌, true, Some, length, get_or, [], refl, sym, ap, ◌∙◌, arith}
+use Rattle.std.proofs.Common.{rules, ◌≡◌, ◌<◌, true, Some, length, get_or, [], refl, sym, ◌∙◌, arith}
 use Rattle.std.specs.Result.{is_ok}
-use Rattle.std.proofs.lemmas.List.{length_push}
 use Rattle.csv.specs.Records.{fields_of}
 use Rattle.tre_num.specs.Rows.{compared_column}
 use Rattle.tre_num.proofs.NameColumns.{all-found, begins, none-here, one-more}
@@ -8,11 +7,9 @@ use Rattle.tre_num.proofs.Tables.{memory_placed, memory_unspent, unknown_placed,
 use Rattle.tre_num.proofs.columns.columns_of.Goals as goal
 
 pub loop-number-init : goal.loop-number-init
-loop-number-init c = record {
-  count = ap length c.new-columns.ensures.items;
-  all = begins c.args.definitions.now (fields_of c.args.header.now) c.args.names.now _
-      c.new-columns.ensures.items;
-}
+loop-number-init c =
+    begins c.args.definitions.now (fields_of c.args.header.now) c.args.names.now _
+    c.new-columns.ensures.items
 
 pub column_at-requires : goal.column_at-requires
 column_at-requires c = omega (arith, c.loop-number-test.true, c.len-number-end.ensures.len)
@@ -22,7 +19,7 @@ returns-in_default-clause-unknown c = λ other. (
   none-here c.args.definitions.now (fields_of c.args.header.now) c.args.names.now
       c.loop-number.columns.items c.loop-number.number
       (omega (arith, c.loop-number-test.true, c.len-number-end.ensures.len))
-      (sym c.column_at.ensures ∙ c.in_default.is) c.loop-number.invariant.all,
+      (sym c.column_at.ensures ∙ c.in_default.is) c.loop-number.invariant,
   refl,
 )
 
@@ -54,15 +51,12 @@ loop-number-preserved c =
     let found : compared_column c.args.definitions.now header (get_or names number []) ≡ Some column =
     sym c.column_at.ensures ∙ c.in-Some.is in
     let more = one-more c.args.definitions.now header names c.loop-number.columns.items number
-    column below found c.loop-number.invariant.all in
-    rw items (record {
-      count = omega (arith, length_push c.loop-number.columns.items column);
-      all = more;
-    })
+    column below found c.loop-number.invariant in
+    rw items more
 
 pub returns-clause-found : goal.returns-clause-found
 returns-clause-found c =
     all-found c.args.definitions.now (fields_of c.args.header.now) c.args.names.now
     c.loop-number.columns.items c.loop-number.number
     (omega (arith, c.loop-number-test.false, c.len-number-end.ensures.len))
-    c.loop-number.invariant.all
+    c.loop-number.invariant

@@ -20,8 +20,8 @@ returns-then-is_empty-clause-definitions c =
     (subst (λ items. Define [] items) (sym c.new-definitions.ensures.items)
     (all-defined [] [] (begins [])))
 
-pub returns-in_err-add-clause-refused : goal.returns-in_err-add-clause-refused
-returns-in_err-add-clause-refused c =
+pub returns-in_err-add_definition-clause-refused : goal.returns-in_err-add_definition-clause-refused
+returns-in_err-add_definition-clause-refused c =
     let text = c.args.text.now in
     let bytes = c.loop-definitions.rest.now in
     let definitions = c.loop-definitions.definitions.items in
@@ -35,9 +35,9 @@ returns-in_err-add-clause-refused c =
     ap (λ bytes. length bytes == 0) (sym past) ∙ sym c.is_empty.ensures ∙ c.if-is_empty.false in
     let p = err_from_is_err_and c.from_residual.result c.from_residual.ensures.1 in
     rw (p.1, p.2) (λ never.
-    subst (λ parts. LetsAreRefused parts c.in_err-add.field-0.0) (sym (some_parts text some))
-    (refused all others definitions part c.in_err-add.field-0.0 has
-    (c.in_err-add.ensures.fault never)))
+    subst (λ parts. LetsAreRefused parts c.in_err-add_definition.field-0.0) (sym (some_parts text some))
+    (refused all others definitions part c.in_err-add_definition.field-0.0 has
+    (c.in_err-add_definition.ensures.fault never)))
 
 pub loop-definitions-preserved : goal.loop-definitions-preserved
 loop-definitions-preserved c =
@@ -53,7 +53,7 @@ loop-definitions-preserved c =
     ∙ ap (λ rest. part ∷ parts_behind (option_map (λ found. found.now) rest)) c.in-Some.is in
     let has = subst (λ parts. HasDefined Spells name_of_let all definitions parts) step c.loop-definitions.invariant
     in
-    let added = c.in_ok-add.ensures.added in
+    let added = c.in_ok-add_definition.ensures.added in
     subst (λ items. HasDefined Spells name_of_let all items others) (sym added.1)
     (one-more all others definitions part added.0 has added.2 added.3)
 
@@ -69,11 +69,11 @@ returns-in-None-clause-definitions c =
     ∙ ap (λ rest. part ∷ parts_behind (option_map (λ found. found.now) rest)) c.in-None.is in
     let has = subst (λ parts. HasDefined Spells name_of_let all definitions parts) step c.loop-definitions.invariant
     in
-    let added = c.in_ok-add.ensures.added in
+    let added = c.in_ok-add_definition.ensures.added in
     let past = c.skip_spaces.ensures ∙ ap past_spaces c.as_bytes-rest.ensures.value in
     let some : (length (past_spaces text) == 0) ≡ false =
     ap (λ bytes. length bytes == 0) (sym past) ∙ sym c.is_empty.ensures ∙ c.if-is_empty.false in
-    subst (λ parts. Define parts c.add.new.definitions.items) (sym (some_parts text some))
-    (all-defined all c.add.new.definitions.items
+    subst (λ parts. Define parts c.add_definition.new.definitions.items) (sym (some_parts text some))
+    (all-defined all c.add_definition.new.definitions.items
     (subst (λ items. HasDefined Spells name_of_let all items []) (sym added.1)
     (one-more all [] definitions part added.0 has added.2 added.3)))

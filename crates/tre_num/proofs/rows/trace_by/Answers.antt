@@ -24,24 +24,26 @@ returns-in_err-read-clause-placed c =
 pub trace_of-requires : goal.trace_of-requires
 trace_of-requires c =
     let bytes = c.args.bytes.now in
-    let terms = c.args.table.now in
+    let terms = c.args.table.now.terms in
+    let asked = c.args.table.now.names in
     let now = rows_recording terms true bytes in
-    let all = all-added terms.names c.new-segments.result.items c.read.new.segments.items now
+    let all = all-added asked c.new-segments.result.items c.read.new.segments.items now
     c.new-segments.ensures.items (c.in_ok-read.ensures.adds bytes refl) in
-    subst IsTrace (sym all) (rows-are_trace terms terms.names true bytes)
+    subst IsTrace (sym all) (rows-are_trace terms asked true bytes)
 
 pub returns-clause-trace : goal.returns-clause-trace
 returns-clause-trace c =
     let bytes = c.args.bytes.now in
-    let terms = c.args.table.now in
+    let terms = c.args.table.now.terms in
+    let asked = c.args.table.now.names in
     let segments = c.read.new.segments.items in
     let now = rows_recording terms true bytes in
-    let all = all-added terms.names c.new-segments.result.items segments now
+    let all = all-added asked c.new-segments.result.items segments now
     c.new-segments.ensures.items (c.in_ok-read.ensures.adds bytes refl) in
-    let whole = whole-is segments (reading_for terms.names now) all
-    (ends-quiet terms terms.names bytes) (c.in_ok-read.ensures.whole bytes refl) in
+    let whole = whole-is segments (reading_for asked now) all
+    (ends-quiet terms asked bytes) (c.in_ok-read.ensures.whole bytes refl) in
     IfOk-weaker c.trace_of.result (λ trace. trace ≡ quiet segments)
-    (λ trace. reading_for terms.names now
+    (λ trace. reading_for asked now
     ≡ record { segments = trace.segments; last = trace.last; fault = None })
     (λ trace same. whole ∙ ap (λ (trace : Timeline). record {
       segments = trace.segments;

@@ -1,8 +1,7 @@
 use Rattle.std.proofs.Common.{ℕ, ◌≤◌, List, length}
 use Rattle.tre_pairs.specs.declared.TheConstants.{TIME_MAX}
 use Rattle.tre_num.specs.Left.{IsLeft}
-use Rattle.tre_num.specs.Rows.{ColumnTerms}
-use Rattle.tre_num.specs.Told.{IsUnder}
+use Rattle.tre_num.specs.Told.{IsUnder, TableTerms}
 use Rattle.tre_num.proofs.Reading.{HasRead}
 use Rattle.tre_num.proofs.table.read_behind.Given as goal
 
@@ -11,8 +10,8 @@ abbrev pub invariant-loop : goal.invariant-loop
 invariant-loop g l = record {
   in_time : l.end ≤ TIME_MAX;
   more : length l.fn.segments.items ≤ length l.segments.items;
-  reads : (terms : ColumnTerms) (header : List (List ℕ)) (left : List (List (List ℕ)))
-      → IsUnder terms header l.columns l.width l.scale → IsLeft g.R.Read.remaining l.fn.rows left
-      → HasRead g.R.Read.remaining terms header l.columns left l.rows l.fn.segments.items
+  reads : (by : TableTerms) (header : List (List ℕ)) (left : List (List (List ℕ)))
+      → IsUnder by header l.layout → IsLeft g.R.Read.remaining l.fn.rows left
+      → HasRead g.R.Read.remaining by header l.layout left l.rows l.fn.segments.items
       l.segments.items l.end;
 }

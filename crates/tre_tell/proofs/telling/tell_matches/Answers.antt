@@ -15,7 +15,7 @@ use Rattle.tre_tell.proofs.telling.tell_matches.Goals.{After-next-read}
 
 -- what is asked, as all goals say it
 abbrev request : (g : Given.Over) → After-next-read g → Request
-request g c = request_by c.args.job.now (map string_bytes c.args.labels.now) c.args.patterns.now
+request g c = request_by c.args.job.now [] (map string_bytes c.args.labels.now) c.args.patterns.now
     (recording_of g.R.TraceReader.recording g.R.TraceReader.terms c.args.input.now)
 
 -- what the turn found, by what `next` answered
@@ -60,7 +60,7 @@ returns-in_err-watch-clause-ends g c =
     let reader = g.R.TraceReader in
     rw (p.1, p.2) (
       refl,
-      StandsAtMemory-unread (request_by c.args.job.now
+      StandsAtMemory-unread (request_by c.args.job.now []
           (map string_bytes c.args.labels.now) c.args.patterns.now
           (recording_of reader.recording reader.terms c.args.input.now))
           (starts_of reader.recording reader.terms g.met.R.TraceReader.starts
@@ -75,7 +75,7 @@ returns-in_err-open-clause-ends g c =
     let reader = g.R.TraceReader in
     let met = g.met.R.TraceReader in
     let refused = c.in_err-open.ensures.refused in
-    rw (p.1, p.2) (EndsTelling-unread (request_by c.args.job.now
+    rw (p.1, p.2) (EndsTelling-unread (request_by c.args.job.now []
     (map string_bytes c.args.labels.now) c.args.patterns.now
     (recording_of reader.recording reader.terms c.args.input.now))
     (starts_of reader.recording reader.terms met.starts c.args.input.now.each.items) _ _

@@ -13,7 +13,7 @@ invariant-loop-room g l =
     let reader = g.R.TraceReader in
     let sink = g.O.Sink in
     record {
-      telling : IsTelling (request_by l.job (map string_bytes l.labels) l.patterns
+      telling : IsTelling (request_by l.job [] (map string_bytes l.labels) l.patterns
           (recording_of reader.recording reader.terms l.fn.input))
           (WereFed reader.terms reader.represents l.input)
           (input_told (source.told l.fn.source) (source.told l.source)) (taken_of l.input) l.watch

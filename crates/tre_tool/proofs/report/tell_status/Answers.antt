@@ -49,5 +49,11 @@ returns-in-TooManyZones-clause-line g c = rw c.in-TooManyZones.is c.tell_number.
 pub returns-in-TooManyZones-clause-part : goal.returns-in-TooManyZones-clause-part
 returns-in-TooManyZones-clause-part g c = rw c.in-TooManyZones.is c.tell_number.ensures.part
 
+pub returns-in-Failed-clause-line : goal.returns-in-Failed-clause-line
+returns-in-Failed-clause-line g c = rw c.in-Failed.is c.tell_number-in-Failed.ensures.line
+
+pub returns-in-Failed-clause-part : goal.returns-in-Failed-clause-part
+returns-in-Failed-clause-part g c = rw c.in-Failed.is c.tell_number-in-Failed.ensures.part
+
 pub returns-in-Minus-clause-part : goal.returns-in-Minus-clause-part
 returns-in-Minus-clause-part g c = rw c.in-Minus.is c.tell_fault-in-Minus.ensures.part

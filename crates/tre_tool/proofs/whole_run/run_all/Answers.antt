@@ -1,6 +1,6 @@
 use Rattle.std.proofs.Common.{map, string_bytes}
 use Rattle.tre_words.proofs.Jobs.{job_unique}
-use Rattle.tre_tool.proofs.Parts.{IsLineTold-of, of_watch, taken_of}
+use Rattle.tre_tool.proofs.Parts.{IsLineTold-of, of_named, taken_of}
 use Rattle.tre_tool.proofs.Promise.{IsComplete-ends}
 use Rattle.tre_tool.proofs.whole_run.run_all.Goals as goal
 
@@ -19,8 +19,8 @@ returns-clause-input g c = c.run_words.ensures.reads
 pub returns-clause-file : goal.returns-clause-file
 returns-clause-file g c = λ opened.
     let taken = taken_of _ _ _ (c.run_words.ensures.checks_at_most opened) in (
-      of_watch (g.P.Source.told c.args.checks.now).name (map string_bytes c.args.words.now)
-          (λ job file gives watches. c.run_words.ensures.checks_by_name job file gives watches opened),
+      of_named (g.P.Source.told c.args.checks.now).name (map string_bytes c.args.words.now)
+          (λ job file gives named. c.run_words.ensures.checks_by_name job file gives named opened),
       taken.0,
       taken.1,
       taken.2,

@@ -3,7 +3,7 @@ use Rattle.std.proofs.lemmas.Result.{err_from_is_err_and}
 use Rattle.tre_words.proofs.Jobs.{job_unique}
 use Rattle.std.specs.Io.KnownBytes.{Consumes}
 use Rattle.tre_tool.proofs.Once.{nothing_asked}
-use Rattle.tre_tool.proofs.Parts.{EndsAs-words, EndsAs-stopped, EndsAs-answered, EndsAs-done, AsksFor-of, never_first, of_job, of_file, kept_as, kept_by, taken_of}
+use Rattle.tre_tool.proofs.Parts.{EndsAs-words, EndsAs-stopped, EndsAs-answered, EndsAs-done, AsksFor-of, never_first, never_first-done, of_job, of_file, kept_as, kept_by, taken_of}
 use Rattle.tre_tool.proofs.Promise.{read_as_told}
 use Rattle.tre_tool.proofs.whole_run.run_words.Goals as goal
 
@@ -59,73 +59,73 @@ returns-in_err-question-clause-reads g c = λ job gives opened.
 
 pub returns-in_err-question-clause-checks_by_name :
     goal.returns-in_err-question-clause-checks_by_name
-returns-in_err-question-clause-checks_by_name g c = λ job file gives watches opened.
+returns-in_err-question-clause-checks_by_name g c = λ job file gives named opened.
     of_file (map string_bytes c.args.words.now) c.in_ok-job.job job file
     (λ name. IfSome (g.P.Source.told c.args.checks.now).name (λ told. told ≡ name))
-    c.in_ok-job.ensures.ok gives watches (c.in_err-question.ensures.by_name opened)
+    c.in_ok-job.ensures.ok gives named (c.in_err-question.ensures.by_name opened)
 
 -- ---- an answer that ended before its end
 
 pub answer-requires-clause-closed : goal.answer-requires-clause-closed
 answer-requires-clause-closed g c = c.requires.input
 
-pub returns-in_err-answer-clause-ends : goal.returns-in_err-answer-clause-ends
-returns-in_err-answer-clause-ends g c =
-    let p = err_from_is_err_and c.from_residual-in_err-answer.result
-    c.from_residual-in_err-answer.ensures.1 in
+pub returns-in_err-failed-clause-ends : goal.returns-in_err-failed-clause-ends
+returns-in_err-failed-clause-ends g c =
+    let p = err_from_is_err_and c.from_residual-in_err-failed.result
+    c.from_residual-in_err-failed.ensures.1 in
     let question = c.in_ok-question.question in
     let found = c.in_ok-question.ensures.asks in
     let asks = AsksFor-of _ _ c.in_ok-job.job question.definitions question.asked
-    c.in_ok-job.ensures.ok found.patterns found.defines in
-    rw (p.1, p.2) (EndsAs-answered _ _ _ _ _ c.in_err-answer.field-0.0 asks found.good
-    c.in_err-answer.ensures.ends)
+    c.in_ok-job.ensures.ok found.asks in
+    rw (p.1, p.2) (EndsAs-answered _ _ _ _ _ c.in_err-failed.field-0.0 asks found.good
+    c.in_err-failed.ensures.ends)
 
-pub returns-in_err-answer-clause-untouched : goal.returns-in_err-answer-clause-untouched
-returns-in_err-answer-clause-untouched g c =
+pub returns-in_err-failed-clause-untouched : goal.returns-in_err-failed-clause-untouched
+returns-in_err-failed-clause-untouched g c =
     let question = c.in_ok-question.question in
     let found = c.in_ok-question.ensures.asks in
     let asks = AsksFor-of _ _ c.in_ok-job.job question.definitions question.asked
-    c.in_ok-job.ensures.ok found.patterns found.defines in
+    c.in_ok-job.ensures.ok found.asks in
     λ nothing. absurd (nothing_asked _ (job_unique (map string_bytes c.args.words.now)) _ _
     (read_as_told _) _ asks nothing)
 
-pub returns-in_err-answer-clause-nothing_first : goal.returns-in_err-answer-clause-nothing_first
-returns-in_err-answer-clause-nothing_first g c =
-    let p = err_from_is_err_and c.from_residual-in_err-answer.result
-    c.from_residual-in_err-answer.ensures.1 in
-    rw (p.1, p.2) (λ first. absurd (never_first c.in_err-answer.field-0.0 first))
+pub returns-in_err-failed-clause-nothing_first : goal.returns-in_err-failed-clause-nothing_first
+returns-in_err-failed-clause-nothing_first g c =
+    let p = err_from_is_err_and c.from_residual-in_err-failed.result
+    c.from_residual-in_err-failed.ensures.1 in
+    rw (p.1, p.2) (λ first. absurd (never_first c.in_err-failed.field-0.0 first))
 
-pub returns-in_err-answer-clause-source_untouched :
-    goal.returns-in_err-answer-clause-source_untouched
-returns-in_err-answer-clause-source_untouched g c = λ job gives unread.
+pub returns-in_err-failed-clause-source_untouched :
+    goal.returns-in_err-failed-clause-source_untouched
+returns-in_err-failed-clause-source_untouched g c = λ job gives unread.
     kept_as (map string_bytes c.args.words.now) c.in_ok-job.job job _ c.in_ok-job.ensures.ok gives
-    c.in_err-answer.ensures.untouched unread
+    c.in_err-failed.ensures.untouched unread
 
-pub returns-in_err-answer-clause-checks_untouched :
-    goal.returns-in_err-answer-clause-checks_untouched
-returns-in_err-answer-clause-checks_untouched g c = λ never.
+pub returns-in_err-failed-clause-checks_untouched :
+    goal.returns-in_err-failed-clause-checks_untouched
+returns-in_err-failed-clause-checks_untouched g c = λ never.
     kept_by (map string_bytes c.args.words.now) c.in_ok-job.job _ c.in_ok-job.ensures.ok
     c.in_ok-question.ensures.untouched never
 
-pub returns-in_err-answer-clause-reads : goal.returns-in_err-answer-clause-reads
-returns-in_err-answer-clause-reads g c = λ job gives opened.
-    let taken = taken_of _ _ _ (c.in_err-answer.ensures.bounded opened) in
+pub returns-in_err-failed-clause-reads : goal.returns-in_err-failed-clause-reads
+returns-in_err-failed-clause-reads g c = λ job gives opened.
+    let taken = taken_of _ _ _ (c.in_err-failed.ensures.bounded opened) in
     of_job (map string_bytes c.args.words.now) c.in_ok-job.job job
     (λ job. IfSome (g.S.Source.told c.args.input.now).name (λ told. told ≡ job.input)
     × (taken : List ℕ) × (length taken ≤ job.max_bytes + 1)
     × Consumes (g.S.Source.told c.args.input.now).file
     (g.S.Source.told c.answer.new.source).left taken) c.in_ok-job.ensures.ok gives (
-      c.in_err-answer.ensures.by_name opened,
+      c.in_err-failed.ensures.by_name opened,
       taken.0,
       taken.1,
       taken.2,
     )
 
-pub returns-in_err-answer-clause-checks_by_name : goal.returns-in_err-answer-clause-checks_by_name
-returns-in_err-answer-clause-checks_by_name g c = λ job file gives watches opened.
+pub returns-in_err-failed-clause-checks_by_name : goal.returns-in_err-failed-clause-checks_by_name
+returns-in_err-failed-clause-checks_by_name g c = λ job file gives named opened.
     of_file (map string_bytes c.args.words.now) c.in_ok-job.job job file
     (λ name. IfSome (g.P.Source.told c.args.checks.now).name (λ told. told ≡ name))
-    c.in_ok-job.ensures.ok gives watches (c.in_ok-question.ensures.by_name opened)
+    c.in_ok-job.ensures.ok gives named (c.in_ok-question.ensures.by_name opened)
 
 -- ---- an answer
 
@@ -134,25 +134,25 @@ returns-clause-ends g c =
     let question = c.in_ok-question.question in
     let found = c.in_ok-question.ensures.asks in
     let asks = AsksFor-of _ _ c.in_ok-job.job question.definitions question.asked
-    c.in_ok-job.ensures.ok found.patterns found.defines in
-    EndsAs-done _ _ _ _ _ asks c.in_ok-answer.ensures.ends
+    c.in_ok-job.ensures.ok found.asks in
+    EndsAs-done _ _ _ _ _ c.in_ok-failed.failed asks c.in_ok-failed.ensures.ends
 
 pub returns-clause-untouched : goal.returns-clause-untouched
 returns-clause-untouched g c =
     let question = c.in_ok-question.question in
     let found = c.in_ok-question.ensures.asks in
     let asks = AsksFor-of _ _ c.in_ok-job.job question.definitions question.asked
-    c.in_ok-job.ensures.ok found.patterns found.defines in
+    c.in_ok-job.ensures.ok found.asks in
     λ nothing. absurd (nothing_asked _ (job_unique (map string_bytes c.args.words.now)) _ _
     (read_as_told _) _ asks nothing)
 
 pub returns-clause-nothing_first : goal.returns-clause-nothing_first
-returns-clause-nothing_first g c = λ first. absurd first
+returns-clause-nothing_first g c = λ first. absurd (never_first-done c.in_ok-failed.failed first)
 
 pub returns-clause-source_untouched : goal.returns-clause-source_untouched
 returns-clause-source_untouched g c = λ job gives unread.
     kept_as (map string_bytes c.args.words.now) c.in_ok-job.job job _ c.in_ok-job.ensures.ok gives
-    c.in_ok-answer.ensures.untouched unread
+    c.in_ok-failed.ensures.untouched unread
 
 pub returns-clause-checks_untouched : goal.returns-clause-checks_untouched
 returns-clause-checks_untouched g c = λ never.
@@ -161,20 +161,20 @@ returns-clause-checks_untouched g c = λ never.
 
 pub returns-clause-reads : goal.returns-clause-reads
 returns-clause-reads g c = λ job gives opened.
-    let taken = taken_of _ _ _ (c.in_ok-answer.ensures.bounded opened) in
+    let taken = taken_of _ _ _ (c.in_ok-failed.ensures.bounded opened) in
     of_job (map string_bytes c.args.words.now) c.in_ok-job.job job
     (λ job. IfSome (g.S.Source.told c.args.input.now).name (λ told. told ≡ job.input)
     × (taken : List ℕ) × (length taken ≤ job.max_bytes + 1)
     × Consumes (g.S.Source.told c.args.input.now).file
     (g.S.Source.told c.answer.new.source).left taken) c.in_ok-job.ensures.ok gives (
-      c.in_ok-answer.ensures.by_name opened,
+      c.in_ok-failed.ensures.by_name opened,
       taken.0,
       taken.1,
       taken.2,
     )
 
 pub returns-clause-checks_by_name : goal.returns-clause-checks_by_name
-returns-clause-checks_by_name g c = λ job file gives watches opened.
+returns-clause-checks_by_name g c = λ job file gives named opened.
     of_file (map string_bytes c.args.words.now) c.in_ok-job.job job file
     (λ name. IfSome (g.P.Source.told c.args.checks.now).name (λ told. told ≡ name))
-    c.in_ok-job.ensures.ok gives watches (c.in_ok-question.ensures.by_name opened)
+    c.in_ok-job.ensures.ok gives named (c.in_ok-question.ensures.by_name opened)

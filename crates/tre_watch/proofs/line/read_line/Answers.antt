@@ -1,11 +1,15 @@
-use Rattle.std.proofs.Common.{◌≡◌, ◌∙◌, ℕ, false, List, ap, sym, subst}
-use Rattle.tre_watch.specs.Lines.{is_space_or_tab, behind_passed, is_silent, IsCheck}
+use Rattle.std.proofs.Common.{◌≡◌, ◌∙◌, ℕ, List, ap, sym, subst}
+use Rattle.tre_watch.specs.Lines.{Stands, behind_passed, content_of, is_silent, is_space_or_tab}
+use Rattle.tre_watch.specs.Steps.{said_on}
+use Rattle.tre_watch.proofs.Standing.{says_spoken}
 use Rattle.tre_watch.proofs.line.read_line.Goals as goal
 
-pub returns-in-None : goal.returns-in-None
-returns-in-None c =
-    let same = c.behind_blanks-content.ensures
-    ∙ ap (λ (bytes : List ℕ). behind_passed is_space_or_tab bytes) c.without_return-line.ensures in
-    subst (λ (content : List ℕ). (is_silent content ≡ false)
-    × ((name text : List ℕ) → ¬ IsCheck content name text)) same
-    (sym c.is_silent.ensures ∙ c.if-is_silent.false, c.in-None.ensures)
+pub returns : goal.returns
+returns c =
+    let same : c.behind_blanks-content.result.now ≡ content_of c.args.line.now =
+    c.behind_blanks-content.ensures
+    ∙ ap (λ (bytes : List ℕ). behind_passed is_space_or_tab bytes) c.without_return.ensures in
+    says_spoken c.args.line.now (said_on c.line_of.result)
+    (ap is_silent (sym same) ∙ sym c.is_silent.ensures ∙ c.if-is_silent.false)
+    (subst (λ (content : List ℕ). Stands content (said_on c.line_of.result)) same
+    c.line_of.ensures)

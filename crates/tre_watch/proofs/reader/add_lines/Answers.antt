@@ -1,17 +1,16 @@
-use Rattle.std.proofs.Common.{◌≡◌, ◌+◌, ◌-◌, [], length, ap, subst, ◌∙◌, inr, arith}
+use Rattle.std.proofs.Common.{◌≡◌, ◌+◌, ◌-◌, length, ap, sym, ◌∙◌, inr, arith}
 use Rattle.std.proofs.lemmas.List.{length-drop, length-take}
 use Rattle.std.proofs.lemmas.Result.{err_from_is_err_and}
-use Rattle.std.specs.Char.{is_newline}
-use Rattle.std.specs.List.{slice_split}
-use Rattle.tre_watch.specs.Outcome.{Outcome, IsOutcomeFrom}
-use Rattle.tre_watch.specs.Steps.{spelt_in}
-use Rattle.tre_watch.proofs.Outcomes.{Reaches-start, Reaches-next, Reaches-stop, Reaches-last_stop, Reaches-end, ended_empty, ended_some}
+use Rattle.tre_watch.specs.Outcome.{faulty, is_enough, planned}
+use Rattle.tre_watch.specs.Steps.{spelt_checks}
+use Rattle.tre_watch.specs.declared.fault.WatchFault.TheVariants.{Empty}
+use Rattle.tre_watch.proofs.Lines.{Reaches-start, Reaches-next, Reaches-stop, Reaches-last_stop, Reaches-end, ended_empty, ended_some, some_name}
 use Rattle.tre_watch.proofs.reader.add_lines.Goals as goal
 
 pub loop-end-init : goal.loop-end-init
 loop-end-init c = record {
-  reaches = rw (c.requires.names, c.requires.patterns)
-      (Reaches-start c.args.scale c.args.bytes.now);
+  reaches = Reaches-start c.args.verdicts c.args.scale c.args.bytes.now
+      (spelt_checks c.args.checks.now) c.requires.fit;
   small = omega arith;
 }
 
@@ -25,11 +24,10 @@ loop-end-preserved c =
     let small = c.loop-end.invariant.small in
     record {
       reaches = rw c.behind_line-rest.ensures
-          (Reaches-next c.args.scale c.args.bytes.now c.loop-end.names
-          (spelt_in c.loop-end.patterns.items) c.loop-end.number c.loop-end.rest.now
-          c.loop-end.invariant.reaches c.in-Some.end c.in-Some.ensures.0 c.in-Some.ensures.1
-          c.add_line.new.names (spelt_in c.add_line.new.patterns.items)
-          c.in_ok-add_line.ensures);
+          (Reaches-next c.args.verdicts c.args.scale c.args.bytes.now
+          (spelt_checks c.args.checks.now) (spelt_checks c.loop-end.checks) c.loop-end.number
+          c.loop-end.rest.now c.loop-end.invariant.reaches c.in-Some.end c.in-Some.ensures.0
+          c.in-Some.ensures.1 (spelt_checks c.add_line.new.checks) c.in_ok-add_line.ensures);
       small = omega arith;
     }
 
@@ -37,43 +35,51 @@ pub returns-in_err-add_line-clause-outcome : goal.returns-in_err-add_line-clause
 returns-in_err-add_line-clause-outcome c =
     let p = err_from_is_err_and c.from_residual.result c.from_residual.ensures.1 in
     rw (p.1, p.2)
-    (Reaches-stop c.args.scale c.args.bytes.now c.loop-end.names
-    (spelt_in c.loop-end.patterns.items)
-    c.loop-end.number c.loop-end.rest.now c.loop-end.invariant.reaches c.in-Some.end
-    c.in-Some.ensures.0 c.in-Some.ensures.1 c.in_err-add_line.field-0.0 c.in_err-add_line.ensures)
+    (Reaches-stop c.args.verdicts c.args.scale c.args.bytes.now (spelt_checks c.args.checks.now)
+    (spelt_checks c.loop-end.checks) c.loop-end.number c.loop-end.rest.now
+    c.loop-end.invariant.reaches c.in-Some.end c.in-Some.ensures.0 c.in-Some.ensures.1
+    c.in_err-add_line.field-0.0 c.in_err-add_line.ensures)
 
 pub returns-in_err-add_line-2-clause-outcome : goal.returns-in_err-add_line-2-clause-outcome
 returns-in_err-add_line-2-clause-outcome c =
     let p = err_from_is_err_and c.from_residual-in_err-add_line-2.result
     c.from_residual-in_err-add_line-2.ensures.1 in
     rw (p.1, p.2)
-    (Reaches-last_stop c.args.scale c.args.bytes.now c.loop-end.names
-    (spelt_in c.loop-end.patterns.items)
-    c.loop-end.number c.loop-end.rest.now c.loop-end.invariant.reaches c.in_default.ensures
+    (Reaches-last_stop c.args.verdicts c.args.scale c.args.bytes.now
+    (spelt_checks c.args.checks.now) (spelt_checks c.loop-end.checks) c.loop-end.number
+    c.loop-end.rest.now c.loop-end.invariant.reaches c.in_default.ensures
     c.in_err-add_line-2.field-0.0 c.in_err-add_line-2.ensures)
 
-pub returns-then-is_empty-clause-outcome : goal.returns-then-is_empty-clause-outcome
-returns-then-is_empty-clause-outcome c =
-    let none = c.is_empty.ensures.0 c.if-is_empty.true in
-    inr (subst (λ (outcome : Outcome).
-    IsOutcomeFrom c.args.scale [] [] 1 (slice_split is_newline c.args.bytes.now) outcome)
-    (ended_empty c.add_line-2.new.names (spelt_in c.add_line-2.new.patterns.items) none)
-    (Reaches-end c.args.scale c.args.bytes.now c.loop-end.names (spelt_in c.loop-end.patterns.items)
-    c.loop-end.number c.loop-end.rest.now c.loop-end.invariant.reaches c.in_default.ensures
-    c.add_line-2.new.names (spelt_in c.add_line-2.new.patterns.items)
-    c.in_ok-add_line-2.ensures))
+pub returns-then-not-is_enough-clause-outcome : goal.returns-then-not-is_enough-clause-outcome
+returns-then-not-is_enough-clause-outcome c =
+    inr (Reaches-end c.args.verdicts c.args.scale c.args.bytes.now
+    (spelt_checks c.args.checks.now) (spelt_checks c.loop-end.checks) c.loop-end.number
+    c.loop-end.rest.now c.loop-end.invariant.reaches c.in_default.ensures
+    (spelt_checks c.add_line-2.new.checks) c.in_ok-add_line-2.ensures (faulty Empty)
+    (ended_empty c.args.verdicts (spelt_checks c.add_line-2.new.checks)
+    (ap (λ forms. is_enough c.args.verdicts forms) (sym c.deref.ensures.value)
+    ∙ sym c.is_enough.ensures ∙ c.if-not-is_enough.true)))
 
 pub returns-clause-outcome : goal.returns-clause-outcome
 returns-clause-outcome c =
-    let some : c.add_line-2.new.names ≡ [] → ⊥ =
-    λ none. let told = c.is_empty.ensures.1 none in absurd (cc) in
-    subst (λ (outcome : Outcome).
-    IsOutcomeFrom c.args.scale [] [] 1 (slice_split is_newline c.args.bytes.now) outcome)
-    (ended_some c.add_line-2.new.names (spelt_in c.add_line-2.new.patterns.items) some)
-    (Reaches-end c.args.scale c.args.bytes.now c.loop-end.names (spelt_in c.loop-end.patterns.items)
-    c.loop-end.number c.loop-end.rest.now c.loop-end.invariant.reaches c.in_default.ensures
-    c.add_line-2.new.names (spelt_in c.add_line-2.new.patterns.items)
-    c.in_ok-add_line-2.ensures)
+    Reaches-end c.args.verdicts c.args.scale c.args.bytes.now
+    (spelt_checks c.args.checks.now) (spelt_checks c.loop-end.checks) c.loop-end.number
+    c.loop-end.rest.now c.loop-end.invariant.reaches c.in_default.ensures
+    (spelt_checks c.add_line-2.new.checks) c.in_ok-add_line-2.ensures
+    (planned (spelt_checks c.add_line-2.new.checks))
+    (ended_some c.args.verdicts (spelt_checks c.add_line-2.new.checks)
+    (ap (λ forms. is_enough c.args.verdicts forms) (sym c.deref.ensures.value)
+    ∙ sym c.is_enough.ensures ∙ c.if-not-is_enough.false))
+
+pub returns-clause-fit : goal.returns-clause-fit
+returns-clause-fit c = c.in_ok-add_line-2.ensures.fit c.loop-end.invariant.reaches.fit
+
+pub returns-clause-some : goal.returns-clause-some
+returns-clause-some c =
+    some_name c.args.verdicts (spelt_checks c.add_line-2.new.checks)
+    (c.in_ok-add_line-2.ensures.fit c.loop-end.invariant.reaches.fit)
+    (ap (λ forms. is_enough c.args.verdicts forms) (sym c.deref.ensures.value)
+    ∙ sym c.is_enough.ensures ∙ c.if-not-is_enough.false)
 
 pub returns-in_err-add_line-clause-never_memory : goal.returns-in_err-add_line-clause-never_memory
 returns-in_err-add_line-clause-never_memory c =

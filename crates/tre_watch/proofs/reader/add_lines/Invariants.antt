@@ -1,11 +1,12 @@
 use Rattle.std.proofs.Common.{◌+◌, ◌≤◌, length}
-use Rattle.tre_watch.specs.Steps.{spelt_in}
-use Rattle.tre_watch.proofs.Outcomes.{Reaches}
+use Rattle.tre_watch.specs.Steps.{spelt_checks}
+use Rattle.tre_watch.proofs.Lines.{Reaches}
 use Rattle.tre_watch.proofs.reader.add_lines.Given as goal
 
 abbrev pub invariant-loop-end : goal.invariant-loop-end
 invariant-loop-end l = record {
-  reaches : Reaches l.scale l.bytes l.names (spelt_in l.patterns.items) l.number l.rest;
+  reaches : Reaches l.verdicts l.scale l.bytes (spelt_checks l.fn.checks) (spelt_checks l.checks)
+      l.number l.rest;
   small : l.number + length l.rest ≤ length l.bytes + 1;
 }
 

@@ -3,5 +3,5 @@ use Rattle.tre_num.proofs.Tables.{ends-quiet}
 use Rattle.tre_num.proofs.reader.ColumnsReaderTraceReader.finish.Goals as goal
 
 pub returns-clause-last : goal.returns-clause-last
-returns-clause-last c bytes kept = sym (ends-quiet c.args.self.now.table c.args.self.now.table.names
-    bytes)
+returns-clause-last c bytes kept = sym (ends-quiet c.args.self.now.table.terms
+    c.args.self.now.table.names bytes)
