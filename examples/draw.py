@@ -7,7 +7,8 @@ usage: draw.py [options] TRACE [[NAME=]PATTERN..]
   --let TEXT          TRACE is columns of numbers, with these names, as for montre
   --define TEXT       names for values, bits and changes of a dump's signals, as for montre
   --scale K           times have K decimals, as for montre
-  --checks FILE       the patterns of such a file too
+  --checks FILE       the patterns of such a file too, with its definitions; of `each` what its
+                      verdict is about
   --around NAME:N     of the checks this one alone, and only around its Nth match, from 1
   --margin T          so much before and after that match; as much as it takes itself without it
   --from T, --to T    the times to be drawn; the whole trace without them
@@ -32,7 +33,7 @@ from decimal import Decimal, InvalidOperation
 from html import escape
 
 import dumps
-from matches import checks_of, matches, named
+from matches import checks_of, matches, named, with_lets
 
 RESERVED = {"eps", "rise", "fall", "inf", "true", "event"}
 EVENT = re.compile(r"\bevent\s*\(\s*([A-Za-z0-9_.]+)\s*\)")
@@ -396,7 +397,7 @@ def read_words():
     arguments.add_argument("--let")
     arguments.add_argument("--define")
     arguments.add_argument("--scale", type=int, default=0)
-    arguments.add_argument("--checks", type=checks_of, default=[])
+    arguments.add_argument("--checks", type=checks_of, default=([], []))
     arguments.add_argument("--around", type=around)
     for name in ("margin", "from", "to"):
         arguments.add_argument("--" + name, type=Decimal)
@@ -405,7 +406,12 @@ def read_words():
     arguments.add_argument("--columns", type=int, default=80)
     options = arguments.parse_intermixed_args()
     options.patterns = [(*named(text), "=" in text) for text in options.patterns]
-    options.checks = [(name, pattern, True) for name, pattern in options.checks]
+    checks, lets = options.checks
+    options.checks = [(name, pattern, True) for name, pattern in checks]
+    if options.let:
+        options.let = with_lets(options.let, lets)
+    else:
+        options.define = with_lets(options.define, lets)
     return options
 
 

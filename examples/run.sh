@@ -54,6 +54,13 @@ split() {
             return text
         }
         /^```console$/ { inside = 1; wanted = ""; next }
+        # one for a program that not every machine has
+        /^```console [a-z0-9]+$/ {
+            inside = system("command -v " $2 " > /dev/null") == 0 ? 1 : 2
+            wanted = ""
+            next
+        }
+        inside == 2 { if (/^```/) inside = 0; next }
         /^```/ { inside = 0; next }
         inside && /^\$ / { example(substr($0, 3)); next }
         # a block that begins with no command, and a command outside a block, are faults of the page
@@ -95,6 +102,7 @@ status_of() {
         'montre: minus expression: '*) echo 10 ;;
         'montre: definitions: '*) echo 11 ;;
         'montre: watch: '*) echo 12 ;;
+        'montre: failed checks '*) echo 13 ;;
         *) echo 0 ;;
     esac
 }

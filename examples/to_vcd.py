@@ -24,7 +24,7 @@ import sys
 
 import dumps
 from draw import definitions, names_in
-from matches import checks_of, matches, named
+from matches import checks_of, matches, named, with_lets
 
 
 def joined(stretches):
@@ -154,14 +154,16 @@ def save_file(copy, header, patterns, found, end, define):
 
 def main():
     arguments = argparse.ArgumentParser(usage=__doc__, add_help=False)
-    arguments.add_argument("--checks", default=[], type=checks_of)
+    arguments.add_argument("--checks", default=([], []), type=checks_of)
     arguments.add_argument("--define")
     arguments.add_argument("--scale", default="0")
     arguments.add_argument("--out")
     arguments.add_argument("dump")
     arguments.add_argument("patterns", nargs="*", type=named)
     options = arguments.parse_intermixed_args()
-    patterns = options.checks + options.patterns
+    checks, lets = options.checks
+    patterns = checks + options.patterns
+    options.define = with_lets(options.define, lets)
     asked = ["--format", "vcd", "--input", options.dump, "--scale", options.scale]
     asked += ["--define", options.define] if options.define else []
     answers = [matches(asked, pattern) for _, pattern in patterns]

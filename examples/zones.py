@@ -19,7 +19,7 @@ def ranges(words):
 
 
 def read_checks(text):
-    """The zones of each check of --watch by its name. Without --watch the name is empty."""
+    """The zones of each check of a file by its name. Without such a file the name is empty."""
     *lines, last = text.splitlines() or [""]
     if not re.fullmatch(r"end [0-9.]+", last):
         raise ValueError("the text isn't complete")

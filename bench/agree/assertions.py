@@ -6,7 +6,8 @@
 An assertion is read over cycles alone: of each edge of the clock the set of the signals that are
 true in the tick before it. Its matches are pairs of edges, each tried by the words of the
 assertion. The pattern of the row has to find just these pairs over random traces, from one tick
-before the first edge to the last one, alone and as a check of --watch.
+before the first edge to the last one, alone and as a check of --watch. Where the row has a check,
+`--check` has to say of it whether it holds, and to show just the samples that fail, or that wait.
 """
 
 import os
@@ -15,9 +16,10 @@ import re
 import subprocess
 import sys
 import tempfile
+from collections import Counter
 
 PAGE = os.path.join(os.path.dirname(os.path.abspath(__file__)), "..", "..", "docs", "clocked.md")
-ROW = re.compile(r"\| `([^`]*)` \| `([^`]*)` \|$")
+ROW = re.compile(r"\| `([^`]*)` \|(?: `(\w+) NAME = ([^`]*)` \|)? `([^`]*)` \|$")
 SEED = 2014
 
 
@@ -121,6 +123,39 @@ READINGS = {
 }
 
 
+def served(first, low, high, second):
+    """`first |-> ##[low:high] second` as a check: what it is asked of, what fails, what waits."""
+    def read(cycles):
+        asked = first(cycles)
+        left = {(i, j) for i, j in asked if not any(map(second, cycles[j + low:j + high + 1]))}
+        fail = {(i, j) for i, j in left if j + high < len(cycles)}
+        return asked, fail, left - fail
+    return read
+
+
+def all_of(first, second):
+    """Each of the first is one of the second."""
+    return lambda cycles: (first(cycles), first(cycles) - second(cycles), set())
+
+
+def found_where(fails_at):
+    """A check by `never`: it isn't asked of anything, and nothing waits."""
+    return lambda cycles: ({None}, fails_at(cycles), set())
+
+
+STABLE = stepping(lambda old, new: q(old) == q(new))
+CHECKS = {
+    "p |-> q": served(one(p), 0, 0, q),
+    "p |=> q": served(one(p), 1, 1, q),
+    "p |-> ##[1:3] q": served(one(p), 1, 3, q),
+    "$rose(p) |-> ##[1:3] q": served(ROSE, 1, 3, q),
+    "p ##1 q |=> r": served(delay(one(p), 1, 1, one(q)), 1, 1, r),
+    "p |-> $stable(q)": all_of(stepping(lambda old, new: p(new)), STABLE),
+    "p |-> (q until r)": found_where(spans(breaks_until)),
+    "disable iff (r) p |-> ##[1:3] q": found_where(LATE),
+}
+
+
 # ---- the traces
 
 def random_trace(dice):
@@ -147,14 +182,33 @@ def edges_of(ticks):
     return [time for time in range(1, len(ticks)) if clock[time] and not clock[time - 1]]
 
 
-def wanted(assertion, ticks):
-    """The matches of an assertion, each from a tick before its first edge to its last edge."""
+def cycles_of(ticks):
+    return [ticks[time - 1] for time in edges_of(ticks)]
+
+
+def times_of(assertion, found, ticks):
+    """The times of pairs of cycles, each from a tick before its first edge to its last edge."""
     edges = edges_of(ticks)
-    cycles = [ticks[time - 1] for time in edges]
-    found = {(edges[i] - 1, edges[j]) for i, j in READINGS[assertion](cycles)}
+    times = {(edges[i] - 1, edges[j]) for i, j in found}
     if assertion.startswith("disable iff (r)"):
-        found = {(begin, end) for begin, end in found if not any(map(r, ticks[begin:end]))}
-    return found
+        times = {(begin, end) for begin, end in times if not any(map(r, ticks[begin:end]))}
+    return times
+
+
+def wanted(assertion, ticks):
+    """The matches of an assertion."""
+    return times_of(assertion, READINGS[assertion](cycles_of(ticks)), ticks)
+
+
+def verdict(assertion, ticks):
+    """The verdict on an assertion, and the samples that it is about."""
+    asked, fail, wait = CHECKS[assertion](cycles_of(ticks))
+    fail, wait = times_of(assertion, fail, ticks), times_of(assertion, wait, ticks)
+    if fail:
+        return "fail", fail
+    if not asked:
+        return "vacuous", set()
+    return ("open", wait) if wait else ("pass", set())
 
 
 # ---- the patterns
@@ -174,13 +228,14 @@ def spelled(pattern):
 def rows_of(page):
     with open(page, encoding="utf-8") as opened:
         cells = [ROW.match(line.replace("\\|", "\1")) for line in opened if line.startswith("| `")]
-    rows = [tuple(cell.replace("\1", "|") for cell in found.groups()) for found in cells if found]
-    return [(assertion, spelled(pattern)) for assertion, pattern in rows]
+    rows = [[(cell or "").replace("\1", "|") for cell in found.groups()] for found in cells if found]
+    return [(assertion, spelled(pattern), word, spelled(check))
+            for assertion, word, check, pattern in rows]
 
 
 def run(program, *words):
     done = subprocess.run([program, *words], capture_output=True, text=True)
-    if done.returncode != 0:
+    if done.returncode not in (0, 13):
         sys.exit("%s: %s" % (words, done.stderr))
     return done.stdout.splitlines()
 
@@ -195,25 +250,50 @@ def answers(program, rows, folder):
     """For each row its answers alone, and as a check of a file."""
     trace, checks = os.path.join(folder, "trace"), os.path.join(folder, "checks")
     lines = [line.partition(" ") for line in run(program, "--watch", "--input", trace, checks)]
-    for place, (_, pattern) in enumerate(rows):
+    for place, (_, pattern, *_) in enumerate(rows):
         alone = {pair(line) for line in run(program, "--input", trace, "--", pattern)[:-1]}
         yield alone, {pair(zone) for name, _, zone in lines if name == "c%d" % place}
+
+
+def verdicts(program, rows, folder):
+    """For each row with a check its verdict, and the pairs below it."""
+    trace, checks = os.path.join(folder, "trace"), os.path.join(folder, "verdicts")
+    lines = [line.split(" ", 1) for line in run(program, "--check", "--input", trace, checks)]
+    for place, row in enumerate(rows):
+        name = "c%d" % place
+        if row[2]:
+            said = [first for first, rest in lines if rest == name]
+            yield row[0], (" ".join(said), {pair(rest) for first, rest in lines if first == name})
+
+
+def write_checks(folder, rows):
+    with open(os.path.join(folder, "checks"), "w") as checks:
+        checks.writelines("c%d = %s\n" % (place, row[1]) for place, row in enumerate(rows))
+    with open(os.path.join(folder, "verdicts"), "w") as checks:
+        checks.writelines("%s c%d = %s\n" % (row[2], place, row[3])
+                          for place, row in enumerate(rows) if row[2])
 
 
 def main(program, count=200):
     rows, dice, wrong = rows_of(PAGE), random.Random(SEED), 0
     matches = dict.fromkeys(READINGS, 0)
-    missing = set(READINGS) ^ {assertion for assertion, _ in rows}
+    told = Counter()
+    missing = set(READINGS) ^ {row[0] for row in rows} | set(CHECKS) ^ {row[0] for row in rows if row[2]}
     if missing:
         sys.exit("no row of the page, or no reading: %s" % ", ".join(sorted(missing)))
     with tempfile.TemporaryDirectory() as folder:
-        with open(os.path.join(folder, "checks"), "w") as checks:
-            checks.writelines("c%d = %s\n" % (place, row[1]) for place, row in enumerate(rows))
+        write_checks(folder, rows)
         for _ in range(int(count)):
             ticks = random_trace(dice)
             with open(os.path.join(folder, "trace"), "w") as trace:
                 trace.writelines(" ".join(["1", *sorted(tick)]) + "\n" for tick in ticks)
-            for (assertion, _), found in zip(rows, answers(program, rows, folder)):
+            for assertion, found in verdicts(program, rows, folder):
+                told[found[0]] += 1
+                if found != verdict(assertion, ticks):
+                    wrong += 1
+                    print("%s over %s: %s, and not %s"
+                          % (assertion, ticks, found, verdict(assertion, ticks)))
+            for (assertion, *_), found in zip(rows, answers(program, rows, folder)):
                 right = wanted(assertion, ticks)
                 matches[assertion] += len(right)
                 if any(answer != right for answer in found):
@@ -221,6 +301,7 @@ def main(program, count=200):
                     print("%s over %s: %s, and not %s" % (assertion, ticks, found, right))
     print("%d rows, %s traces, %d matches, of each row at least %d"
           % (len(rows), count, sum(matches.values()), min(matches.values())))
+    print(", ".join("%d %s" % (told[word], word) for word in sorted(told)))
     print("%d differ" % wrong)
     return 1 if wrong else 0
 

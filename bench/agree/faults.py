@@ -19,6 +19,8 @@ MEMORY = [(8, "montre: out of memory\n"), (1, "")]  # 1: where the words aren't 
 READ, WRITE = (6, "montre: read fault\n"), (7, "montre: write fault\n")
 CHECKS = ("# What is watched.\nmany = ({p && q};r)* % [1,9]\nend = <:p:>\n"
           "happens = event(a);true;event(b)\nat=(q|event(a))+\n")
+VERDICTS = ("never short = <:p:> % (0,1)\nsome any = p\nmany = ({p && q};r)* % [1,9]\n"
+            "each e = event(a) |-> true;event(b)\neach w = <:p:> => true? ; rise(q) ; true?\n")
 LETS = "p = one >= 1; q = two != 0; r = three < -5"
 SIGNALS = "v = p == 1; w = q; c = r changes"
 OPTIONS = [[], ["--online"], ["--minus", "{p && q}"], ["--normal"],
@@ -32,7 +34,8 @@ REFUSED = [["p;"], ["--minus", "p;", "p"], ["--nothing"], ["--show", "p % [2,1]"
            ["--generate", "0"], ["--format", "csv", "--let", "p", "p"],
            ["--input", "nowhere", "p"], ["--input", ".", "p"],
            ["--watch", "nowhere"], ["--watch", "checks", "--input", "nowhere"],
-           ["--watch", "text"], ["--max-bytes", "9", "p"], ["--max-bytes", "9", "--online", "p"],
+           ["--watch", "text"], ["--check", "text"], ["--check", "checks"], ["--check", "nowhere"],
+           ["--check", "verdicts", "--input", "nowhere"], ["--max-bytes", "9", "p"], ["--max-bytes", "9", "--online", "p"],
            ["--format", "vcd", "none"], ["--format", "vcd", "--define", "p", "p"],
            ["p", "--input", "checks"]]
 
@@ -46,7 +49,7 @@ def write_files(folder):
     """The inputs: of each form a short one, and of two one that takes several pieces."""
     trace = make_trace(6, 12, True)
     text, (head, sign, changes) = lines_of(trace), dump_of(trace).partition("#")
-    texts = {"checks": CHECKS, "text": text, "dump": head + sign + changes,
+    texts = {"checks": CHECKS, "verdicts": VERDICTS, "text": text, "dump": head + sign + changes,
              "columns": columns_of(trace), "long_text": padded(text, "#"),
              "long_dump": head + padded(sign + changes, "$comment", " $end")}
     for name, text in texts.items():
@@ -67,9 +70,12 @@ def all_cases():
     for form, name in (("text", "text"), ("vcd", "dump")):
         words = ["--watch", "--format", form, "--input", name]
         cases += [words + ["checks"], words + ["--scale", "3", "checks"]]
+        cases += [["--check", *words[1:], *more, "verdicts"]
+                  for more in ([], ["--normal"], ["--scale", "3"], ["--normal", "--max-zones", "0"])]
         for words in (["--online", LONG], [LONG], ["--minus", "p", "--normal", LONG]):
             cases.append(["--format", form, "--input", "long_" + name, *words])
-        cases.append(["--watch", "--format", form, "--input", "long_" + name, "checks"])
+        for words in (["--watch", "checks"], ["--check", "verdicts"]):
+            cases.append([*words[:1], "--format", form, "--input", "long_" + name, words[1]])
     return cases + [[PATTERN], ["--online", PATTERN], ["--watch", "checks"],
                     ["--show", PATTERN], ["--generate", "7"]] + REFUSED
 
@@ -116,6 +122,8 @@ class Runs:
         fits = (found[0], found[2]) in ends or (
             found[0] == whole[0] != 0 and whole[2].startswith(found[2]))
         is_cut = found[1] == b"" if at_once else whole[1].startswith(found[1])
+        if found[0] == whole[0]:
+            is_cut = found[1] == whole[1]
         if found != whole and not (fits and is_cut):
             self.wrong += 1
             print("wrong: %s, %s: %s %r, and %d of %d bytes are printed"

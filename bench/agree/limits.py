@@ -183,6 +183,19 @@ def check_files(folder):
         with open(os.path.join(folder, name), "wb") as file:
             file.write(text)
         yield ["--watch", name], b"3 p", status, line
+    lets = b"".join(b"let n%d = x < %d\n" % (number, number) for number in range(6000))
+    checks = b"".join(b"never c%d = n%d\n" % (number, number) for number in range(63))
+    arrow = b"some b = eps\neach a = n0 =>" + b" " * 16376
+    ends = [(lets + checks + b"some d = n63", 13, b"montre: failed checks 1\n"),
+            (lets + checks + b"some d = n63\ne = n0", 12, b"montre: watch: TooMany at 6065\n"),
+            (lets + checks + b"let n5999 = x < 0", 12, b"montre: watch: Twice at 6064\n"),
+            (lets + arrow + b"n0", 0, b""),
+            (lets + arrow + b" n0", 12, b"montre: watch: Pattern at 6002: TooLong\n")]
+    for number, (text, status, line) in enumerate(ends):
+        name = "verdicts%d" % number
+        with open(os.path.join(folder, name), "wb") as file:
+            file.write(text)
+        yield ["--check", "--format", "csv", name], b"dt,x\n1,6000\n", status, line
 
 
 def memory_runs(folder):
@@ -192,6 +205,8 @@ def memory_runs(folder):
         "$var wire 8 x%d x%d $end\n" % (number, number) for number in range(20000)) + "$var", 1)
     with open(os.path.join(folder, "checks"), "w", encoding="utf-8") as file:
         file.write("".join("c%d = (p;q)* %% [0,%d]\n" % (number, number) for number in range(6)))
+    with open(os.path.join(folder, "verdicts"), "w", encoding="utf-8") as file:
+        file.write("all = (p;q)* | p\neach a = <:p:> |-> (true;rise(p)) % [0,9]\nsome b = q\n")
     signals = ["--define", "q = x19999 >= 3; r = x7 changes"]
     forms = [([], lines_of(trace)), (["--format", "vcd"], dump),
              (["--format", "vcd", *signals], dump),
@@ -199,6 +214,7 @@ def memory_runs(folder):
     for form, text in forms:
         for mode in ([], ["--normal"], ["--normal", "--max-zones", "9"], ["--scale", "1"]):
             yield [*mode, *form, "(p;q)* | p"], text.encode()
+        yield ["--check", *form, "verdicts"], text.encode()
     for form, text in forms[:3]:
         for mode in (["--online"], ["--minus", "p;p"]):
             yield [*mode, *form, "(p;q)* | p"], text.encode()
@@ -253,7 +269,7 @@ class Runs:
     def compare_memory(self, words, given, least):
         """More and more memory, up to enough: until then there is too little, and that is told."""
         whole, kilobytes, found = self.run_within(words, given, 4 << 20), least, None
-        assert whole[0] in (0, 9)
+        assert whole[0] in (0, 9, 13)
         while found != whole:
             found = self.run_within(words, given, kilobytes)
             as_it_comes = "--online" in words or "--watch" in words

@@ -21,13 +21,15 @@ WAIT = 0.3    # seconds after which a run that waits is waiting
 READ, WRITE = (6, b"montre: read fault\n"), (7, b"montre: write fault\n")
 TOO_LONG = (5, b"montre: input too long\n")
 CHECKS = b"at = p;q\nmany = (p|q)* % [1,3]\nhappens = event(a);true\n"
+VERDICTS = "some any = p\neach next = <:p:> |-> (true;q) % [0,9]\nmany = (p|q)* % [1,3]\n"
 PATTERN = "(p;q)* | {r && !q}"
 TEXT, DUMP = ["--format", "text"], ["--format", "vcd"]
 SIGNALS = [*DUMP, "--define", DEFINED + CHANGES]
 COLUMNS = ["--format", "csv", "--let", LETS]
 FORMS = [("text", TEXT), ("dump", DUMP), ("signals", SIGNALS), ("columns", COLUMNS)]
 MODES = [[], ["--online"], ["--normal"], ["--normal", "--max-zones", "999"], ["--minus", "p;p"],
-         ["--scale", "2"], ["--scale", "1", "--online"], ["--watch", "checks"]]
+         ["--scale", "2"], ["--scale", "1", "--online"], ["--watch", "checks"],
+         ["--check", "verdicts"]]
 REFUSED = [["p;"], ["--minus", "p;", "p"], ["--nothing"], ["--max-bytes", "9", "p"],
            ["--normal", "--max-zones", "0", "p"], ["--watch", "text"], ["--input", ".", "p"]]
 
@@ -35,7 +37,7 @@ REFUSED = [["p;"], ["--minus", "p;", "p"], ["--nothing"], ["--max-bytes", "9", "
 def write_files(folder):
     trace = make_trace(7, 12, True)
     files = {"text": lines_of(trace), "dump": dump_of(trace), "signals": defined_dump_of(trace),
-             "columns": columns_of(trace), "checks": CHECKS.decode(), "none": "",
+             "columns": columns_of(trace), "checks": CHECKS.decode(), "verdicts": VERDICTS, "none": "",
              "many": "1 p\n1\n" * 50000}
     for name, text in files.items():
         with open(os.path.join(folder, name), "w", encoding="utf-8") as file:
@@ -51,7 +53,7 @@ def all_cases():
     for name, form in FORMS:
         for mode in MODES:
             if stands_together(mode, name):
-                yield [*mode[:1], *form, *mode[1:]] + [PATTERN] * ("--watch" not in mode), name
+                yield [*mode[:1], *form, *mode[1:]] + [PATTERN] * (mode[:1] not in (["--watch"], ["--check"])), name
     for words in (["--show", PATTERN], ["--generate", "7"], *REFUSED):
         yield words, "text"
 
@@ -189,7 +191,9 @@ def try_devices(runs):
             (["--input", "nowhere", "p"], READ), (["--input", "", "p"], READ),
             (["--input", "text/text", "p"], READ), (["--watch", "nowhere"], READ),
             (["--watch", "."], READ), (["--watch", "checks", "--input", "."], READ),
-            (["--watch", "-", "--input", "text"], (12, b"montre: watch: Empty\n"))):
+            (["--watch", "-", "--input", "text"], (12, b"montre: watch: Empty\n")),
+            (["--check", "/dev/zero"], (12, line)), (["--check", "."], READ),
+            (["--check", "checks", "--input", "text"], (12, b"montre: watch: Empty\n"))):
         runs.compare("device", words, runs.end(runs.start(words)), (wanted[0], b"", wanted[1]))
     for form in (TEXT, COLUMNS, [*TEXT, "--online"]):
         words = [*form, "--input", "/dev/null", "!true"]

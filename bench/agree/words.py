@@ -105,10 +105,13 @@ def plain_jobs(words):
             yield job
 
 
-def may_watch(job):
+def may_read_file(job):
     both = job.expr == "-" and job.input == "-"
-    return (job.mode, job.normal, job.minus) == ("offline", False, None) \
-        and job.format != "csv" and not both
+    return (job.mode, job.minus) == ("offline", None) and not both
+
+
+def may_watch(job):
+    return may_read_file(job) and not job.normal and job.format != "csv"
 
 
 def jobs_of(words):
@@ -117,6 +120,8 @@ def jobs_of(words):
         return {words[1]} if len(words) == 2 and number(1, COUNT_MAX, words[1]) else set()
     if words and words[0] == "--watch":
         return {job._replace(mode="watch") for job in plain_jobs(words[1:]) if may_watch(job)}
+    if words and words[0] == "--check":
+        return {job._replace(mode="check") for job in plain_jobs(words[1:]) if may_read_file(job)}
     return set(plain_jobs(words))
 
 
@@ -136,7 +141,7 @@ TEXTS = ["p", "p", "p;q", "", "-", "é", "p % [0,1]", "f", "=", "ÿ-", "-p", "--
 ODD = ["", "-", "--", "---", "=", "--=", "--=x", "-p", "-os", "-é", "--é", "é", "é=", "\u2028",
        "😀", "--EXPR", "--EXPR=p", "--help", "-h", "--version", "-V", "--inpu", "--input", "--online=",
        "--online=true", "--show=x", "--normal=", "--Online", "--scale=", "--scale=3=", "--format=",
-       "--generate", "--watch", "--watch=f", "--generate=3", "help", "p", "3", "-1", "--max_zones",
+       "--generate", "--watch", "--watch=f", "--check", "--check=f", "--generate=3", "help", "p", "3", "-1", "--max_zones",
        "--max-zones", "--minus", "--let", "--define", "--online ", " --online", "--on\tline", "--ſhow"]
 COUNTS = ["1", "5", "12", "0", "10001", "", "-3", "3.0", "+3", "é", "0004"]
 
@@ -187,8 +192,8 @@ def words_for(chance):
         return [chance.choice(ODD) for _ in range(chance.randint(0, 4))]
     if kind < 0.17:
         words = ["--generate", chance.choice(COUNTS)]
-    elif kind < 0.3:
-        words = ["--watch", *plain_words(chance)]
+    elif kind < 0.4:
+        words = [chance.choice(["--watch", "--check"]), *plain_words(chance)]
     else:
         words = plain_words(chance)
     while chance.random() < 0.3:
