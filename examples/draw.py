@@ -6,6 +6,7 @@ usage: draw.py [options] TRACE [[NAME=]PATTERN..]
   --vcd               TRACE is a value change dump, and not lines of text
   --let TEXT          TRACE is columns of numbers, with these names, as for montre
   --define TEXT       names for values, bits and changes of a dump's signals, as for montre
+  --unit U            times of a dump are in s, ms, us, ns, ps or fs, as for montre
   --scale K           times have K decimals, as for montre
   --checks FILE       the patterns of such a file too, with its definitions; of `each` what its
                       verdict is about
@@ -24,118 +25,22 @@ and none at its end. What a dump has as z is a line in the middle, and what is n
 a box. A vector has its value, in hexadecimal digits, from each change on.
 """
 import argparse
-import csv
-import operator
 import re
 import sys
 import textwrap
-from decimal import Decimal, InvalidOperation
+from decimal import Decimal
 from html import escape
 
 import dumps
 from matches import checks_of, matches, named, with_lets
+from waves import Whole, definitions, digits, names_in, read_columns, read_dump, read_text, units
 
-RESERVED = {"eps", "rise", "fall", "inf", "true", "event"}
-EVENT = re.compile(r"\bevent\s*\(\s*([A-Za-z0-9_.]+)\s*\)")
 COLOURS = ["#1f77b4", "#d62728", "#2ca02c", "#9467bd", "#ff7f0e", "#8c564b"]
-LET = re.compile(r"\s*([A-Za-z_][\w.]*) *= *([A-Za-z_][\w.]*) *([<>=!]=|[<>]) *(-?\d+)\s*")
-DEFINE = re.compile(r"\s*([A-Za-z_][\w.]*)\s*=\s*([^\s<>=!]+)\s*"
-                    r"(?:([<>=!]=|[<>])\s*(0x[0-9a-fA-F]+|0b[01]+|\d+)|(changes))?\s*")
-SIGNS = {"<": operator.lt, "<=": operator.le, ">": operator.gt, ">=": operator.ge,
-         "==": operator.eq, "!=": operator.ne}
-LETTERS = {"0": "_", "1": "#", "x": "x", "z": "z"}
-
-
-def names_in(patterns):
-    """The signals and the events of the patterns, by their first use."""
-    text = " ".join(patterns)
-    names = re.findall(r"[A-Za-z_][A-Za-z0-9_.]*", EVENT.sub(" ", text))
-    signals = dict.fromkeys(name for name in names if name not in RESERVED)
-    return list(signals), list(dict.fromkeys(EVENT.findall(text)))
-
-
-def read_text(name, signals, events, scale):
-    """The waves and the moments of a trace in lines of text, in units."""
-    waves = {signal: [(0, "0")] for signal in signals}
-    moments, now = {event: [] for event in events}, 0
-    with open(name, encoding="latin-1") as lines:
-        for words in (line.split() for line in lines):
-            if not words or words[0][0] == "#":
-                continue
-            if words[0] == "@":
-                for event in moments.keys() & set(words[1:]):
-                    moments[event].append(now)
-                continue
-            for signal, wave in waves.items():
-                dumps.put(wave, now, "1" if signal in words[1:] else "0")
-            now += units(words[0], scale)
-    return waves, moments
-
-
-def read_columns(name, signals, let, scale):
-    """The waves of a table, by the definitions of --let, in units."""
-    waves, now = {signal: [(0, "0")] for signal in signals}, 0
-    parts = [LET.fullmatch(part).groups() for part in let.split(";")]
-    with open(name, newline="", encoding="utf-8-sig") as file:
-        header, *rows = (row for row in csv.reader(file) if row)
-    for row in rows:
-        for signal, column, sign, number in parts:
-            if signal in waves:
-                holds = SIGNS[sign](int(row[header.index(column, 1)]), int(number))
-                dumps.put(waves[signal], now, "1" if holds else "0")
-        now += units(row[0], scale)
-    return waves
-
-
-def definitions(text):
-    """What --define says of each name: the signal, a sign and a number, and whether it changes."""
-    found = [DEFINE.fullmatch(part) for part in text.split(";") if part.strip()]
-    if None in found:
-        sys.exit("draw.py: a definition can't be read: " + text)
-    return {part[1]: (part[2], part[3], part[4] and int(part[4], 0), part[5]) for part in found}
-
-
-def compared(wave, sign, number):
-    """Where a signal's number compares so; while a bit is unknown it doesn't."""
-    made = [(0, "0")]
-    for time, value in wave:
-        known = value and set(value) <= {"0", "1"}
-        dumps.put(made, time, "1" if known and SIGNS[sign](int(value, 2), number) else "0")
-    return made
-
-
-def read_dump(name, signals, events, defined):
-    """The waves and the moments of a dump, in its ticks, with those of defined names, and its unit."""
-    paths = [defined[signal][0] if signal in defined else signal for signal in [*signals, *events]
-             if signal in defined or signal in signals]
-    plain = [event for event in events if event not in defined]
-    read, happened, unit = dumps.read(name, dict.fromkeys(paths), plain)
-    waves, moments = {}, {}
-    for signal in signals:
-        path, sign, number, _ = defined.get(signal, (signal, None, None, None))
-        waves[signal] = compared(read[path], sign, number) if sign else read[path]
-    for event in events:
-        if event in defined:
-            wave = read[defined[event][0]]
-            moments[event] = [time for (_, before), (time, _) in zip(wave, wave[1:]) if before]
-        else:
-            moments[event] = happened[event]
-    return waves, moments, unit
-
-
-def digits(value):
-    """The value of a vector in hexadecimal digits; x and z where its bits are, and X for a mix."""
-    groups = [value[max(0, end - 4):end] for end in range(len(value), 0, -4)][::-1]
-    return "".join("%X" % int(group, 2) if set(group) <= {"0", "1"}
-                   else group[0] if len(set(group)) == 1 else "X" for group in groups)
+LETTERS = {"0": "_", "1": "#", "z": "z"}     # any other is drawn as x
 
 
 def is_vector(wave):
     return any(len(value) > 1 for _, value in wave)
-
-
-def units(text, scale):
-    return int(Decimal(text).scaleb(scale))
 
 
 def ticks(time, scale):
@@ -198,7 +103,7 @@ def signal_line(wave, window, columns):
     for begin, end, value in window.pieces(wave):
         last = -((window.start - end) * columns // window.length)
         for place in range(window.column(begin, columns), min(last, columns)):
-            letter = LETTERS[value or "0"]
+            letter = LETTERS.get(value or "0", "x")
             line[place] = letter if line[place] in ("", letter) else "|"
     return "".join(line)
 
@@ -397,6 +302,7 @@ def read_words():
     arguments.add_argument("--let")
     arguments.add_argument("--define")
     arguments.add_argument("--scale", type=int, default=0)
+    arguments.add_argument("--unit", choices=dumps.PLACES)
     arguments.add_argument("--checks", type=checks_of, default=([], []))
     arguments.add_argument("--around", type=around)
     for name in ("margin", "from", "to"):
@@ -435,15 +341,20 @@ def window_of(options, end, found, unit):
 
 def read(options, signals, events):
     """The waves of the signals and the moments of the events, in units, and what a tick is."""
+    whole = Whole(signals, events, "0")
     if options.let:
-        return read_columns(options.trace, signals, options.let, options.scale), {}, ""
+        read_columns(options.trace, signals, options.let, options.scale, whole)
+        return whole.waves, {}, ""
     if not options.vcd:
-        return *read_text(options.trace, signals, events, options.scale), ""
+        read_text(options.trace, signals, events, options.scale, whole)
+        return whole.waves, whole.moments, ""
     defined = definitions(options.define or "")
-    waves, moments, unit = read_dump(options.trace, signals, events, defined)
-    factor = 10 ** options.scale
-    waves = {name: [(time * factor, value) for time, value in wave] for name, wave in waves.items()}
-    return waves, {name: [time * factor for time in times] for name, times in moments.items()}, unit
+    waves, moments, tick = read_dump(options.trace, signals, events, defined)
+    factor = dumps.factor_of(tick, options.unit, options.scale)
+    waves = {name: [(int(time * factor), value) for time, value in wave]
+             for name, wave in waves.items()}
+    moments = {name: [int(time * factor) for time in times] for name, times in moments.items()}
+    return waves, moments, options.unit or tick
 
 
 def asked_by(options):
@@ -451,6 +362,7 @@ def asked_by(options):
     asked = ["--input", options.trace, "--scale", str(options.scale)]
     asked += ["--format", "vcd"] if options.vcd else []
     asked += ["--define", options.define] if options.define else []
+    asked += ["--unit", options.unit] if options.unit else []
     return asked + (["--format", "csv", "--let", options.let] if options.let else [])
 
 

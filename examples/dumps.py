@@ -5,12 +5,18 @@ A dump that montre refuses isn't looked through for faults here: ask montre firs
 import re
 import sys
 from collections import namedtuple
+from fractions import Fraction
 
 HEADER = re.compile(rb"(?<!\S)\$enddefinitions\s+(?:\S+\s+)*?\$end(?!\S)")
-TIMESCALE = re.compile(rb"(?<!\S)\$timescale\s+(.*?)\s+\$end(?!\S)", re.DOTALL)
+TICK = re.compile(r"(10{0,2})([munpf]?s)")
+PLACES = {"s": 0, "ms": 3, "us": 6, "ns": 9, "ps": 12, "fs": 15}    # decimals of a second
 BITS = re.compile(r"(.*?)\[(\d+)(?::(\d+))?\]")
-LETTERS = {"0": "0", "1": "1", "z": "z", "Z": "z"}      # any other is drawn as x
-SCALARS = frozenset(b"01xXzZuUwWlLhH-")
+SCALARS = b"01xXzZuUwWlLhH-"
+SCALAR, TIME, VALUE, COMMAND = range(4)
+KINDS = [SCALAR] * 256      # what a token is, by its first byte
+KINDS[b"#"[0]], KINDS[b"$"[0]] = TIME, COMMAND
+for letter in b"bBrRsS":
+    KINDS[letter] = VALUE
 NO_BITS = (b"real", b"realtime", b"string")
 
 # How many bits a signal has, and the numbers of its first and its last one.
@@ -25,9 +31,7 @@ class Header:
         end = HEADER.search(text)
         self.head, self.tail = text[:end.start()], text[end.start():]
         self.signals, self.events, self.identifiers, self.scopes = {}, {}, set(), []
-        self.vectors = {}
-        unit = TIMESCALE.search(self.head)
-        self.unit = "".join(unit[1].decode("latin-1").split()) if unit else ""
+        self.vectors, self.unit = {}, None
         words, place = self.head.split(), 0
         while place < len(words):
             last = words.index(b"$end", place)
@@ -39,6 +43,8 @@ class Header:
             self.scopes.append(words[2])
         elif words[0] == b"$upscope":
             self.scopes.pop()
+        elif words[0] == b"$timescale" and self.unit is None:
+            self.unit = b"".join(words[1:]).decode("latin-1")
         elif words[0] == b"$var":
             self.identifiers.add(words[3])
             path = b".".join([*self.scopes, *words[4:]]).decode("latin-1")
@@ -77,6 +83,14 @@ class Header:
         return found.identifier, places[0], places[1] + 1
 
 
+def factor_of(tick, unit, scale):
+    """How many units a tick of a dump is, where a unit is asked for, and has so many decimals."""
+    if unit is None:
+        return Fraction(10) ** scale
+    number, own = TICK.fullmatch(tick).groups()
+    return int(number) * Fraction(10) ** (PLACES[unit] - PLACES[own] + scale)
+
+
 def header_of(file):
     """What an open dump declares, and the values on the last line of that."""
     text = b""
@@ -88,90 +102,73 @@ def header_of(file):
     sys.exit("the dump has no $enddefinitions")
 
 
-def put(wave, time, value):
-    """The wave, a list of times and values, has this value from this time on."""
-    if wave[-1][1] != value:
-        if wave[-1][0] == time:
-            wave.pop()
-        if not wave or wave[-1][1] != value:
-            wave.append((time, value))
-
-
 def letters(value, size):
     """All letters of a value of so many bits, which may be written short."""
-    text = "".join(LETTERS.get(letter, "x") for letter in value)
-    before = text[0] if text[0] in "xz" else "0"
-    return text.rjust(size, before)[-size:]
+    return value.rjust(size, "0" if value[0] in "01" else value[0])[-size:]
 
 
 class Changes:
-    """The changes of some signals and events, word by word. Before its first value a signal has
-    none, which is an empty text."""
+    """The changes of some signals and events, word by word, put into what waves.py says."""
 
-    def __init__(self, header, signals, events):
-        self.waves, self.moments, self.signals, self.events = {}, {}, {}, {}
+    def __init__(self, header, signals, events, into):
+        self.into, self.signals, self.events = into, {}, {}
         for path in signals:
             identifier, first, last = header.part(path)
             size = max(found.size for found in header.vectors.values()
                        if found.identifier == identifier)
-            self.waves[path] = [(0, "")]
-            asked = self.waves[path], size, first, last
-            self.signals.setdefault(identifier, []).append(asked)
+            self.signals.setdefault(identifier, []).append((path, size, first, last))
         for path in events:
             if path not in header.events:
                 sys.exit("the dump has no %s that can be drawn" % path)
-            self.moments[path] = []
-            self.events.setdefault(header.events[path], []).append(self.moments[path])
-        self.now, self.waits, self.comment, self.section = 0, None, False, False
+            self.events.setdefault(header.events[path], []).append(path)
+        self.scalars = {bytes([letter]) + known for letter in SCALARS
+                        for known in self.signals.keys() | self.events.keys()}
+        self.time, self.waits, self.comment, self.section = b"#0", None, False, False
 
     def change(self, identifier, value, is_scalar):
-        for wave, size, first, last in self.signals.get(identifier, ()):
-            put(wave, self.now, letters(value.decode("latin-1"), size)[first:last])
+        now, text = int(self.time[1:]), value.decode("latin-1").lower()
+        for path, size, first, last in self.signals.get(identifier, ()):
+            self.into.put(now, path, text if size == 1 else letters(text, size)[first:last])
         if is_scalar and not self.section:
-            for moments in self.events.get(identifier, ()):
-                if moments[-1:] != [self.now]:
-                    moments.append(self.now)
+            for path in self.events.get(identifier, ()):
+                self.into.happen(now, path)
 
-    def word(self, word):
-        first = word[:1]
-        if self.waits is not None:
-            # the identifier of a vector, which may begin with `#` or `$`
-            if self.waits:
-                self.change(word, self.waits, False)
-            self.waits = None
-        elif self.comment:
-            self.comment = word != b"$end"
-        elif first == b"#":
-            self.now = int(word[1:])
-        elif first in b"bBrRsS":
-            self.waits = word[1:] if first in b"bB" else b""
-        elif word == b"$comment":
-            self.comment = True
-        elif first == b"$":
-            self.section = word != b"$end"
-        else:
-            self.change(word[1:], first, True)
+    def words(self, words):
+        scalars, inside = self.scalars, self.comment or self.waits is not None
+        for word in words:
+            kind = KINDS[word[0]]
+            if inside:
+                inside = self.comment = self.comment and word != b"$end"
+                if self.waits is not None:
+                    # the identifier of a vector, which may begin with `#` or `$`
+                    if self.waits:
+                        self.change(word, self.waits, False)
+                    self.waits = None
+            elif kind == SCALAR:
+                if word in scalars:
+                    self.change(word[1:], word[:1], True)
+            elif kind == TIME:
+                self.time = word
+            elif kind == VALUE:
+                inside, self.waits = True, word[1:] if word[0] in b"bB" else b""
+            else:
+                inside = self.comment = word == b"$comment"
+                self.section = word != b"$end"
 
-    def read(self, lines):
-        known = self.signals.keys() | self.events.keys()
-        for line in lines:
-            words = line.split()
-            if self.waits is None and not self.comment:
-                # most lines are a change of a signal that isn't asked
-                if len(words) == 1 and words[0][0] in SCALARS and words[0][1:] not in known:
-                    continue
-                if len(words) == 2 and words[0][0] in b"bBrRsS" and words[1] not in known:
-                    continue
-            for word in words:
-                self.word(word)
+    def read(self, file, rest=b""):
+        while True:
+            chunk = file.read(1 << 20)
+            words = (rest + chunk).split()
+            rest = words.pop() if words and chunk and not chunk[-1:].isspace() else b""
+            self.words(words)
+            if not chunk:
+                return
 
 
-def read(name, signals, events):
-    """The waves and the moments of the events of a dump, in its ticks, and its unit. The value of a
-    wave has a letter for each bit."""
+def read(name, signals, events, into):
+    """Reads the values of signals, with a letter for each bit, and the moments of events of a dump,
+    in its ticks, and gives its unit."""
     with open(name, "rb") as file:
         header, rest = header_of(file)
-        changes = Changes(header, signals, events)
-        changes.read([rest])
-        changes.read(file)
-    return changes.waves, changes.moments, header.unit
+        Changes(header, signals, events, into).read(file, rest)
+    return header.unit or ""

@@ -1,6 +1,6 @@
 """Matches a pattern over a trace in pieces, for a trace that is too long for one run.
 
-usage: pieces.py [--format text|vcd] [--define TEXT] [--scale K] [--jobs N]
+usage: pieces.py [--format text|vcd] [--define TEXT] [--unit U] [--scale K] [--jobs N]
                  --every TICKS PATTERN < TRACE
 
 The trace is cut about every TICKS, between two segments. Behind its end a piece has as much more
@@ -9,7 +9,7 @@ that MONTRE names, matches the pieces, N at a time. Of the zones of a piece the 
 starts in it, at the times of the whole trace: so the zones printed hold the matches that one run
 over all of it would find. A zone that starts on both sides of a cut is printed as two.
 
---define and --scale are those of montre. A pattern without a longest duration is refused. The whole trace may be longer than a run allows.
+--define, --unit and --scale are those of montre. A pattern without a longest duration is refused. The whole trace may be longer than a run allows.
 """
 import argparse
 import collections
@@ -18,6 +18,8 @@ import os
 import re
 import subprocess
 import sys
+
+import dumps
 
 Piece = collections.namedtuple("Piece", "first start behind text")
 DURATION = re.compile(rb"[0-9]+(\.[0-9]+)?$")
@@ -121,7 +123,7 @@ class Longest:
 class Lines:
     """The text form. A segment is its line, behind the lines of the events that begin it."""
 
-    def __init__(self, source, scale):
+    def __init__(self, source, scale, _unit):
         self.source, self.scale, self.end, self.last = source, scale, 0, b""
 
     def segments(self):
@@ -148,9 +150,9 @@ class Lines:
 class Dump:
     """A value change dump. A segment has the changes at the time at which it begins."""
 
-    def __init__(self, source, scale):
-        self.source, self.tick, self.end, self.last = source, 10 ** scale, 0, b""
-        self.head, self.values = b"", {}
+    def __init__(self, source, scale, unit):
+        self.source, self.scale, self.unit, self.end, self.last = source, scale, unit, 0, b""
+        self.head, self.values, self.tick = b"", {}, None
 
     def tokens(self):
         """The tokens behind the declarations; the identifier behind a vector is of its token."""
@@ -162,6 +164,10 @@ class Dump:
                 break
         self.head = b" ".join(head) + b" $end\n"
         next(tokens, None)
+        tick = dumps.Header(self.head).unit
+        if self.unit and not dumps.TICK.fullmatch(tick or ""):
+            raise Refused("the dump doesn't say how long a tick is", 4)
+        self.tick = dumps.factor_of(tick, self.unit, self.scale)
         for token in tokens:
             if token == b"$comment":
                 while next(tokens, b"$end") != b"$end":
@@ -178,7 +184,9 @@ class Dump:
             if token[:1] != b"#" or not token[1:].isdigit():
                 changes.append(token)
                 continue
-            time = int(token[1:]) * self.tick
+            time, rest = divmod(int(token[1:]) * self.tick.numerator, self.tick.denominator)
+            if rest:
+                raise Refused("a time is no whole number of units: %s" % token.decode(), 4)
             if time < self.end:
                 raise Refused("the time goes back at %s" % token.decode(), 4)
             if time > self.end:
@@ -196,8 +204,11 @@ class Dump:
     def piece(self, segments, end, last):
         texts = [self.head, b"$dumpvars\n", b"\n".join(self.values.values()), b"\n$end\n"]
         for time, changes in segments:
-            texts.append(b"#%d\n%s\n" % ((time - segments[0][0]) // self.tick, changes))
-        return b"".join(texts) + b"#%d\n%s\n" % ((end - segments[0][0]) // self.tick, last)
+            texts.append(b"#%d\n%s\n" % (self.ticks(time - segments[0][0]), changes))
+        return b"".join(texts) + b"#%d\n%s\n" % (self.ticks(end - segments[0][0]), last)
+
+    def ticks(self, units):
+        return units * self.tick.denominator // self.tick.numerator
 
 
 def cut(trace, every, longest):
@@ -291,6 +302,7 @@ def main():
     parser = argparse.ArgumentParser(usage=__doc__.partition("usage: ")[2].partition("\n\n")[0])
     parser.add_argument("--format", choices=("text", "vcd"), default="text")
     parser.add_argument("--define")
+    parser.add_argument("--unit", choices=dumps.PLACES)
     parser.add_argument("--scale", type=int, default=0)
     parser.add_argument("--jobs", type=int, default=1)
     parser.add_argument("--every", required=True)
@@ -304,9 +316,10 @@ def main():
     every = units(given.every, scale) if DURATION.match(given.every.encode()) else 0
     if every == 0:
         raise Refused("--every takes a number of ticks, of at least one unit")
-    trace = (Dump if given.format == "vcd" else Lines)(sys.stdin.buffer, scale)
+    trace = (Dump if given.format == "vcd" else Lines)(sys.stdin.buffer, scale, given.unit)
     pieces = cut(trace, every, longest)
     reads = ["--format", given.format] + (["--define", given.define] if given.define else [])
+    reads += ["--unit", given.unit] if given.unit else []
     for zones in answers(pieces, given.jobs, scale, [*reads, *options]):
         for zone in zones:
             print(line_of(zone, scale))

@@ -21,10 +21,11 @@ import math
 import os
 import re
 import sys
+from fractions import Fraction
 
 import dumps
-from draw import definitions, names_in
 from matches import checks_of, matches, named, with_lets
+from waves import definitions, names_in
 
 
 def joined(stretches):
@@ -118,18 +119,19 @@ class Copy:
         return len(words) == 2 and words[0][:1] in b"bBrRsS"
 
 
-def in_ticks(stretches, name):
+def in_ticks(stretches, tick, name):
     """The stretches in ticks of the dump, each of which has to be whole."""
-    if any(time != int(time) for stretch in stretches for time in stretch):
+    whole = [tuple(Fraction(time) / tick for time in stretch) for stretch in stretches]
+    if any(time.denominator != 1 for stretch in whole for time in stretch):
         sys.exit("to_vcd.py: a match of %s isn't at ticks of the dump" % name)
-    return [(int(start), int(end)) for start, end in stretches]
+    return [(int(start), int(end)) for start, end in whole]
 
 
 def shown(header, patterns, define):
     """The signals and events of the patterns, as GTKWave names them, each with how it is drawn."""
     signals, events = names_in(pattern for _, pattern in patterns)
     defined = definitions(define or "")
-    for name in dict.fromkeys(defined[name][0] if name in defined else name
+    for name in dict.fromkeys(defined[name].signal if name in defined else name
                               for name in [*signals, *events]):
         identifier = header.events.get(name) or header.part(name)[0]
         sizes = {found.size: full for full, found in header.vectors.items()
@@ -157,6 +159,7 @@ def main():
     arguments.add_argument("--checks", default=([], []), type=checks_of)
     arguments.add_argument("--define")
     arguments.add_argument("--scale", default="0")
+    arguments.add_argument("--unit", choices=dumps.PLACES)
     arguments.add_argument("--out")
     arguments.add_argument("dump")
     arguments.add_argument("patterns", nargs="*", type=named)
@@ -166,10 +169,13 @@ def main():
     options.define = with_lets(options.define, lets)
     asked = ["--format", "vcd", "--input", options.dump, "--scale", options.scale]
     asked += ["--define", options.define] if options.define else []
+    asked += ["--unit", options.unit] if options.unit else []
     answers = [matches(asked, pattern) for _, pattern in patterns]
-    found = [in_ticks(stretches, name) for (name, _), (stretches, _) in zip(patterns, answers)]
     with open(options.dump, "rb") as file:
         header, rest = dumps.header_of(file)
+        tick = dumps.factor_of(header.unit, options.unit, 0)
+        found = [in_ticks(stretches, tick, name)
+                 for (name, _), (stretches, _) in zip(patterns, answers)]
         head, identifiers = with_signals(header, [name for name, _ in patterns])
         at = {}
         for place, stretches in enumerate(found):
@@ -179,7 +185,7 @@ def main():
             write(out, head, Copy(at), itertools.chain([rest], file))
     if options.out:
         with open(os.path.splitext(options.out)[0] + ".gtkw", "w") as beside:
-            end = int(answers[0][1]) if answers else 0
+            end = int(answers[0][1] / tick) if answers else 0
             beside.write(save_file(options.out, header, patterns, found, end, options.define))
 
 
