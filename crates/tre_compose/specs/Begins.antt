@@ -1,23 +1,13 @@
 -- The begins of pairs.
-use Rattle.std.specs.Prelude.{◌≡◌, ℕ, ◌*◌, ◌<◌, pos}
+use Rattle.std.specs.Prelude.{◌≡◌, ℕ, pos}
+use Rattle.tre_pairs.specs.Leads.{Leads}
 use Rattle.tre_pairs.specs.Pairs.{Pairs}
 use Rattle.tre_zone.specs.declared.zone_bounds.ZoneBounds.{ZoneBounds}
-
--- R holds from b/n to some moment.
-pub record Leads (R : Pairs) (b n : ℕ) : Type 0 where
-  pub factor : ℕ
-  pub positive : 0 < factor
-  pub to : ℕ
-  pub led : R (factor * b) to (factor * n)
 
 -- An instant at which R leads on.
 pub record BeginsOf (R : Pairs) (a b n : ℕ) : Type 0 where
   pub same : a ≡ b
   pub leads : Leads R a n
-
--- R leads on from where the pair ends.
-abbrev pub LeadsOn : Pairs → Pairs
-LeadsOn R a b n = Leads R b n
 
 -- The bounds of the instants at which pairs of the zone begin.
 unfoldable pub begins_of : ZoneBounds → ZoneBounds

@@ -1,7 +1,7 @@
 -- Relations that have the same pairs have the same verdict, and the same pairs are shown.
 use Rattle.std.proofs.Common.{◌≡◌, ◌<◌, ◌↔◌, ◌*◌, ℕ, List, arith}
 use Rattle.std.proofs.Math.Nat.{mul-pos}
-use Rattle.tre_compose.specs.Begins.{Leads, LeadsOn}
+use Rattle.tre_pairs.specs.Leads.{Leads, LeadsOn}
 use Rattle.tre_pairs.specs.Except.{Except}
 use Rattle.tre_pairs.specs.Pairs.{Pairs}
 use Rattle.tre_pairs.proofs.Laws.{IsOrdered}

@@ -4,7 +4,7 @@
 use Rattle.std.specs.Prelude.{ℕ, ◌<◌, ◌≤◌}
 use Rattle.tre_pairs.specs.Except.{Except}
 use Rattle.tre_pairs.specs.Pairs.{Pairs}
-use Rattle.tre_compose.specs.Begins.{LeadsOn}
+use Rattle.tre_pairs.specs.Leads.{LeadsOn}
 use Rattle.tre_syntax.specs.Begun.{MayMatch}
 use Rattle.tre_syntax.specs.Meaning.{Matches}
 use Rattle.tre_syntax.specs.PatternTree.{PatternTree}

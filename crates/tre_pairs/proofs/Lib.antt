@@ -12,3 +12,13 @@ pub mod Shortening
 pub mod Ticks
 -- and how the pairs around a cut come from those of the parts
 pub mod CutLaws
+-- how sequences, and what an intersection or a restriction began behind, go over a cut
+pub mod Walk
+-- how repetitions do
+pub mod Repeats
+-- how instances of intersections and restrictions do
+pub mod Instances
+-- and where nothing that enters goes on
+pub mod Dull
+-- relations that are the same up to a longest duration
+pub mod SameLaws

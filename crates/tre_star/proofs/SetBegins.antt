@@ -1,7 +1,8 @@
 -- The begins of the pairs of a set, zone by zone.
 use Rattle.std.proofs.Common.{◌*◌, ℕ, List, [], ◌∷◌, ◌++◌, inl, inr, ⊎_elim, subst, sym, refl, arith}
 use Rattle.std.proofs.Math.Nat.{mul_assoc, mul-pos}
-use Rattle.tre_compose.specs.Begins.{BeginsOf, Leads, LeadsOn}
+use Rattle.tre_compose.specs.Begins.{BeginsOf}
+use Rattle.tre_pairs.specs.Leads.{Leads, LeadsOn}
 use Rattle.tre_pairs.specs.Pairs.{Pairs, Both, Composed}
 use Rattle.tre_pairs.proofs.Chains.{Composed-at}
 use Rattle.tre_pairs.proofs.Scaling.{moved}

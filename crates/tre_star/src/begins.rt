@@ -1,5 +1,6 @@
 ghost use Rattle.std.specs.Prelude.{IfOk};
-ghost use Rattle.tre_compose.specs.Begins.{BeginsOf, LeadsOn};
+ghost use Rattle.tre_compose.specs.Begins.{BeginsOf};
+ghost use Rattle.tre_pairs.specs.Leads.{LeadsOn};
 ghost use Rattle.tre_pairs.specs.Pairs.{Both};
 ghost use Rattle.tre_zone.specs.ZoneList.{SetHolds, HoldExactly};
 

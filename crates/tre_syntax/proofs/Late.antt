@@ -4,6 +4,7 @@ use Rattle.std.proofs.Common.{◌≡◌, ℕ, ◌*◌, ◌-◌, ◌<◌, ◌≤�
 use Rattle.std.proofs.Math.Nat.{mul_left_comm, mul-pos, mul-le-mul_left, mul-le-mul_right}
 use Rattle.std.proofs.lemmas.Bool.{cases_lt}
 use Rattle.std.specs.Prelude.{MatchBool, MatchOption}
+use Rattle.tre_pairs.specs.Leads.{Leads}
 use Rattle.tre_pairs.specs.Pairs.{Composed, Either, Both}
 use Rattle.tre_pairs.proofs.CutLaws.{Scales-Moment}
 use Rattle.tre_pairs.proofs.Laws.{DurationScales, Scales}
@@ -13,7 +14,7 @@ use Rattle.tre_state.specs.StateTree.{HoldsOn}
 use Rattle.tre_trace.specs.Trace.{end_of}
 use Rattle.tre_trace.proofs.Segments.{end_of-append}
 use Rattle.tre_zone.specs.Interval.{IntervalEnds, IsBelowHigh}
-use Rattle.tre_syntax.specs.Begun.{BegunRest, IsTheEnd, EndsThere, Leads}
+use Rattle.tre_syntax.specs.Begun.{BegunRest, IsTheEnd, EndsThere}
 use Rattle.tre_syntax.specs.Cut.{CutRest, HasLongParts, time_of, uncut, front_of, MatchesAcross}
 use Rattle.tre_syntax.specs.Meaning.{MatchesRest}
 use Rattle.tre_syntax.specs.PatternTree.{PatternTree, empty, literal, rise, fall, event, atom, sequence, alternation, intersection, repetition, restriction}

@@ -1,5 +1,5 @@
 -- What has begun of an expression and isn't over where a rest of a trace ends.
-use Rattle.std.specs.Prelude.{◌≡◌, ℕ, ◌*◌, ◌<◌}
+use Rattle.std.specs.Prelude.{◌≡◌, ℕ, ◌*◌}
 use Rattle.tre_pairs.specs.Cuts.{IsMoment}
 use Rattle.tre_pairs.specs.Pairs.{Pairs, Composed, Either, Both, Lasting}
 use Rattle.tre_trace.specs.Trace.{Timeline, end_of}
@@ -40,10 +40,3 @@ HasBegun tree trace = BegunRest tree (whole trace)
 -- It matches, or may come to.
 abbrev pub MayMatch : PatternTree → Timeline → Pairs
 MayMatch tree trace = Either (Matches tree trace) (HasBegun tree trace)
-
--- R holds from b/n to some moment.
-pub record Leads (R : Pairs) (b n : ℕ) : Type 0 where
-  pub factor : ℕ
-  pub positive : 0 < factor
-  pub to : ℕ
-  pub led : R (factor * b) to (factor * n)

@@ -5,8 +5,9 @@ ghost use Rattle.std.specs.Prelude.{◌+◌, ◌*◌, ◌<◌, ◌≤◌, ◌↔
 ghost use Rattle.tre_pairs.specs.Cuts.{IsMoment};
 ghost use Rattle.tre_state.specs.StateTree.{StateTree, HoldsOn};
 ghost use Rattle.tre_syntax.specs.AtTheEnd.{MatchesAtEnd};
+ghost use Rattle.tre_pairs.specs.Leads.{Leads};
 ghost use Rattle.tre_pairs.specs.Pairs.{Either};
-ghost use Rattle.tre_syntax.specs.Begun.{BegunRest, Leads};
+ghost use Rattle.tre_syntax.specs.Begun.{BegunRest};
 ghost use Rattle.tre_syntax.specs.Cut.{CutRest, HasLongParts, MatchesAcross, front_of, time_of, uncut};
 ghost use Rattle.tre_syntax.specs.FirstUse.{AreInOrderOfUse};
 ghost use Rattle.tre_syntax.specs.Meaning.{Matches, MatchesRest};

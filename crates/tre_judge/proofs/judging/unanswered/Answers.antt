@@ -1,6 +1,6 @@
 use Rattle.std.proofs.Common.{◌≡◌, List, [], refl}
 use Rattle.std.proofs.lemmas.Result.{IfOk-weaker}
-use Rattle.tre_compose.specs.Begins.{LeadsOn}
+use Rattle.tre_pairs.specs.Leads.{LeadsOn}
 use Rattle.tre_pairs.specs.Pairs.{Pairs}
 use Rattle.tre_watch.specs.declared.form.Form.{Form}
 use Rattle.tre_watch.specs.declared.form.Form.TheVariants.{Plain, Never, Found, Same, Follows}

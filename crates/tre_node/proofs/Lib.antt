@@ -1,0 +1,25 @@
+-- parts of a sequence
+pub mod Parts
+-- lists and moments
+pub mod Lists
+pub mod AtMoments
+pub mod FoundSets
+pub mod SetsOf
+pub mod Chaining
+-- what each form tells
+pub mod FormsTold
+pub mod Looks
+pub mod InstancesTold
+pub mod NodesLook
+-- new nodes
+pub mod NewNodes
+pub mod BegunAt
+pub mod LiteralTold
+-- what begins, and what leads on
+pub mod Begins
+pub mod Early
+pub mod Joins
+-- forms that are entered
+pub mod FormsEntered
+pub mod Instances
+pub mod InstancesEntered

@@ -1,0 +1,9 @@
+use Rattle.std.proofs.Common.{take}
+use Rattle.tre_pairs.specs.Pairs.{Either, Both}
+use Rattle.tre_zone.specs.ZoneList.{SetHolds, HoldExactly}
+use Rattle.tre_node.proofs.combining.gather_meets.Given as goal
+
+abbrev pub invariant-loop-zone : goal.invariant-loop-zone
+invariant-loop-zone l =
+    HoldExactly l.found.items (Either (SetHolds l.initial.found.items)
+    (Both (SetHolds (take l.zone-index l.zones)) (SetHolds l.others)))

@@ -1,0 +1,176 @@
+use Rattle.std.proofs.Common.{rules, refl, inl, inr, ap, sym, subst, ◌∙◌, ◌≡◌, ◌⊎◌, false, [], OnOk, Option, Bool}
+use Rattle.std.proofs.lemmas.Result.{on_ok_weaker}
+use Rattle.tre_pairs.specs.Pairs.{Composed, Either}
+use Rattle.tre_zone.specs.Held.{Held, IsSetOf}
+use Rattle.tre_edges.specs.Piece.{end_of_piece}
+use Rattle.tre_mark.specs.MarkTree.{MarkTree, sequence_mark}
+use Rattle.tre_forms.specs.Begun.{EndsFrom}
+use Rattle.tre_syntax.specs.PatternTree.{sequence}
+use Rattle.tre_forms.specs.Enters.{Enters}
+use Rattle.tre_node.specs.NodeTree.{around_of, tree_of_node, mark_of_node}
+use Rattle.tre_node.specs.HasEntered.{HasEntered, HaveEntered}
+use Rattle.tre_node.specs.Looked.{Looked}
+use Rattle.tre_node.specs.declared.node.Node.{Node}
+use Rattle.tre_node.proofs.Parts.{parts_go, set_by, sequence_entered_by, parts_named}
+use Rattle.tre_node.proofs.FormsEntered.{empty_entered, rise_entered, fall_entered, event_entered, same_entered, entered_by, literal_entered, alternation_entered, both_named, repetition_entered, again_named}
+use Rattle.tre_node.proofs.InstancesEntered.{restriction_entered, intersection_entered, part_named, sides_named}
+use Rattle.tre_node.proofs.entering.+enter.Goals as goal
+use Rattle.tre_node.proofs.entering.+enter.Goals.{enter_parts-then-around+in_ok-feed, enter_parts-else-around, enter_again-then-around+in_ok-feed, enter_again-else-around}
+
+pub enter-returns-in-Seq : goal.enter-returns-in-Seq
+enter-returns-in-Seq t c =
+    on_ok_weaker c.enter_parts.result
+    (λ h. sequence_entered_by c.in-Seq.is
+    (record { counts = refl; enters = refl }, parts_named c.deref_mut.ensures.value c.deref_mut-in-Seq.ensures.value h, refl))
+    c.enter_parts.ensures
+
+pub enter_parts-returns : goal.enter_parts-returns
+enter_parts-returns t c =
+    on_ok_weaker c.enter-2.result
+    (λ l. record {
+      left_tree = l.tree;
+      right_tree = c.in_ok-enter.ensures.tree;
+      left_made = l.made;
+      right_made = c.in_ok-enter.ensures.made;
+      left_node = l.node;
+      right_node = c.in_ok-enter.ensures.node;
+      goes = λ one other x y eq not_whole may.
+          parts_go c.args.piece.now one other c.args.left.now c.enter-2.new.node c.args.right.now
+          c.enter.new.node c.args.entering.now c.deref-2.result.now eq not_whole x y l c.in_ok-enter.ensures may
+          (elim c.if-around.branch [
+            | enter_parts-then-around+in_ok-feed w ↦ inl (set_by
+                (c.deref-2.ensures.value ∙ ap (λ v. v.items) w.mid-is)
+                (w.deref.ensures.value ∙ ap (λ v. v.ended.items) w.around-told.ensures)
+                (w.deref-then-around.ensures.value ∙ ap (λ v. v.inside.items) w.around-told.ensures)
+                w.in_ok-feed.ensures)
+            | enter_parts-else-around w ↦ inr (
+              c.deref-2.ensures.value ∙ ap (λ v. v.items) w.mid-is ∙ c.clear.ensures.items,
+              ap (λ v. v.lives) (sym c.around.ensures) ∙ w.if-around.false,
+            )
+          ]);
+    })
+    c.enter-2.ensures
+
+pub enter-returns-in-Eps : goal.enter-returns-in-Eps
+enter-returns-in-Eps t c =
+    same_entered c.in-Eps.is (empty_entered c.args.piece.now c.args.entering.now _)
+
+pub enter-returns-in-Rise : goal.enter-returns-in-Rise
+enter-returns-in-Rise t c =
+    same_entered c.in-Rise.is (rise_entered c.args.piece.now c.args.entering.now _ _)
+
+pub enter-returns-in-Fall : goal.enter-returns-in-Fall
+enter-returns-in-Fall t c =
+    same_entered c.in-Fall.is (fall_entered c.args.piece.now c.args.entering.now _ _)
+
+pub enter-returns-in-Event : goal.enter-returns-in-Event
+enter-returns-in-Event t c =
+    same_entered c.in-Event.is (event_entered c.args.piece.now c.args.entering.now _ _)
+
+pub enter-returns-in-Lit : goal.enter-returns-in-Lit
+enter-returns-in-Lit t c =
+    on_ok_weaker c.enter_literal.result
+    (λ h. entered_by c.in-Lit.is (literal_entered c.args.piece.now c.args.entering.now _ _
+    (record { counts = refl; enters = refl }, refl, h, refl)))
+    c.enter_literal.ensures
+
+pub enter-returns-in-Alt : goal.enter-returns-in-Alt
+enter-returns-in-Alt t c =
+    on_ok_weaker c.enter_both.result
+    (λ h. entered_by c.in-Alt.is (alternation_entered c.args.piece.now c.args.entering.now _ _
+    (record { counts = refl; enters = refl }, both_named c.deref_mut-in-Alt.ensures.value c.deref_mut-in-Alt-2.ensures.value h, refl)))
+    c.enter_both.ensures
+
+pub enter-returns-in-Star : goal.enter-returns-in-Star
+enter-returns-in-Star t c =
+    on_ok_weaker c.enter_again.result
+    (λ h. entered_by c.in-Star.is (repetition_entered c.args.piece.now c.args.entering.now _ _
+    (record { counts = refl; enters = refl }, again_named c.deref_mut-in-Star.ensures.value c.deref.ensures.value c.deref-in-Star.ensures.value h, refl)))
+    c.enter_again.ensures
+
+pub enter_both-returns : goal.enter_both-returns
+enter_both-returns t c =
+    on_ok_weaker c.enter-2.result
+    (λ r. record { left = c.in_ok-enter.ensures; right = r }) c.enter-2.ensures
+
+pub enter_again-returns : goal.enter_again-returns
+enter_again-returns t c =
+    on_ok_weaker c.enter.result
+    (λ h. record {
+      fed = c.deref.result.now;
+      entered = h;
+      is = elim c.if-around.branch [
+        | enter_again-then-around+in_ok-feed w ↦ inl (set_by
+            (c.deref.ensures.value ∙ ap (λ v. v.items) w.mid-is) refl refl w.in_ok-feed.ensures)
+        | enter_again-else-around w ↦ inr (
+          c.deref.ensures.value ∙ ap (λ v. v.items) w.mid-is ∙ c.clear.ensures.items,
+          ap (λ v. v.lives) (sym c.around.ensures) ∙ w.if-around.false,
+        )
+      ];
+    }) c.enter.ensures
+
+pub enter-returns-then-around : goal.enter-returns-then-around
+enter-returns-then-around t c =
+    on_ok_weaker c.enter.result
+    (λ h. entered_by c.in-Within.is (restriction_entered c.args.piece.now c.args.entering.now _ _ (
+      record { counts = refl; enters = refl },
+      refl,
+      inl (c.if-around.true, part_named c.deref_mut-then-around.ensures.value refl h, refl),
+      refl,
+      refl,
+    )))
+    c.enter.ensures
+
+pub enter-returns-in_ok-lead_in-in-Within : goal.enter-returns-in_ok-lead_in-in-Within
+enter-returns-in_ok-lead_in-in-Within t c =
+    on_ok_weaker c.enter-in-Within.result
+    (λ h. entered_by c.in-Within.is (restriction_entered c.args.piece.now c.args.entering.now _ _ (
+      record { counts = refl; enters = refl },
+      refl,
+      inr (
+        c.if-around.false,
+        (
+          c.lead_in.new.mid.items,
+          c.in_ok-lead_in-in-Within.ensures,
+          part_named c.deref_mut-in-Within.ensures.value c.deref-in-Within.ensures.value h,
+        ),
+      ),
+      refl,
+      refl,
+    )))
+    c.enter-in-Within.ensures
+
+pub enter-returns-then-around-2 : goal.enter-returns-then-around-2
+enter-returns-then-around-2 t c =
+    on_ok_weaker c.enter_both-then-around-2.result
+    (λ h. entered_by c.in-Meet.is (intersection_entered c.args.piece.now c.args.entering.now _ _ (
+      record { counts = refl; enters = refl },
+      inl (
+        c.if-around-2.true,
+        sides_named c.deref_mut-then-around-2.ensures.value
+            c.deref_mut-then-around-2-2.ensures.value refl h,
+        refl,
+      ),
+      refl,
+      refl,
+    )))
+    c.enter_both-then-around-2.ensures
+
+pub enter-returns-in_ok-lead_in-in-Meet : goal.enter-returns-in_ok-lead_in-in-Meet
+enter-returns-in_ok-lead_in-in-Meet t c =
+    on_ok_weaker c.enter_both-in-Meet.result
+    (λ h. entered_by c.in-Meet.is (intersection_entered c.args.piece.now c.args.entering.now _ _ (
+      record { counts = refl; enters = refl },
+      inr (
+        c.if-around-2.false,
+        (
+          c.lead_in-in-Meet.new.mid.items,
+          c.in_ok-lead_in-in-Meet.ensures,
+          sides_named c.deref_mut-in-Meet.ensures.value c.deref_mut-in-Meet-2.ensures.value
+              c.deref-in-Meet.ensures.value h,
+        ),
+      ),
+      refl,
+      refl,
+    )))
+    c.enter_both-in-Meet.ensures

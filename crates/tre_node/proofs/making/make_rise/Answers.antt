@@ -1,0 +1,14 @@
+use Rattle.std.proofs.Common.{ap, sym, subst}
+use Rattle.tre_state.specs.StateTree.{StateTree}
+use Rattle.tre_state.specs.declared.names.TheConstants.{NAMES_MAX}
+use Rattle.tre_syntax.specs.PatternTree.{NumbersBelow, rise, atom}
+use Rattle.tre_node.proofs.NewNodes.{parts_new}
+use Rattle.tre_node.proofs.making.make_rise.Goals as goal
+
+pub returns : goal.returns
+returns c =
+    let same = c.in-Ok.ensures.same in
+    parts_new c.requires.longest c.around.ensures
+    (subst (λ (t : StateTree). NumbersBelow NAMES_MAX (atom (rise t))) (sym same)
+    c.requires.numbers)
+    (ap (λ t. atom (rise t)) same)

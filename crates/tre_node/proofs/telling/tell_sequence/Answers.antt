@@ -1,0 +1,11 @@
+use Rattle.std.proofs.Common.{◌∙◌, ap, refl, sym}
+use Rattle.tre_node.proofs.telling.tell_sequence.Goals as goal
+
+pub returns : goal.returns
+returns c = record {
+  made = record { counts = refl; enters = refl };
+  found = rw (c.deref.ensures.value, c.deref-2.ensures.value, c.around-one.ensures, c.around-other.ensures) at c.in_ok-compose_anew.ensures;
+  told = rw (c.deref-3.ensures.value, c.deref-4.ensures.value, c.deref-5.ensures.value, c.around-one.ensures, c.around-other.ensures) at c.in_ok-compose_beside.ensures;
+  lives = rw (c.around-one.ensures, c.around-other.ensures) at c.lives_behind-around.ensures;
+  busy = rw (c.around-one.ensures, c.around-other.ensures) at c.is_busy_in_one-around.ensures;
+}
