@@ -22,6 +22,7 @@ WITHOUT_BITS = {"real", "realtime", "string", "event"}
 IDENTIFIERS = ["!", '"', "#a", "k", "0", "zz", "$q", "1x"]
 SCOPES = ["top", "u", "gen[0]", "m"]
 REFERENCES = ["a", "b", "c", "d", "\\e!x"]
+LETTERS = "01xzuwlh-"
 SIZES = [1, 1, 1, 2, 4, 8, 8, 16, 33, 64, 70]
 NUMBERS = [0, 1, 2, 3, 5, 255, 2 ** 16, 2 ** 33, 2 ** 64 - 1]
 RANGE = re.compile(r"\[(-?\d+):(-?\d+)\]\Z")
@@ -43,8 +44,13 @@ class Declaration:
 @dataclass(frozen=True)
 class Definition:
     signal: str
-    form: str           # "bit", "changes", or a sign
-    number: int = 0
+    form: str           # "bit", "changes", "has", or a sign
+    number: int = 0     # what it is compared with, where there is no other signal
+    other: str = ""
+    letter: str = ""
+
+    def is_event(self):
+        return self.form == "changes"
 
 
 # ---- the plain reading
@@ -85,22 +91,35 @@ def number_of(value, part):
     return int("".join(letters), 2) if set(letters) <= set("01") else None
 
 
-def read_of(definition, declarations):
-    """The identifier and the part of the first declaration of which the definition reads some."""
+def read_of(text, declarations, of_one_bit):
+    """The identifier and the part of the first declaration of which the text names some."""
     for declared in declarations:
         bits = declared.bits()
-        part = part_named(definition.signal, declared.full_name, bits) if bits else None
-        if part and (definition.form != "bit" or part[1] == 1):
+        part = part_named(text, declared.full_name, bits) if bits else None
+        if part and (part[1] == 1 or not of_one_bit):
             return declared.identifier, part
     return None
 
 
-def is_true(definition, value, part):
-    number = number_of(value, part) if value else None
-    if number is None:
+def all_read(definition, declarations):
+    """The identifiers and the parts that the definition reads, where all are there."""
+    texts = [definition.signal] + [definition.other] * bool(definition.other)
+    read = [read_of(text, declarations, definition.form == "bit") for text in texts]
+    return None if None in read else read
+
+
+def is_true(definition, values, read):
+    found = [(values.get(identifier), part) for identifier, part in read]
+    if definition.form == "has":
+        value, (low, count) = found[0]
+        return bool(value) and any(letter(value, place) == definition.letter
+                                   for place in range(low, low + count))
+    numbers = [number_of(value, part) if value else None for value, part in found]
+    if None in numbers:
         return False
-    return number == 1 if definition.form == "bit" else SIGNS[definition.form](number,
-                                                                              definition.number)
+    if definition.form == "bit":
+        return numbers[0] == 1
+    return SIGNS[definition.form](numbers[0], numbers[1] if definition.other else definition.number)
 
 
 def has_changed(before, value, part):
@@ -108,21 +127,21 @@ def has_changed(before, value, part):
                                           for place in range(part[0], sum(part)))
 
 
-def lines_of(definition, identifier, part, statements):
+def lines_of(definition, read, statements):
     """What is printed of the name, as an event or as a signal."""
-    value, before, time, runs, moments = None, None, 0, [], []
+    values, before, time, runs, moments = {}, None, 0, [], []
+    identifier, part = read[0]
     for is_time, what, letters in statements + [(True, None, None)]:
         if not is_time:
-            value = letters if what == identifier else value
+            values[what] = letters
         elif what != time:
-            if has_changed(before, value, part):
+            if has_changed(before, values.get(identifier), part):
                 moments.append(time)
-            if what is not None and definition.form != "changes" and is_true(definition, value,
-                                                                             part):
+            if what is not None and not definition.is_event() and is_true(definition, values, read):
                 begin = runs.pop()[0] if runs and runs[-1][1] == time else time
                 runs.append((begin, what))
-            before, time = value, time if what is None else what
-    if definition.form == "changes":
+            before, time = values.get(identifier), time if what is None else what
+    if definition.is_event():
         lines = ["[%d,%d] [%d,%d] [0,0]" % ((moment,) * 4) for moment in moments]
     else:
         lines = ["[%d,%d) (%d,%d] (0,%d]" % (a, b, a, b, b - a) for a, b in runs]
@@ -170,10 +189,10 @@ def random_head(chance):
 def random_change(chance):
     identifier, kind = chance.choice(IDENTIFIERS), chance.random()
     if kind < 0.35:
-        value = chance.choice("0101xzXZ")
+        value = chance.choice("0101xzXZ" if chance.random() < 0.8 else "uUwWlLhH-")
         return "%s%s\n" % (value, identifier), [(False, identifier, value)]
     if kind < 0.9:
-        some = "01" if chance.random() < 0.6 else "0101xZ"
+        some = chance.choice(["01", "01", "01", "0101xZ", "01UWlh-"])
         value = "".join(chance.choice(some) for _ in range(chance.choice(SIZES + [80])))
         return "%s%s %s\n" % (chance.choice("bB"), value, identifier), [(False, identifier, value)]
     return "r1.5 %s\n" % identifier, []
@@ -195,19 +214,31 @@ def random_body(chance):
     return statements, text
 
 
-def random_definition(chance, declarations):
+def random_signal(chance, declarations):
     declared = chance.choice(declarations)
     base, left, right = ranged(declared.full_name, max(declared.bits(), 1))
     low, high = min(left, right), max(left, right)
     one = "[%d]" % chance.randrange(low - 1, high + 2)
     several = "[%d:%d]" % (chance.randrange(low, high + 1), chance.randrange(low, high + 1))
-    signal = chance.choice([declared.full_name, base, base + one, base + several])
-    form = chance.choice(["bit", "changes", chance.choice(list(SIGNS)), chance.choice(list(SIGNS))])
-    number = chance.choice(NUMBERS + [chance.randrange(256)])
-    digits = chance.choice([str(number), "0x%X" % number, hex(number), bin(number)])
-    behind = {"bit": "", "changes": "changes"}.get(form, form + chance.choice(["", " "]) + digits)
-    space = " " if form == "changes" or "\\" in signal else chance.choice(["", "  "])
-    return Definition(signal, form, number), "n%s=%s%s%s%s" % (
+    return chance.choice([declared.full_name, base, base + one, base + several])
+
+
+def random_definition(chance, declarations):
+    signal = random_signal(chance, declarations)
+    form = chance.choice(["bit", "changes", "has", *chance.choices(list(SIGNS), k=4)])
+    number, other, asked = chance.choice(NUMBERS + [chance.randrange(256)]), "", ""
+    behind = {"bit": "", "changes": "changes"}.get(form, form)
+    if form == "has":
+        asked = chance.choice(LETTERS)
+        behind += " " * chance.randrange(1, 3) + asked
+    elif form in SIGNS and chance.random() < 0.6:
+        other = random_signal(chance, declarations)
+        behind += chance.choice(["", " "]) + other + chance.choice(["", " "])
+    elif form in SIGNS:
+        digits = chance.choice([str(number), "0x%X" % number, hex(number), bin(number)])
+        behind += chance.choice(["", " "]) + digits
+    space = " " if form in ("changes", "has") or "\\" in signal else chance.choice(["", "  "])
+    return Definition(signal, form, number, other, asked), "n%s=%s%s%s%s" % (
         chance.choice(["", " "]), chance.choice(["", " "]), signal, space, behind)
 
 
@@ -215,10 +246,10 @@ def is_right(montre, chance):
     declarations, head = random_head(chance)
     statements, body = random_body(chance)
     definition, text = random_definition(chance, declarations)
-    is_event = (definition.form == "changes") != (chance.random() < 0.1)
-    read = read_of(definition, declarations)
-    if read and is_event == (definition.form == "changes"):
-        wanted = 0, lines_of(definition, *read, statements), ""
+    is_event = definition.is_event() != (chance.random() < 0.1)
+    read = all_read(definition, declarations)
+    if read and is_event == definition.is_event():
+        wanted = 0, lines_of(definition, read, statements), ""
     else:
         wanted = 4, "", "montre: trace: UnknownName at %d\n" % len(head)
     words = [montre, "--format", "vcd", "--define", text, "event(n)" if is_event else "n"]

@@ -17,14 +17,17 @@ from collections import Counter, namedtuple
 LISTS, SEED = 20000, 7
 REFUSED = 2
 FLAGS = ["online", "show", "normal"]
-OPTIONS = ["format", "input", "max-bytes", "scale", "max-zones", "minus", "let", "define"]
+OPTIONS = ["format", "input", "max-bytes", "scale", "max-zones", "minus", "let", "define",
+           "unit"]
 DEFAULTS = {"online": "false", "show": "false", "normal": "false", "format": "text", "input": "-",
             "max-bytes": "1073741824", "scale": "0"}
 FORMATS = ["text", "vcd", "csv"]
+UNITS = ["s", "ms", "us", "ns", "ps", "fs"]
 LIMIT_MAX, SCALE_MAX, COUNT_MAX = 1 << 40, 9, 10000
 
 Setting = namedtuple("Setting", "name value")
-Job = namedtuple("Job", "mode format input max_bytes scale normal max_zones minus lets expr")
+Job = namedtuple("Job",
+                 "mode format input max_bytes scale unit normal max_zones minus lets expr")
 
 
 # ---- which words give a job
@@ -75,11 +78,11 @@ def job_said(says, expr):
     zones = number(0, LIMIT_MAX, says["max-zones"]) if "max-zones" in says else None
     if None in (scale, most) or says["format"] not in FORMATS:
         return None
-    if "max-zones" in says and zones is None:
+    if "max-zones" in says and zones is None or says.get("unit", "s") not in UNITS:
         return None
     mode = "show" if says["show"] == "true" else "online" if says["online"] == "true" else "offline"
-    return Job(mode, says["format"], says["input"], most, scale, says["normal"] == "true", zones,
-               says.get("minus"), says.get("let", says.get("define")), expr)
+    return Job(mode, says["format"], says["input"], most, scale, says.get("unit"),
+               says["normal"] == "true", zones, says.get("minus"), says.get("let", says.get("define")), expr)
 
 
 def may_stand(says, job):
@@ -93,6 +96,7 @@ def may_stand(says, job):
         job.format == "csv" and says["online"] == "true",
         job.format != "csv" and "let" in says,
         job.format != "vcd" and "define" in says,
+        job.format != "vcd" and "unit" in says,
     ])
 
 
@@ -136,13 +140,14 @@ VALUES = {
     "minus": ["q", "q;", "", "-", "-q", "--", "é"],
     "let": ["", "a = x > 1", "a", "-a"],
     "define": ["", "a = x", "é", "--show"],
+    "unit": ["ns", "s", "fs", "NS", "1ns", "", "n", "µs", "us "],
 }
 TEXTS = ["p", "p", "p;q", "", "-", "é", "p % [0,1]", "f", "=", "ÿ-", "-p", "--", "--online"]
 ODD = ["", "-", "--", "---", "=", "--=", "--=x", "-p", "-os", "-é", "--é", "é", "é=", "\u2028",
        "😀", "--EXPR", "--EXPR=p", "--help", "-h", "--version", "-V", "--inpu", "--input", "--online=",
        "--online=true", "--show=x", "--normal=", "--Online", "--scale=", "--scale=3=", "--format=",
        "--generate", "--watch", "--watch=f", "--check", "--check=f", "--generate=3", "help", "p", "3", "-1", "--max_zones",
-       "--max-zones", "--minus", "--let", "--define", "--online ", " --online", "--on\tline", "--ſhow"]
+       "--max-zones", "--minus", "--let", "--define", "--unit", "--unit=ps", "--units=ns", "--online ", " --online", "--on\tline", "--ſhow"]
 COUNTS = ["1", "5", "12", "0", "10001", "", "-3", "3.0", "+3", "é", "0004"]
 
 

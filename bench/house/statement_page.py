@@ -155,7 +155,7 @@ SECTIONS = [
       "tre_decimal": ["written_is_read", "one_number", "exact", "whole_numbers"]}),
     ("A dump",
      "What the tokens of a value change dump say, one after the other.",
-     ["tre_vcd"],
+     ["tre_vcd", "tre_unit"],
      {"tre_vcd": ["reading", "looks_back", "lowest_bits"]}),
     ("Tables, and definitions of names",
      "What the rows of a table say; and what a text of definitions says, of columns and of the "

@@ -1,17 +1,17 @@
 // Tests of tre_define: values and parts that no dump has.
+use tre_define::Asks::{Compares, Has};
 use tre_define::Comparison::{AtLeast, Equal};
-use tre_define::{Comparison, Part, Test};
+use tre_define::{Asks, Part, Test};
 
-// A part, a comparison of it with a number, letters, and whether they pass.
-const PASSED: [(Part, Comparison, u64, &str, bool); 3] = [
-    (Part { low: 0, width: 8 }, AtLeast, 0, "", false),
+// A part, what is asked of it, letters, and whether they pass.
+const PASSED: [(Part, Asks, &str, bool); 6] = [
+    (Part { low: 0, width: 8 }, Compares(AtLeast, 0), "", false),
     (
         Part {
             low: u64::MAX,
             width: u64::MAX,
         },
-        Equal,
-        0,
+        Compares(Equal, 0),
         "1",
         true,
     ),
@@ -20,29 +20,23 @@ const PASSED: [(Part, Comparison, u64, &str, bool); 3] = [
             low: 0,
             width: u64::MAX,
         },
-        Equal,
-        1,
+        Compares(Equal, 1),
         "1",
         true,
     ),
+    (Part { low: 2, width: 2 }, Has(b'0'), "1", true),
+    (Part { low: 0, width: 1 }, Has(b'u'), "U", true),
+    (Part { low: 0, width: 1 }, Has(b'x'), "u", false),
 ];
 
-fn passes(part: Part, comparison: Comparison, number: u64, letters: &str) -> bool {
-    let test = Test {
-        part,
-        comparison,
-        number,
-    };
-    test.passes(letters.as_bytes())
+fn passes(part: Part, asks: Asks, letters: &str) -> bool {
+    Test { part, asks }.passes(letters.as_bytes())
 }
 
 #[test]
 fn values_pass(rt: HostRuntime) {
-    for (part, comparison, number, letters, wanted) in &PASSED {
-        assert!(rt;
-            passes(*part, *comparison, *number, *letters) == *wanted,
-            "{letters}"
-        );
+    for (part, asks, letters, wanted) in &PASSED {
+        assert!(rt; passes(*part, *asks, *letters) == *wanted, "{letters}");
     }
 }
 

@@ -12,7 +12,7 @@ fn reader(alloc: Global, names: &str, events: &str) -> Result<VcdReader, Fail> {
     let names = names_of(alloc, names)?;
     let events = names_of(alloc, events)?;
     let needed = Rc::new(alloc, Needed::new(alloc))?;
-    let tokens = TokenReader::new(alloc, names, events, 0, &needed)?;
+    let tokens = TokenReader::new(alloc, names, events, 0, None, &needed)?;
     Ok(VcdReader::new(alloc, tokens))
 }
 

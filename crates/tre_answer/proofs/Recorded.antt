@@ -1,5 +1,5 @@
 -- What the inputs of a request say, and that no bytes say nothing.
-use Rattle.std.proofs.Common.{◌≡◌, ◌∙◌, ℕ, Bool, false, List, [], length, map, string_bytes, refl, sym, ap, ap₂}
+use Rattle.std.proofs.Common.{◌≡◌, ◌∙◌, ℕ, Bool, false, List, [], Option, length, map, string_bytes, refl, sym, ap, ap₂}
 use Rattle.std.proofs.lemmas.List.{length-map}
 use Rattle.tre_define.specs.Signals.{SignalDefined}
 use Rattle.tre_num.specs.Defined.{Defined}
@@ -11,6 +11,7 @@ use Rattle.tre_tell.specs.Sought.{Sought}
 use Rattle.tre_tell.proofs.Loop.{asked_sought}
 use Rattle.tre_text.specs.TextReading.{text_recording}
 use Rattle.tre_trace.specs.Reading.{Recording, Vocabulary}
+use Rattle.tre_unit.specs.declared.unit.TimeUnit.{TimeUnit}
 use Rattle.tre_vcd.specs.VcdReading.{Terms as DumpTerms, vcd_recording}
 use Rattle.tre_words.specs.declared.job.Format.{Format}
 use Rattle.tre_words.specs.declared.job.Format.TheVariants.{Text, Vcd, Csv}
@@ -30,16 +31,16 @@ dump_nothing : (terms : DumpTerms) → (vcd_recording terms false []).stretches 
 unfolding recording_from
 dump_nothing terms = refl
 
-nothing_in : (format : Format) (scale : ℕ) (patterns : List Sought) (lets : List Defined)
-    (signals : List SignalDefined)
-    → (recording_in format scale patterns lets signals false []).stretches ≡ []
-nothing_in Text scale patterns lets signals = text_nothing scale
-nothing_in Vcd scale patterns lets signals = dump_nothing _
-nothing_in Csv scale patterns lets signals = refl
+nothing_in : (format : Format) (scale : ℕ) (unit : Option TimeUnit)
+    (patterns : List Sought) (lets : List Defined) (signals : List SignalDefined)
+    → (recording_in format scale unit patterns lets signals false []).stretches ≡ []
+nothing_in Text scale unit patterns lets signals = text_nothing scale
+nothing_in Vcd scale unit patterns lets signals = dump_nothing _
+nothing_in Csv scale unit patterns lets signals = refl
 
 pub nothing_said : (job : Job) (definitions : Definitions) (asked : Asked)
     → ((request_for job definitions asked).recording false []).stretches ≡ []
-nothing_said job definitions asked = nothing_in job.format job.scale (sought_in asked)
+nothing_said job definitions asked = nothing_in job.format job.scale job.unit (sought_in asked)
     definitions.columns.items definitions.signals.items
 
 -- ---- what inputs say
@@ -53,9 +54,9 @@ vocabulary_same names events other same same' =
     vocabulary_of : List (List ℕ) → List (List ℕ) → Vocabulary
     vocabulary_of all more = record { names = all; events = more }
 
-abbrev pub dump_terms_of : List Vocabulary → ℕ → List SignalDefined → DumpTerms
-dump_terms_of declared scale signals =
-    record { declared = declared; scale = scale; definitions = signals }
+abbrev pub dump_terms_of : List Vocabulary → ℕ → Option TimeUnit → List SignalDefined → DumpTerms
+dump_terms_of declared scale unit signals =
+    record { declared = declared; scale = scale; unit = unit; definitions = signals }
 
 abbrev pub rows_terms_of : List Defined → List Vocabulary → ℕ → RowTerms
 rows_terms_of lets declared scale =
@@ -72,9 +73,9 @@ module _ (job : Job) (definitions : Definitions) (asked : Asked) (fits : FitsJob
 
   -- an input in the format of the job says what is asked for
   in_format : (format : Format) → job.format ≡ format
-      → recording_in format job.scale (sought_in asked) definitions.columns.items
+      → recording_in format job.scale job.unit (sought_in asked) definitions.columns.items
       definitions.signals.items ≡ (request_for job definitions asked).recording
-  in_format format is = ap (λ f. recording_in f job.scale (sought_in asked)
+  in_format format is = ap (λ f. recording_in f job.scale job.unit (sought_in asked)
       definitions.columns.items definitions.signals.items) (sym is)
 
   pub text_says : {said : Bool → List ℕ → Recording} → job.format ≡ Text
@@ -84,12 +85,13 @@ module _ (job : Job) (definitions : Definitions) (asked : Asked) (fits : FitsJob
   pub dump_says : {said : Bool → List ℕ → Recording} (patterns : List Pattern)
       (signals : List SignalDefined) → patterns ≡ asked.patterns.items
       → signals ≡ definitions.signals.items → job.format ≡ Vcd
-      → said ≡ vcd_recording (dump_terms_of (map names_of patterns) job.scale signals)
+      → said ≡ vcd_recording (dump_terms_of (map names_of patterns) job.scale job.unit signals)
       → said ≡ (request_for job definitions asked).recording
   dump_says patterns signals all defined is says =
       says ∙ (ap (λ signals. vcd_recording (dump_terms_of (map names_of patterns) job.scale
-      signals)) defined
-      ∙ (ap (λ names. vcd_recording (dump_terms_of names job.scale definitions.signals.items))
+      job.unit signals)) defined
+      ∙ (ap (λ names. vcd_recording (dump_terms_of names job.scale job.unit
+      definitions.signals.items))
       (ap (map names_of) all
       ∙ sym (asked_sought (map string_bytes asked.labels.items) asked.patterns.items labels_fit))
       ∙ in_format Vcd is))

@@ -1,5 +1,5 @@
 -- What a text says by its lines, that it stays so, and that both ways of matching say one thing.
-use Rattle.std.proofs.Common.{◌≡◌, ◌∙◌, ◌↔◌, ℕ, zero, suc, ◌*◌, ◌<◌, ◌≤◌, Bool, true, false, List, [], ◌∷◌, ◌++◌, length, take, map, refl, sym, subst, ap, arith, append-nil}
+use Rattle.std.proofs.Common.{Option, ◌≡◌, ◌∙◌, ◌↔◌, ℕ, zero, suc, ◌*◌, ◌<◌, ◌≤◌, Bool, true, false, List, [], ◌∷◌, ◌++◌, length, take, map, refl, sym, subst, ap, arith, append-nil}
 use Rattle.std.specs.List.{AllByRecursion, AllZip}
 use Rattle.std.specs.Prelude.{codes}
 use Rattle.std.proofs.Math.Nat.{mul-le-mul_right}
@@ -34,6 +34,7 @@ use Rattle.tre_text.specs.Times.{text-keeps_time}
 use Rattle.tre_trace.specs.Reading.{Grows, Recording, Stretch, Vocabulary, no_names, events_for, segments_for, segment_for}
 use Rattle.tre_trace.specs.Trace.{AreLong, Timeline, IsTrace, end_of, quiet, timeline_of}
 use Rattle.tre_trace.specs.declared.segment.Segment.{Segment}
+use Rattle.tre_unit.specs.declared.unit.TimeUnit.{TimeUnit}
 use Rattle.tre_vcd.specs.Times.{vcd-keeps_time}
 use Rattle.tre_vcd.specs.VcdReading.{vcd_format}
 use Rattle.tre_words.specs.declared.job.Format.{Format}
@@ -116,16 +117,16 @@ says_online request bytes front text traces are answer =
 
 -- ---- blocks so far
 
-trace_in : (format : Format) (scale : ℕ) (patterns : List Sought) (lets : List Defined)
-    (signals : List SignalDefined) (names : Vocabulary) (closed : Bool) (bytes : List ℕ)
+trace_in : (format : Format) (scale : ℕ) (unit : Option TimeUnit)
+    (patterns : List Sought) (lets : List Defined) (signals : List SignalDefined) (names : Vocabulary) (closed : Bool) (bytes : List ℕ)
     → IsTrace (segments_for names
-    (recording_in format scale patterns lets signals closed bytes).stretches)
-trace_in Text scale patterns lets signals names closed bytes =
+    (recording_in format scale unit patterns lets signals closed bytes).stretches)
+trace_in Text scale unit patterns lets signals names closed bytes =
     reading-is_trace names (text_format scale) closed bytes (text-keeps_time scale)
-trace_in Vcd scale patterns lets signals names closed bytes =
-    let terms = dump_terms_of (all_names patterns) scale signals in
+trace_in Vcd scale unit patterns lets signals names closed bytes =
+    let terms = dump_terms_of (all_names patterns) scale unit signals in
     reading-is_trace names (vcd_format terms) closed bytes (vcd-keeps_time terms)
-trace_in Csv scale patterns lets signals names closed bytes =
+trace_in Csv scale unit patterns lets signals names closed bytes =
     rows-are_trace (rows_terms_of lets (all_names patterns) scale) names closed bytes
 
 front_long : (segments more : List Segment) → AreLong (segments ++ more) → AreLong segments
@@ -164,20 +165,20 @@ says_told job definitions asked closed bytes told more accounts same are =
     let traces = fronts patterns told in
     says_so_far job.scale patterns traces accounts (segments_for no_names told) are
     (All-from_recursion (λ trace. IsTrace trace.segments) traces
-    (fronts_traces patterns told more _ same (λ names. trace_in job.format job.scale patterns
-    definitions.columns.items definitions.signals.items names closed bytes)))
+    (fronts_traces patterns told more _ same (λ names. trace_in job.format job.scale
+    job.unit patterns definitions.columns.items definitions.signals.items names closed bytes)))
 
 -- ---- what stays so
 
-grows_in : (format : Format) (scale : ℕ) (patterns : List Sought) (lets : List Defined)
-    (signals : List SignalDefined) (closed : Bool) (first more : List ℕ)
-    → Grows (recording_in format scale patterns lets signals false first)
-    (recording_in format scale patterns lets signals closed (first ++ more))
-grows_in Text scale patterns lets signals closed first more =
+grows_in : (format : Format) (scale : ℕ) (unit : Option TimeUnit)
+    (patterns : List Sought) (lets : List Defined) (signals : List SignalDefined) (closed : Bool) (first more : List ℕ)
+    → Grows (recording_in format scale unit patterns lets signals false first)
+    (recording_in format scale unit patterns lets signals closed (first ++ more))
+grows_in Text scale unit patterns lets signals closed first more =
     reading-grows (text_format scale) closed first more
-grows_in Vcd scale patterns lets signals closed first more = reading-grows
-    (vcd_format (dump_terms_of (all_names patterns) scale signals)) closed first more
-grows_in Csv scale patterns lets signals closed first more =
+grows_in Vcd scale unit patterns lets signals closed first more = reading-grows
+    (vcd_format (dump_terms_of (all_names patterns) scale unit signals)) closed first more
+grows_in Csv scale unit patterns lets signals closed first more =
     rows-grow (rows_terms_of lets (all_names patterns) scale) closed first more
 
 none_of : {X : Type 0} (xs : List X) → length xs ≡ 0 → xs ≡ []
@@ -250,8 +251,8 @@ pub for_good : (job : Job) (definitions : Definitions) (asked : Asked) (bytes mo
     → AllZip IsForGood accounts traces
 for_good job definitions asked bytes more accounts traces are whole =
     let said = (request_for job definitions asked).recording in
-    let grows = grows_in job.format job.scale (sought_in asked) definitions.columns.items
-    definitions.signals.items true bytes more in
+    let grows = grows_in job.format job.scale job.unit (sought_in asked)
+    definitions.columns.items definitions.signals.items true bytes more in
     subst (λ list. AllZip IsForGood accounts list) (sym whole.are)
     (each_good (said true (bytes ++ more)) (said false bytes).stretches grows.added accounts
     (sought_in asked) grows.stretches are.of_patterns are.over_traces

@@ -25,7 +25,7 @@ request_over job asked recording =
 -- the request for this job, these definitions and these patterns
 abbrev pub request_for : Job → Definitions → Asked → Request
 request_for job definitions asked = request_over job asked (recording_in job.format job.scale
-    (sought_in asked) definitions.columns.items definitions.signals.items)
+    job.unit (sought_in asked) definitions.columns.items definitions.signals.items)
 
 -- A request has so many patterns where these are the forms of its checks: none, if it has no
 -- checks.

@@ -120,7 +120,7 @@ fn answer_input<S: Source, O: Sink>(
         }
         Format::Vcd => {
             let signals = &definitions.signals;
-            let input = dump_input(alloc, &asked.patterns, signals, job.scale, limit)?;
+            let input = dump_input(alloc, &asked.patterns, signals, job.scale, job.unit, limit)?;
             answer_by(alloc, asked, job, input, source, out)
         }
         Format::Csv => {

@@ -7,8 +7,8 @@ use tre_watch::Form;
 /// where they are told as the input comes.
 ///
 /// Where a whole input is matched at once, the matches of the first pattern are wanted that are
-/// matches of none of the others. Where there are checks, they stand behind one another, each with the
-/// name of its check as the label.
+/// matches of none of the others. Where there are checks, they stand behind one another, each with
+/// the name of its check as the label.
 #[derive(Drop)]
 pub struct Asked {
     pub patterns: Vec<Pattern>,

@@ -47,9 +47,9 @@ pub fn one_canonical_answer()
         IsWanted patterns traces a b n ↔ IsWanted others seconds a b n) → zones ≡ strips }
 {}
 
-/// Canonical zones of checks depend on what becomes of these alone, and not on their patterns or the
-/// bytes: where two requests have findings of the same names, verdicts and shown pairs, they have
-/// one text, at one scale and with one end.
+/// Canonical zones of checks depend on what becomes of these alone, and not on their patterns or
+/// the bytes: where two requests have findings of the same names, verdicts and shown pairs, they
+/// have one text, at one scale and with one end.
 pub fn one_checked_text()
     ensures { (one other : Request) (bytes others : List ℕ) (failed second : ℕ)
         (text texts : List ℕ) (first : IsCheckedAnswer one bytes failed text)

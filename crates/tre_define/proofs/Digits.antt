@@ -9,7 +9,7 @@ use Rattle.std.proofs.lemmas.List.{take_more}
 use Rattle.tre_define.specs.Signals.{based}
 use Rattle.tre_define.specs.Values.{is_bit}
 
-value-append : (base n : ℕ) (xs ys : List ℕ) → digits_value_after base n (xs ++ ys)
+pub value-append : (base n : ℕ) (xs ys : List ℕ) → digits_value_after base n (xs ++ ys)
     ≡ digits_value_after base (digits_value_after base n xs) ys
 value-append base n [] ys = refl
 value-append base n (x ∷ xs) ys = value-append base (n * base + digit_value x) xs ys

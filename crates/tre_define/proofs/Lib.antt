@@ -1,3 +1,4 @@
+mod Bits
 mod Digits
 mod Ranges
 mod Bases

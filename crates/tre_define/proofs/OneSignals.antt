@@ -9,8 +9,8 @@ use Rattle.tre_define.proofs.ReadsOf.{same-reads}
 use Rattle.tre_define.proofs.SignalParts.{AreParts, cut-at, parts-are}
 
 same-fields : (one other : SignalDefined) → one.name ≡ other.name → one.signal ≡ other.signal
-    → one.reads ≡ other.reads → one ≡ other
-same-fields one other name signal reads = search rules
+    → one.reads ≡ other.reads → one.other ≡ other.other → one ≡ other
+same-fields one other name signal reads others = search rules
 
 same-parts : (text : List ℕ) (one other : SignalDefined) → AreParts text one
     → AreParts text other → one ≡ other
@@ -22,9 +22,9 @@ same-parts text one other is also =
     let cut' = cut-at rest other.signal also.behind (ap past_spaces after ∙ also.rest) also.signal
     in
     let behind : is.behind ≡ also.behind = sym cut.back ∙ cut'.back in
-    same-fields one other (sym is.name ∙ also.name) (sym cut.front ∙ cut'.front)
-    (same-reads also.behind one.reads other.reads
-    (subst (λ xs. IsReadBehind one.reads xs) behind is.read) also.read)
+    let reads = same-reads also.behind one.reads other.reads one.other other.other
+    (subst (λ xs. IsReadBehind one.reads one.other xs) behind is.read) also.read in
+    same-fields one other (sym is.name ∙ also.name) (sym cut.front ∙ cut'.front) reads.0 reads.1
 
 same-definition : (part : List ℕ) (one other : SignalDefined) → Spells part one
     → Spells part other → one ≡ other

@@ -1,13 +1,13 @@
 -- How many bytes in front are a signal's text.
-use Rattle.std.proofs.Common.{◌≡◌, ℕ, suc, ◌+◌, ◌<◌, ◌≤◌, Bool, true, false, cond, List, [], ◌∷◌, ◌++◌, length, get_or, drop, refl, sym, ap, subst, arith, rules}
-use Rattle.std.specs.Prelude.{◌==◌, not, if◌then◌else◌}
-use Rattle.std.specs.List.{prefix_len}
+use Rattle.std.proofs.Common.{◌≡◌, ℕ, zero, suc, ◌+◌, ◌<◌, ◌≤◌, Bool, true, false, cond, List, [], ◌∷◌, ◌++◌, length, get_or, take, drop, refl, sym, ap, subst, ◌∙◌, arith, rules}
+use Rattle.std.specs.Prelude.{◌==◌, ◌&&◌, not, if◌then◌else◌}
+use Rattle.std.specs.List.{list_all, prefix_len}
 use Rattle.std.proofs.lemmas.Bool.Decides.{nat_tests}
-use Rattle.std.proofs.lemmas.List.{drop_all, drop_more}
+use Rattle.std.proofs.lemmas.List.{append-nil, drop_all, drop_more, length-take-le}
 use Rattle.std.proofs.lemmas.List.Sums.{prefix_len-le-length}
-use Rattle.tre_define.specs.Signals.{IsSignal, ends_signal, is_no_space, signal_len}
+use Rattle.tre_define.specs.Signals.{IsSignal, begins_number, ends_signal, is_no_space, signal_len}
 use Rattle.tre_define.specs.Texts.{is_space}
-use Rattle.tre_define.proofs.Cutting.{Stops}
+use Rattle.tre_define.proofs.Cutting.{Stops, run-length, spaces}
 
 -- ---- from a place on
 
@@ -98,3 +98,124 @@ stops-ascii (byte ∷ bytes) below =
       by false false e below more =
           let next : 1 + signal_len bytes ≡ suc (signal_len bytes) = omega arith in
           subst (λ n. get_or (byte ∷ bytes) n 0 < 128) (sym next) (more (omega (arith, below)))
+
+-- ---- a signal's text alone
+
+run-alone : (test : ℕ → Bool) (bytes : List ℕ)
+    → prefix_len test (take (prefix_len test bytes) bytes) ≡ prefix_len test bytes
+run-alone test [] = refl
+run-alone test (byte ∷ bytes) = by (test byte) refl (run-alone test bytes) where
+  by : (passes : Bool) → test byte ≡ passes
+      → prefix_len test (take (prefix_len test bytes) bytes) ≡ prefix_len test bytes
+      → prefix_len test (take (cond passes (1 + prefix_len test bytes) 0) (byte ∷ bytes))
+      ≡ cond passes (1 + prefix_len test bytes) 0
+  by true e more =
+      let n = prefix_len test bytes in
+      let next : 1 + n ≡ suc n = omega arith in
+      ap (λ k. prefix_len test (take k (byte ∷ bytes))) next
+      ∙ ap (λ t. cond t (1 + prefix_len test (take n bytes)) 0) e
+      ∙ ap (λ k. 1 + k) more
+  by false e more = refl
+
+-- its length is that of the text in front alone
+len-alone : (text : List ℕ) → signal_len (take (signal_len text) text) ≡ signal_len text
+len-alone [] = refl
+len-alone (byte ∷ bytes) = by (byte == 92) refl (ends_signal byte) refl (len-alone bytes) where
+  by : (slash : Bool) → (byte == 92) ≡ slash → (ends : Bool) → ends_signal byte ≡ ends
+      → signal_len (take (signal_len bytes) bytes) ≡ signal_len bytes
+      → signal_len (take (if slash then prefix_len is_no_space (byte ∷ bytes)
+      else (if ends then 0 else 1 + signal_len bytes)) (byte ∷ bytes))
+      ≡ (if slash then prefix_len is_no_space (byte ∷ bytes)
+      else (if ends then 0 else 1 + signal_len bytes))
+  by true s ends e more =
+      let same : byte ≡ 92 = grind (arith, nat_tests) in
+      let n = prefix_len is_no_space bytes in
+      let all : prefix_len is_no_space (byte ∷ bytes) ≡ suc n =
+      ap (λ b. cond (is_no_space b) (1 + n) 0) same ∙ omega arith in
+      ap (λ k. signal_len (take k (byte ∷ bytes))) all
+      ∙ ap (λ t. if t then prefix_len is_no_space (byte ∷ take n bytes)
+      else (if ends_signal byte then 0 else 1 + signal_len (take n bytes))) s
+      ∙ ap (λ k. prefix_len is_no_space (take k (byte ∷ bytes))) (sym all)
+      ∙ run-alone is_no_space (byte ∷ bytes)
+  by false s true e more = refl
+  by false s false e more =
+      let n = signal_len bytes in
+      let next : 1 + n ≡ suc n = omega arith in
+      ap (λ k. signal_len (take k (byte ∷ bytes))) next
+      ∙ ap (λ t. if t then prefix_len is_no_space (byte ∷ take n bytes)
+      else (if ends_signal byte then 0 else 1 + signal_len (take n bytes))) s
+      ∙ ap (λ t. if t then 0 else 1 + signal_len (take n bytes)) e
+      ∙ ap (λ k. 1 + k) more
+
+pub signal-alone : (text : List ℕ) → 0 < signal_len text
+    → IsSignal (take (signal_len text) text) []
+signal-alone text some =
+    let len : length (take (signal_len text) text) ≡ signal_len text =
+    length-take-le (signal_len text) text (len-within text) in
+    record {
+      some = omega (arith, len, some);
+      all = ap signal_len (append-nil (take (signal_len text) text)) ∙ len-alone text ∙ sym len;
+    }
+
+passes-all : (test : ℕ → Bool) (bytes : List ℕ) → prefix_len test bytes ≡ length bytes
+    → list_all test bytes ≡ true
+passes-all test [] all = refl
+passes-all test (byte ∷ bytes) all = by (test byte) (passes-all test bytes) all where
+  by : (passes : Bool)
+      → (prefix_len test bytes ≡ length bytes → list_all test bytes ≡ true)
+      → cond passes (1 + prefix_len test bytes) 0 ≡ length (byte ∷ bytes)
+      → (passes && list_all test bytes) ≡ true
+  by true more e = more (omega (arith, e))
+  by false more e = absurd (omega (arith, e))
+
+ends-spaces : (count : ℕ) → Stops is_no_space (spaces count)
+ends-spaces zero = tt
+ends-spaces (suc count) = refl
+
+-- spaces behind a signal's text are none of it
+pub signal-ends : (text : List ℕ) (count : ℕ) → signal_len text ≡ length text
+    → signal_len (text ++ spaces count) ≡ length text
+signal-ends [] zero all = refl
+signal-ends [] (suc count) all = refl
+signal-ends (byte ∷ bytes) count all =
+    by (byte == 92) (ends_signal byte) (signal-ends bytes count) all
+  where
+    by : (slash ends : Bool)
+        → (signal_len bytes ≡ length bytes → signal_len (bytes ++ spaces count) ≡ length bytes)
+        → (if slash then prefix_len is_no_space (byte ∷ bytes)
+        else (if ends then 0 else 1 + signal_len bytes)) ≡ length (byte ∷ bytes)
+        → (if slash then prefix_len is_no_space (byte ∷ (bytes ++ spaces count))
+        else (if ends then 0 else 1 + signal_len (bytes ++ spaces count))) ≡ length (byte ∷ bytes)
+    by true ends more e =
+        run-length is_no_space (byte ∷ bytes) (spaces count)
+        (passes-all is_no_space (byte ∷ bytes) e) (ends-spaces count)
+    by false true more e = absurd (omega (arith, e))
+    by false false more e =
+        let longer = more (omega (arith, e)) in
+        omega (arith, longer)
+
+-- It begins with no space and with no `=`.
+pub signal-first : (signal rest : List ℕ) → IsSignal signal []
+    → Stops is_space (signal ++ rest) × Stops (λ byte. byte == 61) (signal ++ rest)
+signal-first [] rest is = absurd (omega (arith, is.some))
+signal-first (byte ∷ signal) rest is =
+    by (byte == 92) refl (ends_signal byte) refl is.all where
+      by : (slash : Bool) → (byte == 92) ≡ slash → (ends : Bool) → ends_signal byte ≡ ends
+          → (if slash then prefix_len is_no_space (byte ∷ (signal ++ []))
+          else (if ends then 0 else 1 + signal_len (signal ++ []))) ≡ length (byte ∷ signal)
+          → ((byte == 32) ≡ false) × ((byte == 61) ≡ false)
+      by true s ends e all = (grind (arith, nat_tests), grind (arith, nat_tests))
+      by false s true e all = absurd (omega (arith, all))
+      by false s false e all = (grind (arith, nat_tests), grind (arith, nat_tests))
+
+-- Whether a text begins as a number does is told by its first byte.
+pub front-number : (text : List ℕ) (count : ℕ) → 0 < count
+    → begins_number (take count text) ≡ begins_number text
+front-number text zero some = absurd (omega (arith, some))
+front-number [] (suc count) some = refl
+front-number (byte ∷ text) (suc count) some = refl
+
+pub more-number : (text rest : List ℕ) → 0 < length text
+    → begins_number (text ++ rest) ≡ begins_number text
+more-number [] rest some = absurd (omega (arith, some))
+more-number (byte ∷ text) rest some = refl

@@ -1,16 +1,22 @@
 -- A definition of a name by a signal is cut into its parts in one way.
-use Rattle.std.proofs.Common.{◌≡◌, ◌⊎◌, ℕ, zero, suc, ◌<◌, ◌≤◌, List, [], ◌∷◌, ◌++◌, append_assoc, length, take, drop, inl, inr, refl, sym, ap, subst, ◌∙◌, arith}
+use Rattle.std.proofs.Common.{◌≡◌, ◌⊎◌, ℕ, zero, suc, ◌<◌, ◌≤◌, true, List, [], ◌∷◌, ◌++◌, append_assoc, length, take, drop, inl, inr, refl, sym, ap, subst, ◌∙◌, arith}
+use Rattle.std.specs.Prelude.{nat_lt}
 use Rattle.std.specs.Str.{IsAscii, IsUtf8, IsCharBoundary}
-use Rattle.std.specs.List.{prefix_len}
+use Rattle.std.specs.List.{list_all, prefix_len}
 use Rattle.std.proofs.lemmas.Bool.{cases_lt}
-use Rattle.std.proofs.lemmas.List.{drop_at, take_at}
-use Rattle.std.proofs.lemmas.Str.{IsCharBoundary-after_ascii, IsCharBoundary-before_ascii, IsCharBoundary-end, IsUtf8-drop, IsUtf8-take}
+use Rattle.std.proofs.lemmas.Bool.Decides.{nat_tests}
+use Rattle.std.proofs.lemmas.List.{append-nil, drop_at, take_at}
+use Rattle.std.proofs.lemmas.Str.{IsCharBoundary-after_ascii, IsCharBoundary-before_ascii, IsCharBoundary-end, IsUtf8-drop, IsUtf8-nil, IsUtf8-take}
 use Rattle.tre_state.specs.Name.{continues_name, IsName, IsWord}
+use Rattle.tre_define.specs.declared.comparison.Comparison.{Comparison}
+use Rattle.tre_define.specs.declared.comparison.Comparison.TheVariants.{Less, AtMost, Greater, AtLeast, Equal, Unequal}
+use Rattle.tre_define.specs.declared.reads.Reads.{Reads}
+use Rattle.tre_define.specs.declared.reads.Reads.TheVariants.{Beside, Bit, Changes, Compared, Has}
 use Rattle.tre_define.specs.Pieces.{behind_piece, past_spaces, piece}
 use Rattle.tre_define.specs.Signals.{IsReadBehind, IsSignal, SignalDefined, Spells, signal_len}
-use Rattle.tre_define.specs.Texts.{is_space}
-use Rattle.tre_define.proofs.Cutting.{piece-cuts, piece-is, spaces, spaces-past, split-spaces, word-ascii, word-passes}
-use Rattle.tre_define.proofs.SignalLength.{len-within, signal-starts, stops-ascii}
+use Rattle.tre_define.specs.Texts.{IsSpaced, is_space, sign_text}
+use Rattle.tre_define.proofs.Cutting.{first, piece-cuts, piece-is, second, spaces, spaces-past, split-spaces, word-ascii, word-passes}
+use Rattle.tre_define.proofs.SignalLength.{len-within, signal-ends, signal-starts, stops-ascii}
 
 -- The parts of a definition, as they are cut.
 pub record AreParts (text : List ℕ) (defined : SignalDefined) : Type 0 where
@@ -20,7 +26,7 @@ pub record AreParts (text : List ℕ) (defined : SignalDefined) : Type 0 where
   pub equals : behind_piece continues_name text ≡ 61 ∷ after
   pub rest : past_spaces after ≡ defined.signal ++ behind
   pub signal : IsSignal defined.signal behind
-  pub read : IsReadBehind defined.reads behind
+  pub read : IsReadBehind defined.reads defined.other behind
 
 regroup : (a b c d tail : List ℕ) → (a ++ (b ++ (c ++ (61 ∷ d)))) ++ tail
     ≡ a ++ (b ++ (c ++ (61 ∷ (d ++ tail))))
@@ -157,3 +163,62 @@ pub signal-text : (text after : List ℕ) → IsUtf8 text → IsWord (piece cont
 signal-text text after is word equals =
     IsUtf8-take (past_spaces after) (signal_len (past_spaces after))
     (rest-text text after is word equals) (boundary (past_spaces after))
+
+-- ---- so is that of another signal
+
+pub behind-text : (text after : List ℕ) → IsUtf8 text → IsWord (piece continues_name text)
+    → behind_piece continues_name text ≡ 61 ∷ after
+    → IsUtf8 (drop (signal_len (past_spaces after)) (past_spaces after))
+behind-text text after is word equals =
+    IsUtf8-drop (past_spaces after) (signal_len (past_spaces after))
+    (rest-text text after is word equals) (boundary (past_spaces after))
+
+sign-ascii : (comparison : Comparison) → IsAscii (sign_text comparison)
+sign-ascii comparison = by (sign_text comparison) (small comparison) where
+  by : (bytes : List ℕ) → list_all (λ byte. nat_lt byte 128) bytes ≡ true → IsAscii bytes
+  by [] all i = omega arith
+  by (byte ∷ bytes) all zero =
+      let here = first (nat_lt byte 128) (list_all (λ byte. nat_lt byte 128) bytes) all in
+      grind (arith, nat_tests)
+  by (byte ∷ bytes) all (suc i) =
+      by bytes (second (nat_lt byte 128) (list_all (λ byte. nat_lt byte 128) bytes) all) i
+
+  small : (comparison : Comparison)
+      → list_all (λ byte. nat_lt byte 128) (sign_text comparison) ≡ true
+  small Less = refl
+  small AtMost = refl
+  small Greater = refl
+  small AtLeast = refl
+  small Equal = refl
+  small Unequal = refl
+
+beside-text : (behind other : List ℕ) (comparison : Comparison) → IsUtf8 behind
+    → IsSignal other [] → IsSpaced (sign_text comparison ∷ other ∷ []) behind → IsUtf8 other
+beside-text behind other comparison text signal is =
+    let sign = sign_text comparison in
+    let last = is.3 in
+    let end = last.3 in
+    let tail = other ++ spaces end.0 in
+    let behind_is : behind ≡ spaces is.0 ++ (sign ++ (spaces last.0 ++ tail)) =
+    is.2 ∙ ap (λ rest. spaces is.0 ++ (sign ++ rest)) (last.2
+    ∙ ap (λ rest. spaces last.0 ++ (other ++ rest)) end.1) in
+    let whole : IsUtf8 tail =
+    behind-ascii (spaces last.0) tail (spaces-ascii last.0)
+    (behind-ascii sign _ (sign-ascii comparison)
+    (behind-ascii (spaces is.0) _ (spaces-ascii is.0) (subst IsUtf8 behind_is text))) in
+    let len : signal_len tail ≡ length other =
+    signal-ends other end.0 (ap signal_len (sym (append-nil other)) ∙ signal.all) in
+    subst IsUtf8 (ap (λ n. take n tail) len ∙ take_at other (spaces end.0) (length other) refl)
+    (IsUtf8-take tail (signal_len tail) whole (boundary tail))
+
+no-text : (other : List ℕ) → other ≡ [] → IsUtf8 other
+no-text other none = subst IsUtf8 (sym none) (IsUtf8-nil)
+
+pub other-text : (behind : List ℕ) (reads : Reads) (other : List ℕ) → IsUtf8 behind
+    → IsReadBehind reads other behind → IsUtf8 other
+other-text behind Bit other text is = no-text other is.0
+other-text behind (Compared comparison number) other text is = no-text other is.0
+other-text behind Changes other text is = no-text other is.0
+other-text behind (Has letter) other text is = no-text other is.0
+other-text behind (Beside comparison) other text is =
+    beside-text behind other comparison text is.0 is.2

@@ -1,7 +1,7 @@
 -- Definitions of names by the signals of a dump: what a text of them says, and what each reads.
-use Rattle.std.specs.Prelude.{◌≡◌, ℕ, ◌+◌, ◌<◌, ◌-◌, ◌^◌, nat_le, nat_lt, not, Bool, ◌&&◌, ◌||◌, ◌==◌, List, [], ◌∷◌, ◌++◌, length, codes, Option, Some, None, option_and_then, if◌then◌else◌}
-use Rattle.std.specs.Char.{is_digit}
-use Rattle.std.specs.List.{list_all, prefix_len}
+use Rattle.std.specs.Prelude.{◌≡◌, ℕ, ◌+◌, ◌<◌, ◌-◌, ◌^◌, nat_le, nat_lt, not, Bool, ◌&&◌, ◌||◌, ◌==◌, true, false, List, [], ◌∷◌, ◌++◌, length, codes, Option, Some, None, option_and_then, if◌then◌else◌}
+use Rattle.std.specs.Char.{is_ascii_digit, is_digit}
+use Rattle.std.specs.List.{list_all, list_any, prefix_len}
 use Rattle.std.specs.Str.Parse.{digits_value}
 use Rattle.tre_state.specs.Name.{IsName}
 use Rattle.tre_define.specs.Named.{part_named}
@@ -10,14 +10,17 @@ use Rattle.tre_define.specs.Values.{one_bit}
 use Rattle.tre_define.specs.declared.let_fault.LetFault.{LetFault}
 use Rattle.tre_define.specs.declared.part.Part.{Part}
 use Rattle.tre_define.specs.declared.reads.Reads.{Reads}
-use Rattle.tre_define.specs.declared.reads.Reads.TheVariants.{Bit, Changes, Compared}
+use Rattle.tre_define.specs.declared.reads.Reads.TheVariants.{Beside, Bit, Changes, Compared, Has}
+use Rattle.tre_define.specs.declared.test.Asks.TheVariants.{Compares, Has as HasLetter}
 use Rattle.tre_define.specs.declared.test.Test.{Test}
 
--- A name stands for what is read of what a text names of a signal.
+-- A name stands for what is read of what a text names of a signal, and for some reads of what
+-- another text names of another.
 pub record SignalDefined : Type 0 where
   pub name : List ℕ
   pub signal : List ℕ
   pub reads : Reads
+  pub other : List ℕ
 
 abbrev pub name_of_signal : SignalDefined → List ℕ
 name_of_signal defined = defined.name
@@ -27,28 +30,28 @@ signal_definition_of definitions name = named name_of_signal definitions name
 
 -- ---- what a definition reads
 
-abbrev pub part_of_signal : SignalDefined → List ℕ → ℕ → Option Part
-part_of_signal defined full_name size =
-    if size == 0 then None else part_named defined.signal full_name size
+abbrev pub part_of_text : List ℕ → List ℕ → ℕ → Option Part
+part_of_text text full_name size = if size == 0 then None else part_named text full_name size
 
 -- the test that is read of a part; a bit alone is one bit
 abbrev pub test_of : Reads → Part → Option Test
 test_of Bit part = if part.width == 1 then Some (one_bit part) else None
 test_of (Compared comparison number) part =
-    Some (record { part = part; comparison = comparison; number = number })
-test_of Changes part = None
+    Some (record { part = part; asks = Compares comparison number })
+test_of (Has letter) part = Some (record { part = part; asks = HasLetter letter })
+test_of _ part = None
 
 abbrev pub test_in : SignalDefined → List ℕ → ℕ → Option Test
 test_in defined full_name size =
-    option_and_then (test_of defined.reads) (part_of_signal defined full_name size)
+    option_and_then (test_of defined.reads) (part_of_text defined.signal full_name size)
 
 abbrev pub changing : Reads → Option Part → Option Part
-changing Bit part = None
-changing (Compared comparison number) part = None
 changing Changes part = part
+changing _ part = None
 
 abbrev pub changes_in : SignalDefined → List ℕ → ℕ → Option Part
-changes_in defined full_name size = changing defined.reads (part_of_signal defined full_name size)
+changes_in defined full_name size =
+    changing defined.reads (part_of_text defined.signal full_name size)
 
 -- ---- the text of a definition
 
@@ -88,12 +91,28 @@ number_in (byte ∷ next ∷ digits) =
     if byte == 48 && next == 120 then based 16 digits
     else (if byte == 48 && next == 98 then based 2 digits else based 10 (byte ∷ next ∷ digits))
 
-abbrev pub IsReadBehind : Reads → List ℕ → Type 0
-IsReadBehind Bit behind = IsSpaced [] behind
-IsReadBehind (Compared comparison number) behind =
-    (digits : List ℕ) × (number_in digits ≡ Some number)
+-- It can't be the text of a second signal: it begins with a digit, `+` (43) or `-` (45).
+abbrev pub begins_number : List ℕ → Bool
+begins_number [] = false
+begins_number (byte ∷ _) = is_ascii_digit byte || byte == 43 || byte == 45
+
+-- the letters of bits, in lower case
+abbrev pub is_letter : ℕ → Bool
+is_letter byte = list_any (λ letter. byte == letter) (codes "01xzuwlh-")
+
+-- This is read, and the text of a second signal, by what stands behind that of the first.
+abbrev pub IsReadBehind : Reads → List ℕ → List ℕ → Type 0
+IsReadBehind Bit other behind = (other ≡ []) × IsSpaced [] behind
+IsReadBehind (Compared comparison number) other behind =
+    (other ≡ []) × (digits : List ℕ) × (number_in digits ≡ Some number)
     × IsSpaced (sign_text comparison ∷ digits ∷ []) behind
-IsReadBehind Changes behind = IsSpaced (codes "changes" ∷ []) behind
+IsReadBehind Changes other behind = (other ≡ []) × IsSpaced (codes "changes" ∷ []) behind
+IsReadBehind (Has letter) other behind =
+    (other ≡ []) × (is_letter letter ≡ true)
+    × IsSpaced (codes "has " ∷ (letter ∷ []) ∷ []) behind
+IsReadBehind (Beside comparison) other behind =
+    IsSignal other [] × (begins_number other ≡ false)
+    × IsSpaced (sign_text comparison ∷ other ∷ []) behind
 
 -- The text is this definition: a name and `=`, a signal's text, and what is read of it.
 pub record Spells (text : List ℕ) (defined : SignalDefined) : Type 0 where
@@ -103,7 +122,7 @@ pub record Spells (text : List ℕ) (defined : SignalDefined) : Type 0 where
   pub spaced : IsSpaced (defined.name ∷ codes "=" ∷ []) front
   pub name : IsName defined.name
   pub signal : IsSignal defined.signal behind
-  pub read : IsReadBehind defined.reads behind
+  pub read : IsReadBehind defined.reads defined.other behind
 
 -- ---- the definitions of a text
 

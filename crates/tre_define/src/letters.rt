@@ -1,5 +1,6 @@
 // The letters of values.
 ghost use Rattle.std.specs.Prelude.{◌≡◌};
+ghost use Rattle.std.specs.List.{list_all};
 ghost use Rattle.tre_define.specs.Values.{extension, is_bit, letter_at, letters_of};
 
 use crate::part::Part;
@@ -9,6 +10,13 @@ pub(crate) fn is_bit(letter: u8) -> bool
     ensures { result ≡ is_bit letter }
 {
     letter == b'0' || letter == b'1'
+}
+
+/// Whether each letter is `0` or `1`.
+pub(crate) fn are_bits(letters: &[u8]) -> bool
+    ensures { result ≡ list_all is_bit letters.now }
+{
+    letters.iter().all(|&letter| is_bit(letter))
 }
 
 /// The letters of a part that stand in those of a value.

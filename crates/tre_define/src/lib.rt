@@ -1,12 +1,13 @@
 //! Definitions of names, as texts give them: what all of them are made of, and those of the signals
 //! of a dump.
 //!
-//! A [`SignalDefinition`] names a test of a signal (`busy = tb.state == 3`), a bit of one
-//! (`ack = tb.data[3]`) or its changes (`moved = tb.data changes`). [`read_signals`] reads a text
-//! of them; what it says is in specs/Signals.antt. A [`Part`] is some bits of a value, and a
-//! [`Test`] compares their number with another; what each says of the letters of a value, as a dump
-//! writes them, is in specs/Values.antt. Definitions of another kind can be read by the same rules,
-//! which are in specs/Texts.antt.
+//! A [`SignalDefinition`] names a test of a signal (`busy = tb.state == 3`, `idle = tb.bus has z`),
+//! a bit of one (`ack = tb.data[3]`), how two compare (`full = tb.wr == tb.rd`) or the changes of
+//! one (`moved = tb.data changes`). [`read_signals`] reads a text of them; what it says is in
+//! specs/Signals.antt. A [`Part`] is some bits of a value, a [`Test`] compares their number with
+//! another or looks for a letter, and [`compare_parts`] compares the numbers of two; what each says
+//! of the letters of a value, as a dump writes them, is in specs/Values.antt. Definitions of
+//! another kind can be read by the same rules, which are in specs/Texts.antt.
 //!
 //! ```text
 //! let definitions = read_signals(alloc, "busy = tb.state[3:2] == 0b11")?;
@@ -15,6 +16,7 @@
 //! ```
 #![tactic(auto)]
 
+mod behind;
 mod comparison;
 mod definition;
 pub mod laws;
@@ -36,4 +38,4 @@ pub use part::Part;
 pub use pieces::{behind_equals, first_part, name_in, next_word, sign_in, skip_spaces, word_in};
 pub use reads::Reads;
 pub use signals::{add_signal, read_signals};
-pub use test::{PLAIN, Test};
+pub use test::{Asks, Test, compare_bits, compare_parts};

@@ -9,4 +9,8 @@ pub enum Reads {
     Compared(Comparison, u64),
     /// It changes: an event.
     Changes,
+    /// One of its bits has this letter, in lower case here.
+    Has(u8),
+    /// Its number is so beside that of what the text of another signal names.
+    Beside(Comparison),
 }

@@ -3,26 +3,26 @@ ghost use Rattle.std.specs.Prelude.{◌≡◌, ◌≢◌, ◌+◌, ◌≤◌, �
 ghost use Rattle.std.specs.List.{prefix_len};
 ghost use Rattle.std.specs.Option.{option_map};
 ghost use Rattle.std.specs.Str.{IsUtf8};
-ghost use Rattle.tre_define.specs.Behind.{is_changes_word, last_number};
-ghost use Rattle.tre_define.specs.Signals.{AreRefused, DefineSignals, IsReadBehind, SignalDefined, Spells, ends_signal, is_no_space, name_of_signal, signal_definition_of, signal_len};
+ghost use Rattle.tre_define.specs.Signals.{AreRefused, DefineSignals, SignalDefined, Spells, ends_signal, is_no_space, name_of_signal, signal_definition_of, signal_len};
 ghost use Rattle.tre_define.specs.Texts.{PartHasFault, parts_of};
 ghost use Rattle.tre_define.specs.declared.let_fault.LetFault.{LetFault};
 
+use crate::behind::read_behind;
 use crate::definition::SignalDefinition;
 use crate::let_fault::LetFault;
-use crate::number::number_in;
-use crate::pieces::{behind_equals, first_part, name_in, next_word, sign_in, skip_spaces};
+use crate::pieces::{behind_equals, first_part, name_in, next_word, skip_spaces};
 use crate::reads::Reads;
 use std::alloc::Global;
 use tre_state::front_len;
 
-/// The definitions of a text, in their order, with `;` between two. Each is one of three:
+/// The definitions of a text, in their order, with `;` between two. Each is one of five:
 /// `name = signal op number`, where the op is one of `<`, `<=`, `>`, `>=`, `==` and `!=`, and the
-/// number is below 2^64, in decimal digits, or in others behind `0x` or `0b`; `name = signal`, a
-/// bit; and `name = signal changes`, an event. Spaces alone may stand round each part. A signal's
-/// text goes on to the next space or sign, and from its first backslash on to the next space. A
-/// text of spaces alone has no definition. The first that is none, or that has the name of an
-/// earlier one, is told by its number.
+/// number is below 2^64, in decimal digits, or in others behind `0x` or `0b`; `name = signal op
+/// signal`, where the second begins with no digit, `+` or `-`; `name = signal has letter`, where
+/// the letter is one of `01xzuwlh-`; `name = signal`, a bit; and `name = signal changes`, an event.
+/// Spaces alone may stand round each part. A signal's text goes on to the next space or sign, and
+/// from its first backslash on to the next space. A text of spaces alone has no definition. The
+/// first that is none, or that has the name of an earlier one, is told by its number.
 pub fn read_signals(alloc: Global, text: &str) -> Result<Vec<SignalDefinition>, LetFault>
     ensures definitions { IfOk result (λ definitions.
         DefineSignals (parts_of text.now) definitions.items) }
@@ -69,7 +69,8 @@ pub fn add_signal(
     }
     let name = String::from_str(alloc, parts.name)?;
     let signal = String::from_str(alloc, parts.signal)?;
-    let definition = SignalDefinition::new(name, signal, parts.reads);
+    let other = String::from_str(alloc, parts.other)?;
+    let definition = SignalDefinition::new(name, signal, parts.reads, other);
     if definitions.push(definition).is_err() {
         return Err(LetFault::Memory);
     }
@@ -98,6 +99,8 @@ struct Parts<'a> {
     pub name: &'a str,
     pub signal: &'a str,
     pub reads: Reads,
+    // Of the other signal; empty where there is none.
+    pub other: &'a str,
 }
 
 // The parts of a definition, if the text is one.
@@ -107,6 +110,7 @@ fn parts_in(text: &[u8]) -> Option<Parts<'_>>
       name = parts.name.now;
       signal = parts.signal.now;
       reads = parts.reads;
+      other = parts.other.now;
     })) }
     ensures none { IfNone result ((defined : SignalDefined) → ¬ Spells text.now defined) }
 {
@@ -120,16 +124,20 @@ fn parts_in(text: &[u8]) -> Option<Parts<'_>>
     let Ok(signal) = str::from_utf8(&rest[..len]) else {
         return None;
     };
-    let reads = reads_in(&rest[len..])?;
+    let behind = read_behind(&rest[len..])?;
+    let Ok(other) = str::from_utf8(behind.other) else {
+        return None;
+    };
     Some(Parts {
         name,
         signal,
-        reads,
+        reads: behind.reads,
+        other,
     })
 }
 
-// How many bytes in front are a signal's text.
-fn signal_len(bytes: &[u8]) -> usize
+/// How many bytes in front are a signal's text.
+pub(crate) fn signal_len(bytes: &[u8]) -> usize
     ensures len { result ≡ signal_len bytes.now }
     ensures within { result ≤ length bytes.now }
 {
@@ -151,50 +159,10 @@ fn ends_signal(byte: u8) -> bool
     byte == b' ' || byte == b'<' || byte == b'=' || byte == b'>' || byte == b'!'
 }
 
-// How many bytes stand before the next space.
-fn piece_len(bytes: &[u8]) -> usize
+/// How many bytes stand before the next space.
+pub(crate) fn piece_len(bytes: &[u8]) -> usize
     ensures len { result ≡ prefix_len is_no_space bytes.now }
     ensures within { result ≤ length bytes.now }
 {
     front_len(bytes, |byte| byte != b' ')
-}
-
-// What is read, by what stands behind a signal's text.
-fn reads_in(behind: &[u8]) -> Option<Reads>
-    ensures some { IfSome result (λ reads. IsReadBehind reads behind.now) }
-    ensures none { IfNone result ((reads : Reads) → ¬ IsReadBehind reads behind.now) }
-{
-    let text = skip_spaces(behind);
-    if text.is_empty() {
-        return Some(Reads::Bit);
-    }
-    let Some((comparison, rest)) = sign_in(text) else {
-        return if is_changes(behind) {
-            Some(Reads::Changes)
-        } else {
-            None
-        };
-    };
-    let number = last_number(rest)?;
-    Some(Reads::Compared(comparison, number))
-}
-
-// Whether the text is the word for changes, with spaces round it.
-fn is_changes(text: &[u8]) -> bool
-    ensures { result ≡ is_changes_word text.now }
-{
-    let (word, rest) = next_word(text);
-    word == b"changes".as_slice() && rest.is_empty()
-}
-
-// The number that the text is, with spaces round it.
-fn last_number(text: &[u8]) -> Option<u64>
-    ensures { result ≡ last_number text.now }
-{
-    let text = skip_spaces(text);
-    let len = piece_len(text);
-    if !skip_spaces(&text[len..]).is_empty() {
-        return None;
-    }
-    number_in(&text[..len])
 }

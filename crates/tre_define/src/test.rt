@@ -1,74 +1,119 @@
 // Tests of values.
-ghost use Rattle.std.specs.Prelude.{◌≡◌, ◌^◌, ◌≤◌, length, min, true, false, IfNone, IfSome};
-ghost use Rattle.std.specs.List.{list_all};
+ghost use Rattle.std.specs.Prelude.{◌≡◌, ◌≢◌, ◌==◌, ◌^◌, ◌≤◌, Some, length, min, slice_index, true};
+ghost use Rattle.std.specs.Ordering.{nat_cmp};
+ghost use Rattle.std.specs.List.{list_all, prefix_len};
 ghost use Rattle.std.specs.Str.Parse.{digits_value};
-ghost use Rattle.tre_define.specs.Values.{is_bit, is_known, passes};
+ghost use Rattle.tre_define.specs.Values.{compares_known, is_bit, number_of_part, passes};
 
 use crate::comparison::Comparison;
-use crate::letters::{is_bit, letters_of};
 use crate::part::Part;
+use std::cmp::Ordering;
+use tre_state::front_len;
 
-/// What is asked of a value: how the number of a part of it compares with another.
+/// What is asked of some bits of a value.
+#[derive(Clone, Copy)]
+pub enum Asks {
+    /// Their number is so beside this one.
+    Compares(Comparison, u64),
+    /// One of them has this letter, in lower case here.
+    Has(u8),
+}
+
+/// What is asked of a part of a value.
 #[derive(Clone, Copy)]
 pub struct Test {
     pub part: Part,
-    pub comparison: Comparison,
-    pub number: u64,
+    pub asks: Asks,
 }
 
-/// The lowest bit is 1.
-pub const PLAIN: Test = Test {
-    part: Part { low: 0, width: 1 },
-    comparison: Comparison::Equal,
-    number: 1,
-};
-
 impl Test {
-    /// Whether the value of these letters passes, the highest bit first. It doesn't where a bit of
-    /// the part is neither `0` nor `1`.
+    /// Whether the value of these letters passes, the highest bit first. No comparison does where a
+    /// bit of the part is neither `0` nor `1`.
     pub fn passes(self, letters: &[u8]) -> bool
         ensures { result ≡ passes self letters.now }
     {
-        if !is_known(self.part, letters) {
-            return false;
-        }
-        match read_bits(letters_of(self.part, letters)) {
-            Some(number) => self
-                .comparison
-                .holds(number as i128, i128::from(self.number)),
-            None => false,
+        match self.asks {
+            Asks::Compares(comparison, number) => {
+                compares(self.part, comparison, number, letters)
+            }
+            Asks::Has(letter) => self.part.has(letters, letter),
         }
     }
 }
 
-// Whether the part stands in the letters, or what stands left of them is 0.
-fn is_known(part: Part, letters: &[u8]) -> bool
-    ensures { result ≡ is_known part letters.now }
+// Whether the number of the part is known, and so beside the other.
+fn compares(part: Part, comparison: Comparison, number: u64, letters: &[u8]) -> bool
+    ensures { result ≡ compares_known comparison (number_of_part part letters.now) (Some number) }
 {
-    let len = letters.len() as u64;
-    if part.low <= len && part.width <= len - part.low {
-        return true;
-    }
-    match letters {
-        [] => false,
-        [first, ..] => is_bit(*first),
+    match part.bits(letters) {
+        Some(bits) => comparison.holds(read_bits(bits) as i128, i128::from(number)),
+        None => false,
     }
 }
 
-// The number that bits write, the highest first; past 2^64 it stays there. None where there is
-// another letter.
-fn read_bits(letters: &[u8]) -> Option<u128>
-    ensures bits { IfSome result (λ _. list_all is_bit letters.now ≡ true) }
-    ensures value { IfSome result (λ number.
-        number ≡ min (digits_value 2 letters.now) (2 ^ 64)) }
-    ensures none { IfNone result (list_all is_bit letters.now ≡ false) }
+// The number that bits write, the highest first; past 2^64 it stays there.
+fn read_bits(bits: &[u8]) -> u128
+    requires { list_all is_bit bits.now ≡ true }
+    ensures { result ≡ min (digits_value 2 bits.now) (2 ^ 64) }
 {
     let mut number: u128 = 0;
-    for letter in letters {
-        if !is_bit(*letter) {
-            return None;
-        }
-        number = (2 * number + u128::from(*letter - b'0')).min(1 << 64);
+    for bit in bits {
+        number = (2 * number + u128::from(*bit - b'0')).min(1 << 64);
     }
-    Some(number)
+    number
+}
+
+/// Whether the number of a part of one value is known, and that of a part of another, and the first
+/// so beside the second.
+pub fn compare_parts(
+    comparison: Comparison,
+    part: Part,
+    letters: &[u8],
+    other: Part,
+    others: &[u8],
+) -> bool
+    ensures { result ≡ compares_known comparison (number_of_part part letters.now)
+        (number_of_part other others.now) }
+{
+    match (part.bits(letters), other.bits(others)) {
+        (Some(bits), Some(others)) => comparison.allows(compare_bits(bits, others)),
+        _ => false,
+    }
+}
+
+/// How the number that bits write is beside that of others, the highest first.
+pub fn compare_bits(bits: &[u8], others: &[u8]) -> Ordering
+    requires bits { list_all is_bit bits.now ≡ true }
+    requires others { list_all is_bit others.now ≡ true }
+    ensures { result ≡ nat_cmp (digits_value 2 bits.now) (digits_value 2 others.now) }
+{
+    let bits = without_zeros(bits);
+    let others = without_zeros(others);
+    if bits.len() != others.len() {
+        return bits.len().cmp(&others.len());
+    }
+    for place in 0..bits.len() {
+        if bits[place] != others[place] {
+            return bits[place].cmp(&others[place]);
+        }
+    }
+    Ordering::Equal
+}
+
+// The bits without the zeros in front.
+fn without_zeros(bits: &[u8]) -> &[u8]
+    requires { list_all is_bit bits.now ≡ true }
+    ensures value { digits_value 2 result.now ≡ digits_value 2 bits.now }
+    ensures bits { list_all is_bit result.now ≡ true }
+    ensures first { slice_index result.now 0 ≢ 48 }
+{
+    &bits[zeros_len(bits)..]
+}
+
+// How many zeros stand in front.
+fn zeros_len(bits: &[u8]) -> usize
+    ensures len { result ≡ prefix_len (λ bit. bit == 48) bits.now }
+    ensures within { result ≤ length bits.now }
+{
+    front_len(bits, |bit| bit == b'0')
 }

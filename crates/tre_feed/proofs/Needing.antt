@@ -1,5 +1,5 @@
 -- What a dump must declare, by the names of all patterns.
-use Rattle.std.proofs.Common.{◌≡◌, ◌∙◌, ◌&&◌, ℕ, ◌+◌, ◌<◌, ◌≤◌, Bool, true, false, List, [], ◌∷◌, ◌++◌, length, get_or, map, take, refl, sym, ap, ap₂, subst, rules}
+use Rattle.std.proofs.Common.{◌≡◌, ◌∙◌, ◌&&◌, ℕ, ◌+◌, ◌<◌, ◌≤◌, Bool, true, false, List, [], ◌∷◌, ◌++◌, length, Option, get_or, map, take, refl, sym, ap, ap₂, subst, rules}
 use Rattle.std.specs.List.{list_all}
 use Rattle.std.proofs.lemmas.List.{map_more, take_all}
 use Rattle.tre_define.specs.Signals.{SignalDefined}
@@ -8,6 +8,7 @@ use Rattle.tre_feed.specs.Dump.{NeedsAll}
 use Rattle.tre_vcd.specs.Sorted.{JoinsNames}
 use Rattle.tre_feed.specs.Dump.{dump_terms}
 use Rattle.tre_vcd.proofs.Listing.{listed-alike}
+use Rattle.tre_unit.specs.declared.unit.TimeUnit.{TimeUnit}
 use Rattle.tre_vcd.specs.VcdReading.{Statement, vcd_recording, are_declared}
 
 crossed : (a b c d : Bool) → ((a && b) && (c && d)) ≡ ((a && c) && (b && d))
@@ -60,9 +61,9 @@ needs-all f xs i set past needs =
 
 -- so a dump that must declare the set says what one does that must declare all lists
 pub needs-alike : (set : Vocabulary) (all : List Vocabulary) (scale : ℕ)
-    (definitions : List SignalDefined) → NeedsAll set all
-    → vcd_recording (dump_terms (set ∷ []) scale definitions)
-    ≡ vcd_recording (dump_terms all scale definitions)
-needs-alike set all scale definitions needs =
-    listed-alike (set ∷ []) all scale definitions
+    (unit : Option TimeUnit) (definitions : List SignalDefined) → NeedsAll set all
+    → vcd_recording (dump_terms (set ∷ []) scale unit definitions)
+    ≡ vcd_recording (dump_terms all scale unit definitions)
+needs-alike set all scale unit definitions needs =
+    listed-alike (set ∷ []) all scale unit definitions
     (λ past. and-true (are_declared definitions past set) ∙ needs.declared definitions past)

@@ -19,15 +19,18 @@ use std::rc::Rc;
 use tre_define::SignalDefinition;
 use tre_syntax::Pattern;
 use tre_trace::TraceReader;
+use tre_unit::TimeUnit;
 use tre_vcd::{Needed, TokenReader, VcdReader};
 
 /// A dump that is read for these patterns, whose names mean what the definitions say, as far as the
-/// limit. It must declare what the names of all patterns read. Nothing of it was read.
+/// limit, with its times in the unit, if there is one. It must declare what the names of all
+/// patterns read. Nothing of it was read.
 pub fn dump_input(
     alloc: Global,
     patterns: &[Pattern],
     definitions: &[SignalDefinition],
     scale: u8,
+    unit: Option<TimeUnit>,
     limit: usize,
 ) -> Result<Input<VcdReader>, AllocError>
     requires some { 0 < length patterns.now }
@@ -40,13 +43,13 @@ pub fn dump_input(
     ensures recording { IfOk result (λ input.
         recording_of ⟦<VcdReader as TraceReader>⟧.recording
         ⟦<VcdReader as TraceReader>⟧.terms input
-        ≡ vcd_recording (dump_terms (map names_of patterns.now) scale definitions.now)) }
+        ≡ vcd_recording (dump_terms (map names_of patterns.now) scale unit definitions.now)) }
     ensures limit { IfOk result (λ input. limit_of input ≡ limit) }
 {
     let shares = share(alloc, patterns)?;
     let (groups, views) = shares.into_parts();
     let needed = needed_by(alloc, patterns, definitions)?;
-    let Ok(readers) = dump_readers(alloc, &groups, &needed, scale) else {
+    let Ok(readers) = dump_readers(alloc, &groups, &needed, scale, unit) else {
         return Err(AllocError);
     };
     Input::new(alloc, readers, views, limit)
@@ -104,18 +107,22 @@ fn dump_readers(
     groups: &[Group],
     needed: &Rc<Needed>,
     scale: u8,
+    unit: Option<TimeUnit>,
 ) -> Result<Vec<VcdReader>, AllocError>
     requires scale { scale ≤ SCALE_MAX }
     ensures names { IfOk result (λ readers.
         map ⟦<VcdReader as TraceReader>⟧.names readers.items ≡ groups.now) }
     ensures fresh { IfOk result (λ readers. AllByRecursion
         (λ reader. (⟦<VcdReader as TraceReader>⟧.terms reader
-        ≡ dump_terms (needs needed.now.value ∷ []) scale (definitions_of needed.now.value))
+        ≡ dump_terms (needs needed.now.value ∷ []) scale unit (definitions_of needed.now.value))
         × ⟦<VcdReader as TraceReader>⟧.represents reader []) readers.items) }
 {
     let mut readers = Vec::new(alloc);
     for group in groups {
-        put_last(&mut readers, dump_reader(alloc, group, needed, scale)?)?;
+        put_last(
+            &mut readers,
+            dump_reader(alloc, group, needed, scale, unit)?,
+        )?;
     }
     Ok(readers)
 }
@@ -126,16 +133,17 @@ fn dump_reader(
     group: &Group,
     needed: &Rc<Needed>,
     scale: u8,
+    unit: Option<TimeUnit>,
 ) -> Result<VcdReader, AllocError>
     requires scale { scale ≤ SCALE_MAX }
     ensures fresh { IfOk result (λ reader. ⟦<VcdReader as TraceReader>⟧.represents reader []) }
     ensures terms { IfOk result (λ reader. ⟦<VcdReader as TraceReader>⟧.terms reader
-        ≡ dump_terms (needs needed.now.value ∷ []) scale
+        ≡ dump_terms (needs needed.now.value ∷ []) scale unit
         (definitions_of needed.now.value)) }
     ensures names { IfOk result (λ reader. ⟦<VcdReader as TraceReader>⟧.names reader
         ≡ group.now) }
 {
     let (names, events) = group.lists()?;
-    let tokens = TokenReader::new(alloc, names, events, scale, needed)?;
+    let tokens = TokenReader::new(alloc, names, events, scale, unit, needed)?;
     Ok(VcdReader::new(alloc, tokens))
 }

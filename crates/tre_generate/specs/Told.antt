@@ -26,6 +26,7 @@ pub record CanRead (session : Session) (segment : Segment) : Type 0 where
 
 -- The session has read one more segment, and told of it.
 pub record TellingGoesOn (old new : Session) (segments : List Segment) (segment : Segment)
-    (told : List ZoneBounds) : Type 0 where
+    : Type 0 where
   pub stands : StandsFor new (segments ++ segment ∷ [])
-  pub tells : TellsNew (pattern_tree (pattern_of old)) segments segment (ended_of old) told
+  pub tells : TellsNew (pattern_tree (pattern_of old)) segments segment (ended_of old)
+      (ended_of new)

@@ -1,5 +1,5 @@
 // The zones that a session tells.
-ghost use Rattle.std.specs.Prelude.{◌≡◌, List, IfOk};
+ghost use Rattle.std.specs.Prelude.{◌≡◌, List, IfOk, OnOk};
 ghost use Rattle.tre_online.specs.Session.{pattern_of, StandsFor};
 ghost use Rattle.tre_syntax.specs.Pattern.{pattern_tree};
 ghost use Rattle.tre_trace.specs.declared.segment.Segment.{Segment};
@@ -20,22 +20,22 @@ pub fn told_zones(alloc: Global, pattern: Pattern, trace: &Trace) -> Result<Zone
     let mut session = Session::new(alloc, pattern)?;
     let mut zones = Vec::new(alloc);
     for segment in trace.segments() {
-        let told = told_of(&mut session, *segment)?;
-        zones.extend_from_slice(told.zones())?;
+        read(&mut session, *segment)?;
+        zones.extend_from_slice(session.told())?;
     }
     let told = ZoneSet::of_zones(alloc, zones)?;
     Ok(told)
 }
 
-// What the session tells of a segment that it can read.
-fn told_of(session: &mut Session, segment: Segment) -> Result<ZoneSet, AllocError>
+// The session reads a segment that it can read.
+fn read(session: &mut Session, segment: Segment) -> Result<(), AllocError>
     requires { CanRead session.old segment }
     ensures goes_on { (segments : List Segment) → StandsFor session.old segments →
-        IfOk result (TellingGoesOn session.old session.new segments segment) }
+        OnOk result (TellingGoesOn session.old session.new segments segment) }
     ensures tree { pattern_tree (pattern_of session.new) ≡ pattern_tree (pattern_of session.old) }
 {
     match session.segment(segment) {
-        Ok(told) => Ok(told),
+        Ok(()) => Ok(()),
         Err(fault) => Err(want_of_memory(fault)),
     }
 }

@@ -160,10 +160,10 @@ module _ (tree : PatternTree) (u : List Segment) (long : AreLong u) (events time
 pub tells_at_end : (session : Session) (u : List Segment) (events : ℕ)
     (found told : List ZoneBounds) → StandsFor session u → IsZoneSet found
     → Without (WasTold (ended_of session)) found told
-    → Closes (kept_of session) (pattern_tree session.pattern.value) (at_of session) events found
+    → Closes (kept_of session) (pattern_tree session.pattern) (at_of session) events found
     → (events ≡ 0 → ⊥)
-    → TellsLast (pattern_tree session.pattern.value) u events (ended_of session) told
+    → TellsLast (pattern_tree session.pattern) u events (ended_of session) told
 tells_at_end session u events found told standing set without closes happens =
-    tells_last (pattern_tree session.pattern.value) u standing.trace.long events (at_of session)
+    tells_last (pattern_tree session.pattern) u standing.trace.long events (at_of session)
     (kept_of session) found standing.at standing.awaits closes (ended_of session) told set without
     standing.ended standing.unstarted happens

@@ -3,4 +3,4 @@ pub mod Standing
 pub mod AtTheEnd
 pub mod Nodes
 pub mod Watching
-pub mod InTurn
+pub mod Becoming

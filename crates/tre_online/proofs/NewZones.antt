@@ -1,39 +1,48 @@
 -- The zones of a list that were not told earlier.
-use Rattle.std.proofs.Common.{◌≡◌, ℕ, suc, zero, ◌+◌, ◌<◌, ◌≤◌, ◌⊎◌, List, [], ◌∷◌, ◌++◌, length, get_or, take, refl, sym, ap, subst, inl, inr, ⊎_elim, arith}
-use Rattle.std.proofs.lemmas.List.{take_more}
+use Rattle.std.proofs.Common.{◌≡◌, ℕ, suc, zero, ◌<◌, ◌≤◌, ◌⊎◌, ◌↔◌, Bool, IsTrue, not, true, false, List, [], ◌∷◌, length, get_or, refl, sym, subst, inl, inr, ⊎_elim, arith}
+use Rattle.std.specs.List.{items_where_true}
+use Rattle.std.specs.List.Retain.{ReturnsInTurn, IsFiltered}
 use Rattle.tre_zone.specs.Zone.{ZoneHolds}
 use Rattle.tre_zone.specs.ZoneList.{SetHolds, IsApartFrom, IsApart}
 use Rattle.tre_zone.specs.declared.zone_bounds.ZoneBounds.{ZoneBounds}
-use Rattle.tre_zone.proofs.ZoneListLemmas.{AreApart-swap, IsApartFrom-at}
 use Rattle.tre_zoneset.specs.ZoneSet.{Without}
-use Rattle.tre_zoneset.proofs.Kept.{IsApartFrom-fewer}
 use Rattle.tre_zoneset.proofs.Unions.{SetHolds-included}
-use Rattle.tre_online.specs.Told.{WasTold, IsKeptNew}
+use Rattle.tre_online.specs.Told.{WasTold, IsNew}
+
+pub is_new : (earlier : List ZoneBounds) (zone : ZoneBounds) (told : Bool)
+    → (IsTrue told ↔ WasTold earlier zone) → IsNew earlier zone (not told)
+is_new earlier zone true is = record { told = is.0 refl }
+is_new earlier zone false is = record { told = λ was. let yes = is.1 was in cc }
+
+-- What a test that changes nothing leaves of a list.
+module _ {F : Type 0} (R : F → ZoneBounds → Bool → F → Type 0) (earlier : List ZoneBounds) (f : F)
+    (says : (zone : ZoneBounds) (new : Bool) (f' : F) → R f zone new f'
+    → IsNew earlier zone new × (f' ≡ f)) where
+  in_turn : (zones : List ZoneBounds) (answers : List Bool) (last : F)
+      → length answers ≡ length zones → ReturnsInTurn R f answers zones last
+      → Without (WasTold earlier) zones (items_where_true answers zones)
+  unfolding Without
+  in_turn [] [] last same turns = refl
+  in_turn [] (new ∷ answers) last same turns = absurd (omega arith)
+  in_turn (zone ∷ zones) [] last same turns = absurd (omega arith)
+  in_turn (zone ∷ zones) (true ∷ answers) last same turns =
+      let one = says zone true turns.0 turns.1 in
+      let rest = subst (λ (g : F). ReturnsInTurn R g answers zones last) one.1 turns.2 in
+      inr (
+        one.0.told,
+        (items_where_true answers zones, refl, in_turn zones answers last (omega arith) rest),
+      )
+  in_turn (zone ∷ zones) (false ∷ answers) last same turns =
+      let one = says zone false turns.0 turns.1 in
+      let rest = subst (λ (g : F). ReturnsInTurn R g answers zones last) one.1 turns.2 in
+      inl (one.0.told, in_turn zones answers last (omega arith) rest)
+
+  pub new_from_retain : (zones kept : List ZoneBounds) → IsFiltered R f zones kept
+      → Without (WasTold earlier) zones kept
+  new_from_retain zones kept (answers, last, same, turns, is) =
+      subst (Without (WasTold earlier) zones) (sym is) (in_turn zones answers last same turns)
 
 module _ (P : ZoneBounds → Type 0) where
-  skipped : (old kept : List ZoneBounds) (zone : ZoneBounds) → Without P old kept → P zone
-      → Without P (old ++ zone ∷ []) kept
-  unfolding Without
-  skipped [] kept zone is gone = inl (gone, is)
-  skipped (first ∷ old) kept zone (inl (told, w)) gone = inl (told, skipped old kept zone w gone)
-  skipped (first ∷ old) kept zone (inr (stays, (rest, is, w))) gone =
-      inr (stays, (rest, is, skipped old rest zone w gone))
-
-  added : (old kept : List ZoneBounds) (zone : ZoneBounds) → Without P old kept → (P zone → ⊥)
-      → Without P (old ++ zone ∷ []) (kept ++ zone ∷ [])
-  unfolding Without
-  added [] kept zone is stays =
-      inr (stays, ([], ap (λ (list : List ZoneBounds). list ++ zone ∷ []) is, refl))
-  added (first ∷ old) kept zone (inl (told, w)) stays = inl (told, added old kept zone w stays)
-  added (first ∷ old) kept zone (inr (first_stays, (rest, is, w))) stays = inr (
-    first_stays,
-    (
-      rest ++ zone ∷ [],
-      ap (λ (list : List ZoneBounds). list ++ zone ∷ []) is,
-      added old rest zone w stays,
-    ),
-  )
-
   -- P holds of none that stays.
   pub never_kept : (old kept : List ZoneBounds) → Without P old kept → (k : ℕ) (d : ZoneBounds)
       → k < length kept → P (get_or kept k d) → ⊥
@@ -72,48 +81,13 @@ held_or_told earlier found told without a b n some le h =
     (λ x. inr (SetHolds-included earlier x.0 x.1.included a b n some le x.2))
     (held_or_gone (WasTold earlier) found told without a b n h)
 
--- A member is apart from those before it.
-apart_before : (zones : List ZoneBounds) (i : ℕ) (d : ZoneBounds) → IsApart zones
-    → i < length zones → IsApartFrom (get_or zones i d) (take i zones)
+-- Where there is at most one zone, none is included in another.
+pub one_apart : (zones : List ZoneBounds) → length zones < 2 → IsApart zones
 unfolding IsApart IsApartFrom
-apart_before [] i d apart below = absurd (omega (arith, below))
-apart_before (first ∷ zones) zero d apart below = tt
-apart_before (first ∷ zones) (suc i) d apart below = (
-  AreApart-swap first (get_or zones i d)
-      (IsApartFrom-at first zones i d apart.0 (omega (arith, below))),
-  apart_before zones i d apart.1 (omega (arith, below)),
-)
+one_apart [] few = tt
+one_apart (zone ∷ []) few = (tt, tt)
+one_apart (zone ∷ other ∷ zones) few = absurd (omega (arith, few))
 
-module _ (zones told : List ZoneBounds) (i : ℕ) (zone : ZoneBounds) (below : i < length zones)
-    (is : zone ≡ get_or zones i zone) where
-  pub apart_next : (P : ZoneBounds → Type 0) → IsApart zones → Without P (take i zones) told
-      → IsApartFrom zone told
-  apart_next P apart without =
-      IsApartFrom-fewer P zone (take i zones) told without
-      (subst (λ (z : ZoneBounds). IsApartFrom z (take i zones)) (sym is)
-      (apart_before zones i zone apart below))
-
-  pub new_next : (earlier next : List ZoneBounds) → Without (WasTold earlier) (take i zones) told
-      → IsKeptNew earlier told zone next → Without (WasTold earlier) (take (i + 1) zones) next
-  new_next earlier next without kept =
-      rw (take_more zones i zone below, ← is)
-      (⊎_elim
-      (λ x. subst (λ (list : List ZoneBounds).
-      Without (WasTold earlier) (take i zones ++ zone ∷ []) list) (sym x.1)
-      (skipped (WasTold earlier) (take i zones) told zone without x.0))
-      (λ x. subst (λ (list : List ZoneBounds).
-      Without (WasTold earlier) (take i zones ++ zone ∷ []) list) (sym x.1)
-      (added (WasTold earlier) (take i zones) told zone without x.0))
-      kept.how)
-
--- All of them stay where each does.
-pub stays_next : (zones : List ZoneBounds) (i : ℕ) (zone : ZoneBounds) → i < length zones
-    → zone ≡ get_or zones i zone → (P : ZoneBounds → Type 0)
-    → Without P (take i zones) (take i zones) → (P zone → ⊥)
-    → Without P (take (i + 1) zones) (take (i + 1) zones)
-stays_next zones i zone below is P without stays =
-    rw (take_more zones i zone below, ← is) (added P (take i zones) (take i zones) zone without stays)
-
-pub Without-empty : (P : ZoneBounds → Type 0) → Without P [] []
-unfolding Without
-Without-empty P = refl
+pub none_apart : IsApart []
+unfolding IsApart
+none_apart = tt

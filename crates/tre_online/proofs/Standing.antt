@@ -12,7 +12,7 @@ use Rattle.tre_zone.specs.Held.{Held}
 use Rattle.tre_syntax.specs.Cut.{last_of, MatchesBehind, MatchesAcross}
 use Rattle.tre_syntax.specs.Meaning.{Matches, MatchesRest}
 use Rattle.tre_syntax.specs.Pattern.{pattern_tree}
-use Rattle.tre_syntax.specs.PatternTree.{PatternTree}
+use Rattle.tre_syntax.specs.PatternTree.{PatternTree, atom, empty}
 use Rattle.tre_syntax.specs.declared.pattern.Pattern.{Pattern}
 use Rattle.tre_syntax.specs.Rest.{Rest, rest_of, prefixed}
 use Rattle.tre_syntax.proofs.CutMeaning.{IsCut-Matches, IsBounded-rest, IsOrdered-rest, Scales-rest}
@@ -20,12 +20,12 @@ use Rattle.tre_trace.specs.Trace.{Timeline, quiet, AreLong, end_of, Fits}
 use Rattle.tre_trace.specs.declared.segment.Segment.{Segment}
 use Rattle.tre_trace.proofs.Segments.{end_of-append, IsTrace-push}
 use Rattle.tre_zone.specs.Zone.{ZoneHolds, IsInstantBetween}
-use Rattle.tre_zone.specs.ZoneList.{SetHolds, HoldExactly}
+use Rattle.tre_zone.specs.ZoneList.{SetHolds, HoldExactly, IsApart}
 use Rattle.tre_zone.specs.declared.zone_bounds.ZoneBounds.{ZoneBounds}
 use Rattle.tre_zone.proofs.ZoneListLemmas.{SetHolds-empty, AreCanonical-tight}
 use Rattle.tre_zoneset.specs.ZoneSet.{IsZoneSet, Without}
 use Rattle.tre_zoneset.proofs.Kept.{IsZoneSet-kept, SetHolds-kept}
-use Rattle.tre_mark.specs.MarkTree.{MarkTree, mark_of}
+use Rattle.tre_mark.specs.MarkTree.{MarkTree, atom_mark, mark_of}
 use Rattle.tre_mark.specs.Marked.{since, CanTakeIn, Marked, IsStart, IsWellAt}
 use Rattle.tre_advance.specs.Advance.{GoesOver, MarkedBehind, before_piece, Advances}
 use Rattle.tre_advance.proofs.Opening.{all_later}
@@ -378,39 +378,27 @@ stands_at_start session tree zones moments start pattern at last ended = record 
   unstarted = λ none. ended;
 }
 
--- What was read with the parts of a session was read with the session.
-pub reads_with : (session : Session) (pattern : Pattern) (progress : Progress) (piece : Piece)
-    (told : List ZoneBounds) (rest : MarkTree) → pattern ≡ session.pattern.value
-    → progress ≡ session.progress.value
-    → ReadsPiece (mark_of progress.mark) (pattern_tree pattern) progress.ended piece told rest
-    → ReadsPiece (kept_of session) (pattern_tree (pattern_of session)) (ended_of session) piece told rest
-reads_with session pattern progress piece told rest is_pattern is_progress reads =
-    subst (λ (p : Progress).
-    ReadsPiece (mark_of p.mark) (pattern_tree session.pattern.value) p.ended piece told rest) is_progress
-    (subst (λ (p : Pattern).
-    ReadsPiece (mark_of progress.mark) (pattern_tree p) progress.ended piece told rest) is_pattern reads)
-
 module _ (old : Session) (whole : MarkTree) (u : List Segment) (segment : Segment)
     (piece : Piece) (told : List ZoneBounds) (standing : StandsFor old u)
     (is_piece : IsPieceFor old segment piece)
-    (reads : ReadsPiece (kept_of old) (pattern_tree old.pattern.value) (ended_of old) piece told
+    (reads : ReadsPiece (kept_of old) (pattern_tree old.pattern) (ended_of old) piece told
     whole) where
-  abbrev finds : FindsInPiece (kept_of old) (pattern_tree old.pattern.value) piece reads.found whole
+  abbrev finds : FindsInPiece (kept_of old) (pattern_tree old.pattern) piece reads.found whole
   finds = reads.finds
 
   -- What begins in the piece can be taken in.
-  can_here : CanTakeIn (before_piece piece) (kept_of old) (pattern_tree old.pattern.value)
+  can_here : CanTakeIn (before_piece piece) (kept_of old) (pattern_tree old.pattern)
   can_here = subst (λ (time : ℕ). CanTakeIn (since time piece.before []) (kept_of old)
-      (pattern_tree old.pattern.value)) (sym is_piece.begin)
+      (pattern_tree old.pattern)) (sym is_piece.begin)
       (subst (λ (before : Option ℕ). CanTakeIn (since (at_of old) before []) (kept_of old)
-      (pattern_tree old.pattern.value)) (sym is_piece.before) standing.takes)
+      (pattern_tree old.pattern)) (sym is_piece.before) standing.takes)
 
   -- A session that has read one more segment.
-  pub tells_after : TellsNew (pattern_tree old.pattern.value) u segment (ended_of old) told
+  pub tells_after : TellsNew (pattern_tree old.pattern) u segment (ended_of old) told
   tells_after =
-      subst (λ (s : Segment). TellsNew (pattern_tree old.pattern.value) u s (ended_of old) told)
+      subst (λ (s : Segment). TellsNew (pattern_tree old.pattern) u s (ended_of old) told)
       is_piece.same
-      (tells_new (pattern_tree old.pattern.value) u piece (kept_of old)
+      (tells_new (pattern_tree old.pattern) u piece (kept_of old)
       (is_piece.begin ∙ standing.at) (is_piece.before ∙ standing.last) standing.trace.long
       standing.awaits finds.entering reads.found whole finds.moments finds.advances can_here
       (ended_of old) told finds.set reads.without
@@ -427,7 +415,7 @@ module _ (old : Session) (whole : MarkTree) (u : List Segment) (segment : Segmen
 
   pub stands_after : (new : Session) → kept_of new ≡ whole
       → pattern_tree (pattern_of new) ≡ pattern_tree (pattern_of old)
-      → IsPastPiece piece told new.progress.value → StandsFor new (u ++ segment ∷ [])
+      → IsPastPiece piece told new.progress → StandsFor new (u ++ segment ∷ [])
   stands_after new mark pattern ends =
       let at : at_of new ≡ piece.begin + segment.len =
       ends.at ∙ ap (λ (s : Segment). piece.begin + s.len) is_piece.same in
@@ -445,20 +433,20 @@ module _ (old : Session) (whole : MarkTree) (u : List Segment) (segment : Segmen
             (Some segment.val) (kept_of new) whole (pattern_tree (pattern_of new))
             (pattern_tree (pattern_of old)) at last mark pattern
             (subst (λ (s : Segment). CanTakeIn (since (piece.begin + s.len) (Some s.val) []) whole
-            (pattern_tree old.pattern.value)) is_piece.same
-            (all_later piece whole (pattern_tree old.pattern.value)
+            (pattern_tree old.pattern)) is_piece.same
+            (all_later piece whole (pattern_tree old.pattern)
             (finds.advances.takes can_here)));
         awaits = awaits_same (kept_of new) whole (pattern_tree (pattern_of new))
             (pattern_tree (pattern_of old)) (u ++ segment ∷ []) mark pattern
             (subst (λ (s : Segment). AwaitsMatches whole
-            (pattern_tree old.pattern.value) (u ++ s ∷ [])) is_piece.same
-            (awaits_after (pattern_tree old.pattern.value) u piece (kept_of old)
+            (pattern_tree old.pattern) (u ++ s ∷ [])) is_piece.same
+            (awaits_after (pattern_tree old.pattern) u piece (kept_of old)
             (is_piece.begin ∙ standing.at) (is_piece.before ∙ standing.last) standing.trace.long
             standing.awaits finds.entering reads.found whole finds.moments finds.advances
             can_here));
         ended = λ a b n some le h. rw pattern
             ((tells_after.all a b n some le).0
-            (inl (subst (λ (list : List ZoneBounds). SetHolds list a b n) ends.ended h)));
+            (inl (subst (λ (list : List ZoneBounds). SetHolds list a b n) ends.told h)));
         unstarted = λ none. absurd (pushed_some u segment none);
       }
 
@@ -468,6 +456,12 @@ pub in_time_after : (piece : Piece) (told : List ZoneBounds) (progress : Progres
 in_time_after piece told progress behind =
     subst (λ (time : ℕ). time ≤ TIME_MAX) (sym behind.at) piece.in_time
 
+pub apart_after : (before : MarkTree) (tree : PatternTree) (earlier told : List ZoneBounds)
+    (piece : Piece) (rest : MarkTree) → ReadsPiece before tree earlier piece told rest
+    → IsApart told
+apart_after before tree earlier told piece rest reads =
+    (IsZoneSet-kept (WasTold earlier) reads.found told reads.without reads.finds.set).apart
+
 pub well_after : (before : MarkTree) (tree : PatternTree) (earlier told : List ZoneBounds)
     (piece : Piece) (progress : Progress)
     → ReadsPiece before tree earlier piece told (mark_of progress.mark)
@@ -475,3 +469,11 @@ pub well_after : (before : MarkTree) (tree : PatternTree) (earlier told : List Z
 well_after before tree earlier told piece progress reads behind =
     subst (λ (time : ℕ). IsWellAt time (mark_of progress.mark) tree) (sym behind.at)
     reads.finds.advances.well
+
+-- Of an atom that matches nothing but moments nothing is kept.
+pub well_none : (progress : Progress) (pattern : Pattern)
+    → mark_of progress.mark ≡ atom_mark [] [] → pattern_tree pattern ≡ atom empty
+    → IsWellAt progress.at (mark_of progress.mark) (pattern_tree pattern)
+well_none progress pattern mark tree = rw (mark, tree) (record {
+  well = (record { ends = λ a b n some h. absurd (SetHolds-empty a b n h.held) }, refl);
+})

@@ -1,7 +1,6 @@
 -- What a watch stands for and what it tells, from what each of its sessions does.
-use Rattle.std.proofs.Common.{◌≡◌, ℕ, ◌+◌, ◌<◌, ap, get_or, length, take, List, [], ◌∷◌, ◌++◌, map, refl, sym, subst, inl, inr, arith, ◌∙◌}
+use Rattle.std.proofs.Common.{◌≡◌, ℕ, ◌+◌, length, List, [], ◌∷◌, ◌++◌, map, refl, sym, subst, inl, inr, arith, ◌∙◌}
 use Rattle.std.specs.List.{AllByRecursion}
-use Rattle.std.proofs.lemmas.List.{get_or-map, length-map, take_more}
 use Rattle.tre_syntax.specs.Pattern.{pattern_tree}
 use Rattle.tre_syntax.specs.PatternTree.{PatternTree}
 use Rattle.tre_syntax.specs.declared.pattern.Pattern.{Pattern}
@@ -10,10 +9,9 @@ use Rattle.tre_trace.specs.declared.fault.PushFault.{PushFault}
 use Rattle.tre_trace.specs.declared.fault.PushFault.TheVariants.{Zero, TooLate, Memory}
 use Rattle.tre_trace.specs.declared.segment.Segment.{Segment}
 use Rattle.tre_trace.proofs.Segments.{end_of-append}
-use Rattle.tre_zone.specs.declared.zone_bounds.ZoneBounds.{ZoneBounds}
 use Rattle.tre_online.specs.Session.{pattern_of, at_of, ended_of}
 use Rattle.tre_online.specs.Watch.{first_at, StandForEach, EndEach, pushed_each, FitEach, TellEach, TellLastEach, RefuseEach, AreAlike, AreRefusedFor}
-use Rattle.tre_online.specs.Giving.{AreNewFor, GoEach, IsRefusedByOne, TellEachAtEnd}
+use Rattle.tre_online.specs.Giving.{AreNewFor, SessionGoes, SessionCloses, Become, IsRefusedByOne}
 use Rattle.tre_online.specs.declared.session.Session.{Session}
 
 -- The pattern of a session, as a tree.
@@ -61,7 +59,7 @@ together_new patterns sessions new = absurd new
 
 -- Each session then stands for its trace with the segment behind it.
 pub stand_next : (olds : List Session) (segments : List Segment) (news : List Session)
-    (traces : List (List Segment)) → GoEach olds segments news → StandForEach olds traces
+    (traces : List (List Segment)) → Become SessionGoes olds segments news → StandForEach olds traces
     → StandForEach news (pushed_each traces segments)
 stand_next [] [] [] [] go each = tt
 stand_next [] [] [] (trace ∷ traces) go each = absurd each
@@ -71,7 +69,7 @@ stand_next (old ∷ olds) (segment ∷ segments) (new ∷ news) (trace ∷ trace
 stand_next olds segments news traces go each = absurd go
 
 pub fit_each : (olds : List Session) (segments : List Segment) (news : List Session)
-    (traces : List (List Segment)) → GoEach olds segments news → StandForEach olds traces
+    (traces : List (List Segment)) → Become SessionGoes olds segments news → StandForEach olds traces
     → FitEach traces segments
 fit_each [] [] [] [] go each = tt
 fit_each [] [] [] (trace ∷ traces) go each = absurd each
@@ -81,7 +79,7 @@ fit_each (old ∷ olds) (segment ∷ segments) (new ∷ news) (trace ∷ traces)
 fit_each olds segments news traces go each = absurd go
 
 pub tell_each : (olds : List Session) (segments : List Segment) (news : List Session)
-    (traces : List (List Segment)) → GoEach olds segments news → StandForEach olds traces
+    (traces : List (List Segment)) → Become SessionGoes olds segments news → StandForEach olds traces
     → TellEach (map (λ session. tree_in session) olds) traces segments
     (map (λ session. ended_of session) olds) (map (λ session. ended_of session) news)
 tell_each [] [] [] [] go each = tt
@@ -91,15 +89,18 @@ tell_each (old ∷ olds) (segment ∷ segments) (new ∷ news) (trace ∷ traces
     (go.0.tells trace each.0, tell_each olds segments news traces go.1 each.1)
 tell_each olds segments news traces go each = absurd go
 
-pub trees_next : (olds : List Session) (segments : List Segment) (news : List Session)
-    → GoEach olds segments news
-    → map (λ session. tree_in session) news ≡ map (λ session. tree_in session) olds
-trees_next [] [] [] go = refl
-trees_next (old ∷ olds) (segment ∷ segments) (new ∷ news) go =
-    let first = go.0.tree in
-    let rest = trees_next olds segments news go.1 in
-    cc
-trees_next olds segments news go = absurd go
+-- The trees stay where each session's does.
+module _ {X : Type 0} (R : Session → X → Session → Type 0)
+    (same : (old : Session) (x : X) (new : Session) → R old x new → tree_in new ≡ tree_in old) where
+  pub trees_next : (olds : List Session) (given : List X) (news : List Session)
+      → Become R olds given news
+      → map (λ session. tree_in session) news ≡ map (λ session. tree_in session) olds
+  trees_next [] [] [] become = refl
+  trees_next (old ∷ olds) (x ∷ given) (new ∷ news) become =
+      let first = same old x new become.0 in
+      let rest = trees_next olds given news become.1 in
+      cc
+  trees_next olds given news become = absurd become
 
 -- Traces that end at one time do so with segments of one length behind them.
 end_pushed : (time len : ℕ) (traces : List (List Segment)) (segments : List Segment)
@@ -118,7 +119,7 @@ end_pushed time len (trace ∷ traces) [] ends alike = tt
 
 pub together_next : (olds : List Session) (segments : List Segment) (news : List Session)
     (traces : List (List Segment))
-    → GoEach olds segments news → StandForEach olds traces → AreAlike segments
+    → Become SessionGoes olds segments news → StandForEach olds traces → AreAlike segments
     → EndEach (first_at olds) traces → EndEach (first_at news) (pushed_each traces segments)
 together_next [] [] [] [] go each alike ends = tt
 together_next [] [] [] (trace ∷ traces) go each alike ends = absurd each
@@ -185,14 +186,6 @@ module _ (time len : ℕ) (fault : PushFault) where
   refuse_each [] [] (trace ∷ traces) all count each ends alike = absurd each
   refuse_each (session ∷ sessions) (segment ∷ segments) [] all count each ends alike = absurd each
 
-memory_each : (traces : List (List Segment)) (segments : List Segment)
-    → FitEach traces segments → RefuseEach Memory traces segments
-memory_each [] [] fit = tt
-memory_each (trace ∷ traces) (segment ∷ segments) fit =
-    (fit.0, memory_each traces segments fit.1)
-memory_each [] (segment ∷ segments) fit = absurd fit
-memory_each (trace ∷ traces) [] fit = absurd fit
-
 -- One refuses: so there is one, and each refuses.
 none_stands : (sessions : List Session) (segments : List Segment) (traces : List (List Segment))
     (fault : PushFault) → IsRefusedByOne sessions segments fault → StandForEach sessions traces
@@ -214,35 +207,14 @@ refused_each sessions segments traces fault one count alike each ends = record {
   none = λ none. absurd (none_stands sessions segments traces fault one each none);
 }
 
--- What was told of one more.
-pub told_more : (sessions : List Session) (place : ℕ) (session : Session)
-    → place < length sessions → session ≡ get_or sessions place session
-    → take (place + 1) (map (λ s. ended_of s) sessions)
-    ≡ take place (map (λ s. ended_of s) sessions) ++ ended_of session ∷ []
-told_more sessions place session below is =
-    let all = map (λ (s : Session). ended_of s) sessions in
-    take_more all place (ended_of session)
-    (subst (λ n. place < n) (sym (length-map sessions (λ (s : Session). ended_of s))) below)
-    ∙ ap (λ told. take place all ++ told ∷ [])
-    (get_or-map (λ (s : Session). ended_of s) sessions place session (ended_of session) below
-    ∙ ap (λ (s : Session). ended_of s) (sym is))
-
--- Where each segment fits, only memory can be wanting.
-pub refused_memory : (traces : List (List Segment)) (segments : List Segment)
-    → FitEach traces segments → AreRefusedFor traces segments Memory
-refused_memory traces segments fit = record {
-  each = memory_each traces segments fit;
-  none = λ none. refl;
-}
-
-pub tell_last_each : (sessions : List Session) (events : List ℕ) (told : List (List ZoneBounds))
-    (traces : List (List Segment)) → TellEachAtEnd sessions events told
-    → StandForEach sessions traces
-    → TellLastEach (map (λ session. tree_in session) sessions) traces events
-    (map (λ session. ended_of session) sessions) told
-tell_last_each [] [] [] [] tell each = tt
-tell_last_each [] [] [] (trace ∷ traces) tell each = absurd each
-tell_last_each (session ∷ sessions) (here ∷ events) (zones ∷ told) [] tell each = absurd each
-tell_last_each (session ∷ sessions) (here ∷ events) (zones ∷ told) (trace ∷ traces) tell each =
-    (tell.0.tells trace each.0, tell_last_each sessions events told traces tell.1 each.1)
-tell_last_each sessions events told traces tell each = absurd tell
+pub tell_last_each : (olds : List Session) (events : List ℕ) (news : List Session)
+    (traces : List (List Segment)) → Become SessionCloses olds events news
+    → StandForEach olds traces
+    → TellLastEach (map (λ session. tree_in session) olds) traces events
+    (map (λ session. ended_of session) olds) (map (λ session. ended_of session) news)
+tell_last_each [] [] [] [] close each = tt
+tell_last_each [] [] [] (trace ∷ traces) close each = absurd each
+tell_last_each (old ∷ olds) (here ∷ events) (new ∷ news) [] close each = absurd each
+tell_last_each (old ∷ olds) (here ∷ events) (new ∷ news) (trace ∷ traces) close each =
+    (close.0.tells trace each.0, tell_last_each olds events news traces close.1 each.1)
+tell_last_each olds events news traces close each = absurd close

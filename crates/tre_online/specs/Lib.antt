@@ -4,8 +4,8 @@
 pub mod Session
 pub mod Told
 pub mod Watch
--- What the functions inside promise each other: IsKeptNew, the words of Reading and Giving, and
--- that a session keeps a fact which can be so in one way only (Well).
+-- What the functions inside promise each other: IsNew, the words of Reading and Giving, and that
+-- a session keeps facts which can be so in one way only (Well).
 pub mod Reading
 pub mod Giving
 pub mod Well

@@ -46,7 +46,7 @@ pub record ReadsPiece (mark : MarkTree) (tree : PatternTree) (earlier : List Zon
   pub without : Without (WasTold earlier) found told
 
 -- The progress is that at the end of the piece, of which this was told.
-pub record IsPastPiece (piece : Piece) (told : List ZoneBounds) (progress : Progress) : Type 0 where
+pub record IsPastPiece (piece : Piece) (zones : List ZoneBounds) (progress : Progress) : Type 0 where
   pub at : progress.at ≡ end_of_piece piece
   pub last : progress.last ≡ Some piece.segment.val
-  pub ended : progress.ended ≡ told
+  pub told : progress.told.items ≡ zones

@@ -17,23 +17,23 @@ use Rattle.tre_online.specs.declared.session.Session.{Session}
 
 -- The pattern that the session matches.
 abbrev pub pattern_of : Session → Pattern
-pattern_of session = session.pattern.value
+pattern_of session = session.pattern
 
 -- When its trace ends so far, in ticks.
 abbrev pub at_of : Session → ℕ
-at_of session = session.progress.value.at
+at_of session = session.progress.at
 
 -- The last valuation: None before the first segment.
 abbrev pub held_of : Session → Option ℕ
-held_of session = session.progress.value.last
+held_of session = session.progress.last
 
 -- The zones that it told of its last segment.
 abbrev pub ended_of : Session → List ZoneBounds
-ended_of session = session.progress.value.ended
+ended_of session = session.progress.told.items
 
 -- How far the matches that may go on have come.
 abbrev pub kept_of : Session → MarkTree
-kept_of session = mark_of session.progress.value.mark
+kept_of session = mark_of session.progress.mark
 
 -- A trace that is cut where its first segments end.
 abbrev pub cut_after : List Segment → Timeline → CutRest

@@ -1,5 +1,5 @@
 -- Zones that were told before.
-use Rattle.std.specs.Prelude.{◌≡◌, ◌⊎◌, Any, List, [], ◌∷◌, ◌++◌}
+use Rattle.std.specs.Prelude.{Any, Bool, List, MatchBool}
 use Rattle.tre_zone.specs.Zone.{Includes}
 use Rattle.tre_zone.specs.declared.zone_bounds.ZoneBounds.{ZoneBounds}
 
@@ -7,8 +7,6 @@ use Rattle.tre_zone.specs.declared.zone_bounds.ZoneBounds.{ZoneBounds}
 pub record WasTold (earlier : List ZoneBounds) (zone : ZoneBounds) : Type 0 where
   pub included : Any (λ other. Includes other zone) earlier
 
--- The zone was told too, at the end, unless it was told earlier.
-pub record IsKeptNew (earlier old : List ZoneBounds) (zone : ZoneBounds) (new : List ZoneBounds)
-    : Type 0 where
-  pub how : (WasTold earlier zone × (new ≡ old))
-      ⊎ ((WasTold earlier zone → ⊥) × (new ≡ old ++ zone ∷ []))
+-- Whether the zone is new: no zone of those that were told earlier includes it.
+pub record IsNew (earlier : List ZoneBounds) (zone : ZoneBounds) (new : Bool) : Type 0 where
+  pub told : MatchBool new (WasTold earlier zone → ⊥) (WasTold earlier zone)

@@ -11,7 +11,6 @@ use Rattle.tre_trace.specs.declared.segment.Segment.{Segment}
 use Rattle.tre_zone.specs.declared.zone_bounds.ZoneBounds.{ZoneBounds}
 use Rattle.tre_online.specs.Session.{pattern_of, at_of, ended_of, StandsFor, TellsNew, TellsLast}
 use Rattle.tre_online.specs.declared.session.Session.{Session}
-use Rattle.tre_online.specs.declared.watch.Told.{Told}
 use Rattle.tre_online.specs.declared.watch.Watch.{Watch}
 
 -- The sessions, one for each pattern.
@@ -34,10 +33,6 @@ first_at (session ∷ sessions) = at_of session
 -- When the traces end so far: 0 where there is none.
 abbrev pub time_of : Watch → ℕ
 time_of watch = first_at (sessions_of watch)
-
--- The sets of zones, one for each pattern.
-abbrev pub sets_of : Told → List (List ZoneBounds)
-sets_of told = told.sets.items
 
 -- Each session stands for its trace.
 abbrev pub StandForEach : List Session → List (List Segment) → Type 0

@@ -1,9 +1,11 @@
--- That a mark is well can be so in one way only: so a session may keep it.
-use Rattle.std.specs.Prelude.{◌≡◌, All, ℕ, ◌+◌, ◌-◌, ◌*◌, ◌<◌, ◌≤◌, Option, Some, None, MatchOption, List, [], Box}
-use Rattle.std.specs.Global.{Global}
+-- That a mark is well, and that zones are apart, can be so in one way only: so a session may keep
+-- it.
+use Rattle.std.specs.Prelude.{◌≡◌, All, ℕ, ◌+◌, ◌-◌, ◌*◌, ◌<◌, ◌≤◌, Option, Some, None, MatchOption, List, [], ◌∷◌}
 use Rattle.std.specs.Coded.{Coded-set, ×_prop, Π_prop, →_prop, Unit-prop, le_prop, coded_list}
 use native.Mathlib.Nat.{ℕ_set}
 use mathlib.Core.Path.{ap}
+use Rattle.tre_zone.specs.Zone.{Includes}
+use Rattle.tre_zone.specs.ZoneList.{AreApart, IsApartFrom, IsApart}
 use Rattle.tre_zone.specs.Held.{Held, EndAt, EndBy, IsLatest}
 use Rattle.tre_zone.specs.Interval.{IntervalEnds}
 use Rattle.tre_zone.specs.Longest.{LastsUpTo}
@@ -37,6 +39,23 @@ IsProp-IsLatest time zones x y =
 
 IsProp-never : (A : Type 0) → IsProp (A → ⊥)
 IsProp-never A = →_prop (λ x. absurd x)
+
+IsProp-AreApart : (one other : ZoneBounds) → IsProp (AreApart one other)
+IsProp-AreApart one other x y =
+    let left = IsProp-never (Includes one other) x.left y.left in
+    let right = IsProp-never (Includes other one) x.right y.right in
+    λ i. record { left = left i; right = right i }
+
+IsProp-IsApartFrom : (zone : ZoneBounds) (zones : List ZoneBounds) → IsProp (IsApartFrom zone zones)
+unfolding IsApartFrom
+IsProp-IsApartFrom zone [] = Unit-prop
+IsProp-IsApartFrom zone (other ∷ others) =
+    ×_prop (IsProp-AreApart zone other) (IsProp-IsApartFrom zone others)
+
+pub IsProp-IsApart : (zones : List ZoneBounds) → IsProp (IsApart zones)
+unfolding IsApart
+IsProp-IsApart [] = Unit-prop
+IsProp-IsApart (zone ∷ zones) = ×_prop (IsProp-IsApartFrom zone zones) (IsProp-IsApart zones)
 
 IsProp-IsEntered : (time to : ℕ) (outer : List ZoneBounds) → IsProp (IsEntered time to outer)
 IsProp-IsEntered time to outer x y =
@@ -132,11 +151,10 @@ IsProp-IsWellAt time mark tree x y =
     (IsProp-form time mark tree x.well y.well)
 
 -- The mark is one of the pattern at the time where the trace ends so far.
-abbrev pub IsWellNow : Box Progress Global → Box Pattern Global → Type 0
-IsWellNow progress pattern =
-    IsWellAt progress.value.at (mark_of progress.value.mark) (pattern_tree pattern.value)
+abbrev pub IsWellNow : Progress → Pattern → Type 0
+IsWellNow progress pattern = IsWellAt progress.at (mark_of progress.mark) (pattern_tree pattern)
 
-pub IsProp-IsWellNow : (progress : Box Progress Global) (pattern : Box Pattern Global)
+pub IsProp-IsWellNow : (progress : Progress) (pattern : Pattern)
     → IsProp (IsWellNow progress pattern)
 IsProp-IsWellNow progress pattern =
-    IsProp-IsWellAt progress.value.at (mark_of progress.value.mark) (pattern_tree pattern.value)
+    IsProp-IsWellAt progress.at (mark_of progress.mark) (pattern_tree pattern)

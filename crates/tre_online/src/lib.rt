@@ -9,14 +9,16 @@
 //!
 //! ```
 //! let mut session = Session::new(alloc, pattern)?;
-//! let told = session.segment(Segment::plain(2, 0b01))?; // proposition 0, for two ticks
-//! let told_last = session.close(0b10)?; // event 1 happens as the trace ends
+//! session.segment(Segment::plain(2, 0b01))?; // proposition 0, for two ticks
+//! let zones = session.told(); // what has become a match with it
+//! session.close(0b10)?; // event 1 happens as the trace ends
+//! let last_zones = session.told();
 //! ```
 #![tactic(auto)]
 
 pub use refusal::want_of_memory;
 pub use session::Session;
-pub use watch::{Told, Watch};
+pub use watch::Watch;
 
 mod refusal;
 mod session;

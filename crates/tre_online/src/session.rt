@@ -1,15 +1,19 @@
-ghost use Rattle.std.specs.Prelude.{◌≡◌, ◌≤◌, box_value};
+ghost use Rattle.std.specs.Prelude.{◌≡◌, ◌≤◌, []};
+ghost use Rattle.tre_syntax.specs.Pattern.{pattern_tree};
+ghost use Rattle.tre_syntax.specs.PatternTree.{atom, empty};
 ghost use Rattle.tre_pairs.specs.declared.TheConstants.{TIME_MAX};
-ghost use Rattle.tre_online.specs.Well.{IsWellNow, IsProp-IsWellNow};
+ghost use Rattle.tre_zone.specs.ZoneList.{IsApart};
+ghost use Rattle.tre_online.specs.Well.{IsWellNow, IsProp-IsWellNow, IsProp-IsApart};
 
-use crate::told::not_told;
+use crate::told::{drop_told, keep_apart, known};
 use std::alloc::{AllocError, Global};
 use std::mem;
 use tre_advance::{advance, close};
 use tre_edges::Piece;
-use tre_mark::{Mark, moments};
+use tre_mark::{Mark, Room, moments};
 use tre_pairs::TIME_MAX;
-use tre_syntax::Pattern;
+use tre_state::Names;
+use tre_syntax::{Expr, Pattern};
 use tre_trace::{PushFault, Segment};
 use tre_zone::Zone;
 use tre_zoneset::ZoneSet;
@@ -21,11 +25,11 @@ use tre_zoneset::ZoneSet;
 #[derive(Drop)]
 pub struct Session {
     alloc: Global,
-    // In boxes, since a watch moves its sessions.
-    pattern: Box<Pattern>,
-    progress: Box<Progress>,
-    ghost in_time: { (box_value progress).at ≤ TIME_MAX },
+    pattern: Pattern,
+    progress: Progress,
+    ghost in_time: { progress.at ≤ TIME_MAX },
     ghost well: { IsWellNow progress pattern } by { IsProp-IsWellNow progress pattern },
+    ghost apart: { IsApart progress.told.items } by { IsProp-IsApart progress.told.items },
 }
 
 /// What a session keeps of its trace.
@@ -33,10 +37,43 @@ pub struct Session {
 pub struct Progress {
     at: u64,
     last: Option<u64>,
-    ended: ZoneSet,
+    // What was told last, and what was told before that. Both keep their room.
+    told: Vec<Zone>,
+    earlier: Vec<Zone>,
     mark: Mark,
-    // What was told before that: its memory is used again.
-    room: Vec<Zone>,
+}
+
+impl Progress {
+    ghost use Rattle.tre_mark.specs.MarkTree.{mark_of, atom_mark};
+
+    // That of an atom which has not begun.
+    fn none(alloc: Global) -> Progress
+        ensures at { result.at ≡ 0 }
+        ensures told { result.told.items ≡ [] }
+        ensures mark { mark_of result.mark ≡ atom_mark [] [] }
+    {
+        Progress {
+            at: 0,
+            last: None,
+            told: Vec::new(alloc),
+            earlier: Vec::new(alloc),
+            mark: Mark::Atom {
+                here: Vec::new(alloc),
+                begun: Vec::new(alloc),
+                room: Room::new(alloc),
+            },
+        }
+    }
+}
+
+// The pattern `eps`.
+fn empty_pattern(alloc: Global) -> Pattern
+    ensures { pattern_tree result ≡ atom empty }
+{
+    match Pattern::new(Expr::Eps, Names::new(alloc), Names::new(alloc)) {
+        Some(pattern) => pattern,
+        None => unreachable!(),
+    }
 }
 
 impl Session {
@@ -49,6 +86,7 @@ impl Session {
     ghost use Rattle.tre_mark.specs.Nodes.{mark_node_count, form_count, HasNoInstances};
     ghost use Rattle.tre_syntax.specs.PatternTree.{node_count};
     ghost use Rattle.tre_syntax.specs.Pattern.{pattern_tree, names_of};
+    ghost use Rattle.tre_zoneset.specs.ZoneSet.{IsZoneSet};
     ghost use Rattle.tre_online.specs.Session.{pattern_of, at_of, ended_of, kept_of, StandsFor, TellsNew, TellsLast};
     ghost use Rattle.tre_online.specs.Reading.{AreMoments, IsPieceFor, IsPastPiece, FindsInPiece, ReadsPiece};
 
@@ -62,16 +100,13 @@ impl Session {
     {
         let start = Session::moments(alloc, 0, 0)?;
         let mark = Mark::start(alloc, pattern.expr(), &start, 0)?;
-        let pattern = Box::new(alloc, pattern)?;
-        let ended = ZoneSet::new(alloc);
-        let first = Progress {
+        let progress = Progress {
             at: 0,
             last: None,
-            ended,
+            told: Vec::new(alloc),
+            earlier: Vec::new(alloc),
             mark,
-            room: Vec::new(alloc),
         };
-        let progress = Box::new(alloc, first)?;
         Ok(Session {
             alloc,
             pattern,
@@ -105,19 +140,18 @@ impl Session {
         self.progress.mark.nodes()
     }
 
-    /// Reads a segment, and tells what has become a match with it: the matches that end within the
-    /// segment, with an edge at its begin known and none at its end. A segment of no time is
-    /// refused as `Zero`, whatever its end would be.
-    pub fn segment(&mut self, segment: Segment) -> Result<ZoneSet, PushFault>
+    /// Reads a segment. What has become a match with it is then [`told`](Session::told): the
+    /// matches that end within the segment, with an edge at its begin known and none at its end. A
+    /// segment of no time is refused as `Zero`, whatever its end would be.
+    pub fn segment(&mut self, segment: Segment) -> Result<(), PushFault>
         // Whatever it stood for, it then stands for that and the segment.
         ensures stands { (segments : List Segment) → StandsFor self.old segments →
             OnOk result (StandsFor self.new (segments ++ segment ∷ [])) }
         ensures fits { (segments : List Segment) → StandsFor self.old segments →
             OnOk result (Fits segments segment) }
         ensures tells { (segments : List Segment) → StandsFor self.old segments →
-            IfOk result (λ told. TellsNew (pattern_tree (pattern_of self.old)) segments segment
-            (ended_of self.old) told) }
-        ensures ended { IfOk result (λ told. ended_of self.new ≡ told) }
+            OnOk result (TellsNew (pattern_tree (pattern_of self.old)) segments segment
+            (ended_of self.old) (ended_of self.new)) }
         ensures tree { pattern_tree (pattern_of self.new) ≡ pattern_tree (pattern_of self.old) }
         ensures names { names_of (pattern_of self.new) ≡ names_of (pattern_of self.old) }
 
@@ -128,63 +162,66 @@ impl Session {
     {
         let piece = self.piece(segment)?;
         match self.read_over_copy(&piece) {
-            Ok((progress, told)) => {
+            Ok(progress) => {
                 self.progress = progress;
-                Ok(told)
+                Ok(())
             }
             Err(_) => Err(PushFault::Memory),
         }
     }
 
-    /// The zones that it told of its last segment: none before the first.
-    pub fn told(&self) -> &ZoneSet
-        ensures { result.now ≡ ended_of self.now }
+    /// The zones that it told last, of a segment or of the end: none before the first segment.
+    pub fn told(&self) -> &[Zone]
+        ensures told { result.now ≡ ended_of self.now }
+        ensures set { IsZoneSet result.now }
     {
-        &self.progress.ended
+        known(&self.progress.told);
+        &self.progress.told
     }
 
-    // Reads a segment as `segment` does, and gives the session back: what it tells it keeps. It
-    // needs no copy of its progress, since after a refusal the session is given up.
+    // Reads a segment as `segment` does, with no copy of what it keeps: so that is lost where
+    // memory runs out, and the session stands for nothing from then on.
     #[inline(always)]
-    pub(crate) fn go_on(self, segment: Segment) -> Result<Session, PushFault>
-        ensures stands { (segments : List Segment) → StandsFor self segments →
-            IfOk result (λ then. StandsFor then (segments ++ segment ∷ [])) }
-        ensures fits { (segments : List Segment) → StandsFor self segments →
+    pub(crate) fn go_on(&mut self, segment: Segment) -> Result<(), PushFault>
+        ensures stands { (segments : List Segment) → StandsFor self.old segments →
+            OnOk result (StandsFor self.new (segments ++ segment ∷ [])) }
+        ensures fits { (segments : List Segment) → StandsFor self.old segments →
             OnOk result (Fits segments segment) }
-        ensures tells { (segments : List Segment) → StandsFor self segments →
-            IfOk result (λ then. TellsNew (pattern_tree (pattern_of self)) segments segment
-            (ended_of self) (ended_of then)) }
-        ensures tree { IfOk result (λ then.
-            pattern_tree (pattern_of then) ≡ pattern_tree (pattern_of self)) }
-        ensures names { IfOk result (λ then.
-            names_of (pattern_of then) ≡ names_of (pattern_of self)) }
-        ensures refused { (segments : List Segment) → StandsFor self segments →
+        ensures tells { (segments : List Segment) → StandsFor self.old segments →
+            OnOk result (TellsNew (pattern_tree (pattern_of self.old)) segments segment
+            (ended_of self.old) (ended_of self.new)) }
+        ensures tree { OnOk result
+            (pattern_tree (pattern_of self.new) ≡ pattern_tree (pattern_of self.old)) }
+        ensures names { OnOk result
+            (names_of (pattern_of self.new) ≡ names_of (pattern_of self.old)) }
+        ensures refused { (segments : List Segment) → StandsFor self.old segments →
             IfErr result (IsRefusedFor segments segment) }
     {
         let piece = self.piece(segment)?;
-        let Session {
-            alloc,
-            pattern,
-            mut progress,
-        } = self;
-        match Session::read(alloc, &pattern, &mut progress, &piece) {
-            Ok(()) => Ok(Session {
-                alloc,
-                pattern,
-                progress,
-            }),
-            Err(_) => Err(PushFault::Memory),
+        match Session::read(self.alloc, &self.pattern, &mut self.progress, &piece) {
+            Ok(()) => Ok(()),
+            Err(_) => {
+                self.pattern = empty_pattern(self.alloc);
+                self.progress = Progress::none(self.alloc);
+                Err(PushFault::Memory)
+            }
         }
     }
 
     /// The trace has ended, and these events happen at its end: bit i is set where event i does.
-    /// Tells what has become a match with them, which ends there: nothing where no event happens.
-    pub fn close(self, events: u64) -> Result<ZoneSet, AllocError>
-        ensures { (segments : List Segment) → StandsFor self segments →
-            IfOk result (λ told. TellsLast (pattern_tree (pattern_of self)) segments events
-            (ended_of self) told) }
+    /// What has become a match with them is then [`told`](Session::told), and ends there: nothing
+    /// where no event happens. No segment may follow.
+    pub fn close(&mut self, events: u64) -> Result<(), AllocError>
+        ensures tells { (segments : List Segment) → StandsFor self.old segments →
+            OnOk result (TellsLast (pattern_tree (pattern_of self.old)) segments events
+            (ended_of self.old) (ended_of self.new)) }
+        ensures tree { pattern_tree (pattern_of self.new) ≡ pattern_tree (pattern_of self.old) }
+        ensures names { names_of (pattern_of self.new) ≡ names_of (pattern_of self.old) }
+        ensures unchanged { OnErr result (self.new ≡ self.old) }
     {
-        self.last_told(events)
+        let told = self.last_told(events)?;
+        self.progress.told = told;
+        Ok(())
     }
 
     // The moments from one time to another, each as a pair.
@@ -217,37 +254,35 @@ impl Session {
         })
     }
 
-    // What is told of the piece, and a copy of the progress that has gone over it.
-    fn read_over_copy(&self, piece: &Piece) -> Result<(Box<Progress>, ZoneSet), AllocError>
+    // A copy of the progress that has gone over the piece.
+    fn read_over_copy(&self, piece: &Piece) -> Result<Progress, AllocError>
         requires { IsPieceFor self.now piece.now.segment piece.now }
-        ensures reads { IfOk result (λ both. ReadsPiece (kept_of self.now)
-            (pattern_tree (pattern_of self.now)) (ended_of self.now) piece.now both.1
-            (mark_of (box_value both.0).mark)) }
-        ensures behind { IfOk result (λ both. IsPastPiece piece.now both.1 (box_value both.0)) }
+        ensures reads { IfOk result (λ next. ReadsPiece (kept_of self.now)
+            (pattern_tree (pattern_of self.now)) (ended_of self.now) piece.now
+            next.told.items (mark_of next.mark)) }
+        ensures behind { IfOk result (λ next.
+            IsPastPiece piece.now next.told.items next) }
     {
         let mut copy = self.copied()?;
         Session::read(self.alloc, &self.pattern, &mut copy, piece)?;
-        let told = copy.ended.try_clone()?;
-        Ok((copy, told))
+        Ok(copy)
     }
 
     // The mark and what was told last, once more.
-    fn copied(&self) -> Result<Box<Progress>, AllocError>
-        ensures mark { IfOk result (λ copy. mark_of (box_value copy).mark ≡ kept_of self.now) }
-        ensures ended { IfOk result (λ copy. (box_value copy).ended ≡ ended_of self.now) }
+    fn copied(&self) -> Result<Progress, AllocError>
+        ensures mark { IfOk result (λ copy. mark_of copy.mark ≡ kept_of self.now) }
+        ensures ended { IfOk result (λ copy. copy.told.items ≡ ended_of self.now) }
     {
-        let progress: &Progress = &self.progress;
+        let progress = &self.progress;
         let mark = progress.mark.try_clone(self.alloc)?;
-        let ended = progress.ended.try_clone()?;
-        let same = Progress {
+        let told = progress.told.clone()?;
+        Ok(Progress {
             at: progress.at,
             last: progress.last,
-            ended,
+            told,
+            earlier: Vec::new(self.alloc),
             mark,
-            room: Vec::new(self.alloc),
-        };
-        let copy = Box::new(self.alloc, same)?;
-        Ok(copy)
+        })
     }
 
     // The progress goes over the piece, and keeps what is told of it. Where memory runs out, it
@@ -261,54 +296,56 @@ impl Session {
     ) -> Result<(), AllocError>
         requires { IsWellAt piece.now.begin (mark_of progress.old.mark) (pattern_tree pattern.now) }
         ensures reads { OnOk result (ReadsPiece (mark_of progress.old.mark)
-            (pattern_tree pattern.now) progress.old.ended piece.now progress.new.ended
+            (pattern_tree pattern.now) progress.old.told.items piece.now progress.new.told.items
             (mark_of progress.new.mark)) }
-        ensures behind { OnOk result (IsPastPiece piece.now progress.new.ended progress.new) }
+        ensures behind { OnOk result (IsPastPiece piece.now progress.new.told.items progress.new) }
     {
-        let room = mem::replace(&mut progress.room, Vec::new(alloc));
-        let found = Session::found(alloc, pattern, &mut progress.mark, piece, room)?;
-        let told = not_told(alloc, found, &progress.ended)?;
-        let earlier = mem::replace(&mut progress.ended, told);
-        progress.room = earlier.into_zones();
+        mem::swap(&mut progress.told, &mut progress.earlier);
+        Session::find(
+            alloc,
+            pattern,
+            &mut progress.mark,
+            piece,
+            &mut progress.told,
+        )?;
+        drop_told(alloc, &mut progress.told, &progress.earlier)?;
         progress.at = piece.begin + piece.segment.len;
         progress.last = Some(piece.segment.val);
         Ok(())
     }
 
-    // What the mark tells of the piece, over which it goes, as a set made in the room.
+    // Puts what the mark tells of the piece, over which it goes, in place of the zones.
     #[inline(always)]
-    fn found(
+    fn find(
         alloc: Global,
         pattern: &Pattern,
         mark: &mut Mark,
         piece: &Piece,
-        room: Vec<Zone>,
-    ) -> Result<ZoneSet, AllocError>
+        found: &mut Vec<Zone>,
+    ) -> Result<(), AllocError>
         requires { IsWellAt piece.now.begin (mark_of mark.old) (pattern_tree pattern.now) }
-        ensures { IfOk result (λ found. FindsInPiece (mark_of mark.old) (pattern_tree pattern.now)
-            piece.now found (mark_of mark.new)) }
+        ensures { OnOk result (FindsInPiece (mark_of mark.old) (pattern_tree pattern.now)
+            piece.now found.new.items (mark_of mark.new)) }
     {
         let end = piece.begin + piece.segment.len;
         let entering = [Zone::instants(piece.begin, end)];
-        let mut told = room;
-        told.clear();
-        advance(alloc, mark, pattern.expr(), &entering, piece, &mut told)?;
-        let found = ZoneSet::of_zones(alloc, told)?;
-        // For the proof: the call says that it is a set of zones.
-        let _found = found.zones();
-        Ok(found)
+        found.clear();
+        advance(alloc, mark, pattern.expr(), &entering, piece, found)?;
+        keep_apart(alloc, found)?;
+        Ok(())
     }
 
     // What is told where the trace ends with these events.
-    pub(crate) fn last_told(&self, events: u64) -> Result<ZoneSet, AllocError>
-        ensures { (segments : List Segment) → StandsFor self.now segments →
+    fn last_told(&self, events: u64) -> Result<Vec<Zone>, AllocError>
+        ensures tells { (segments : List Segment) → StandsFor self.now segments →
             IfOk result (λ told. TellsLast (pattern_tree (pattern_of self.now)) segments events
-            (ended_of self.now) told) }
+            (ended_of self.now) told.items) }
+        ensures apart { IfOk result (λ told. IsApart told.items) }
     {
         if events == 0 {
-            return Ok(ZoneSet::new(self.alloc));
+            return Ok(Vec::new(self.alloc));
         }
-        let progress: &Progress = &self.progress;
+        let progress = &self.progress;
         let found = close(
             self.alloc,
             &progress.mark,
@@ -318,6 +355,8 @@ impl Session {
         )?;
         // For the proof: the call says that it is a set of zones.
         let _found = found.zones();
-        not_told(self.alloc, found, &progress.ended)
+        let mut told = found.into_zones();
+        drop_told(self.alloc, &mut told, &progress.told)?;
+        Ok(told)
     }
 }

@@ -1,90 +1,81 @@
-ghost use Rattle.std.specs.Prelude.{◌↔◌, IfOk, IsTrue, List, OnOk};
-ghost use Rattle.tre_zone.specs.declared.zone_bounds.ZoneBounds.{ZoneBounds};
-ghost use Rattle.tre_zone.specs.ZoneList.{IsApartFrom};
+ghost use Rattle.std.specs.Prelude.{OnOk};
+ghost use Rattle.tre_zone.specs.ZoneList.{SetHolds, AreCanonical, HoldExactly};
 ghost use Rattle.tre_zoneset.specs.ZoneSet.{IsZoneSet, Without};
-ghost use Rattle.tre_online.specs.Told.{WasTold, IsKeptNew};
+ghost use Rattle.tre_online.specs.Told.{WasTold, IsNew};
 
 use std::alloc::{AllocError, Global};
+use std::mem;
 use tre_index::ZoneIndex;
 use tre_zone::Zone;
 use tre_zoneset::{ZoneSet, are_few, index_of};
 
-/// The zones that were found, without those that a zone of `earlier` includes.
+/// For the proof: each of the zones is one by its bounds. It changes nothing.
 #[inline(always)]
-pub fn not_told(alloc: Global, found: ZoneSet, earlier: &ZoneSet) -> Result<ZoneSet, AllocError>
-    ensures { IfOk result (λ told. Without (WasTold earlier.now) found told) }
+pub fn known(zones: &[Zone])
+    ensures { AreCanonical zones.now }
 {
-    if are_few(earlier.zones()) {
-        if are_new(found.zones(), earlier.zones()) {
-            return Ok(found);
-        }
-        let told = new_beside(alloc, found.zones(), earlier.zones())?;
-        return Ok(told);
+    for zone in zones {
+        let _bounds = zone.bounds();
     }
-    let index = index_of(alloc, earlier.zones())?;
-    let told = new_among(alloc, found.zones(), &index)?;
-    Ok(told)
 }
 
-// Whether no zone of `earlier` includes one of the zones.
+/// Leaves those of the zones that no other includes.
 #[inline(always)]
-fn are_new(zones: &[Zone], earlier: &[Zone]) -> bool
-    ensures { IsTrue result → Without (WasTold earlier.now) zones.now zones.now }
+pub fn keep_apart(alloc: Global, zones: &mut Vec<Zone>) -> Result<(), AllocError>
+    ensures same { OnOk result (HoldExactly zones.new.items (SetHolds zones.old.items)) }
+    ensures set { OnOk result (IsZoneSet zones.new.items) }
 {
-    for zone in zones {
-        if is_beside(zone, earlier) {
-            return false;
-        }
+    if zones.len() < 2 {
+        known(zones);
+        return Ok(());
     }
-    true
+    let found = mem::replace(zones, Vec::new(alloc));
+    let set = ZoneSet::of_zones(alloc, found)?;
+    // For the proof: the call says that it is a set of zones.
+    let _set = set.zones();
+    *zones = set.into_zones();
+    Ok(())
 }
 
-// Those of the zones of a set that no zone of `earlier` includes, by looking at each of these.
-fn new_beside(alloc: Global, zones: &[Zone], earlier: &[Zone]) -> Result<ZoneSet, AllocError>
-    requires { IsZoneSet zones.now }
-    ensures { IfOk result (λ told. Without (WasTold earlier.now) zones.now told) }
+/// Drops the zones that a zone of `earlier` includes.
+#[inline(always)]
+pub fn drop_told(alloc: Global, zones: &mut Vec<Zone>, earlier: &[Zone]) -> Result<(), AllocError>
+    ensures { OnOk result (Without (WasTold earlier.now) zones.old.items zones.new.items) }
 {
-    let mut told = ZoneSet::new(alloc);
-    for zone in zones {
-        keep_new(&mut told, zone, is_beside(zone, earlier))?;
+    if are_few(earlier) {
+        drop_beside(zones, earlier);
+        return Ok(());
     }
-    Ok(told)
+    let index = index_of(alloc, earlier)?;
+    drop_among(zones, &index);
+    Ok(())
 }
 
-// The same by an index over these.
-fn new_among(alloc: Global, zones: &[Zone], earlier: &ZoneIndex) -> Result<ZoneSet, AllocError>
-    requires { IsZoneSet zones.now }
-    ensures { IfOk result (λ told. Without (WasTold earlier.now) zones.now told) }
+// By looking at each zone of `earlier`.
+#[inline(always)]
+fn drop_beside(zones: &mut Vec<Zone>, earlier: &[Zone])
+    ensures { Without (WasTold earlier.now) zones.old.items zones.new.items }
 {
-    let mut told = ZoneSet::new(alloc);
-    for zone in zones {
-        keep_new(&mut told, zone, is_among(zone, earlier))?;
-    }
-    Ok(told)
+    zones.retain(|zone| is_beside(zone, earlier));
 }
 
+// By an index over them.
+fn drop_among(zones: &mut Vec<Zone>, earlier: &ZoneIndex)
+    ensures { Without (WasTold earlier.now) zones.old.items zones.new.items }
+{
+    zones.retain(|zone| is_among(zone, earlier));
+}
+
+// Whether no zone of `earlier` includes the zone.
 #[inline(always)]
 fn is_beside(zone: &Zone, earlier: &[Zone]) -> bool
-    ensures { IsTrue result ↔ WasTold earlier.now zone.now }
+    ensures { IsNew earlier.now zone.now result }
 {
-    earlier.iter().any(|other| other.includes(zone))
+    !earlier.iter().any(|other| other.includes(zone))
 }
 
 fn is_among(zone: &Zone, earlier: &ZoneIndex) -> bool
-    ensures { IsTrue result ↔ WasTold earlier.now zone.now }
+    ensures { IsNew earlier.now zone.now result }
 {
-    earlier.includes(zone)
-}
-
-// Adds the zone, unless it was told.
-fn keep_new(told: &mut ZoneSet, zone: &Zone, was_told: bool) -> Result<(), AllocError>
-    requires { IsApartFrom zone.now told.old }
-    ensures { OnOk result ((earlier : List ZoneBounds)
-        → (IsTrue was_told ↔ WasTold earlier zone.now)
-        → IsKeptNew earlier told.old zone.now told.new) }
-{
-    if !was_told {
-        told.push_apart(*zone)?;
-    }
-    Ok(())
+    !earlier.includes(zone)
 }

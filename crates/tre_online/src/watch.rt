@@ -1,30 +1,27 @@
-ghost use Rattle.std.specs.Prelude.{◌≡◌, ◌<◌, ◌++◌, [], ◌∷◌, length, List, OnOk, IfOk, IfErr, map, slice_get};
+ghost use Rattle.std.specs.Prelude.{◌≡◌, [], length, List, OnOk, IfOk, IfErr, IfSome, map, slice_get};
 ghost use Rattle.std.specs.Option.{option_map};
-ghost use Rattle.tre_online.specs.Session.{ended_of};
+ghost use Rattle.tre_zoneset.specs.ZoneSet.{IsZoneSet};
 ghost use Rattle.tre_online.specs.declared.session.Session.{Session};
-ghost use Rattle.tre_online.specs.Giving.{IsNewFor, AreNewFor, IsGiven, IsGivenFirst, GoEach, IsRefusedBy, IsRefusedByOne, TellEachAtEnd};
+ghost use Rattle.tre_online.specs.Giving.{IsNewFor, AreNewFor, SessionGoes, SessionCloses, Become, IsRefusedByOne};
 
 use crate::session::Session;
 use std::alloc::{AllocError, Global};
-use std::collections::VecDeque;
 use tre_syntax::Pattern;
 use tre_trace::{PushFault, Segment};
-use tre_zoneset::ZoneSet;
+use tre_zone::Zone;
 
 /// Sessions of several patterns, each over a trace of its own: the same input, as it is read with
 /// the names of that pattern. All the traces end at one time.
 #[derive(Drop)]
 pub struct Watch {
-    alloc: Global,
-    // In the order of the patterns. Each in turn is taken from the front, goes on, and is put back
-    // behind the others, so that none needs a copy of what it keeps.
-    sessions: VecDeque<Session>,
+    // In the order of the patterns.
+    sessions: Vec<Session>,
 }
 
 impl Watch {
     ghost use Rattle.tre_syntax.specs.Pattern.{pattern_tree};
     ghost use Rattle.tre_trace.specs.declared.segment.Segment.{Segment};
-    ghost use Rattle.tre_online.specs.Watch.{trees_of, ended_of_each, time_of, sets_of, Watches, AreAlike, pushed_each, FitEach, TellEach, TellLastEach, AreRefusedFor};
+    ghost use Rattle.tre_online.specs.Watch.{trees_of, ended_of_each, time_of, Watches, AreAlike, pushed_each, FitEach, TellEach, TellLastEach, AreRefusedFor};
 
     /// A session for a copy of each pattern; none of them has read a segment.
     pub fn new(alloc: Global, patterns: &[Pattern]) -> Result<Watch, AllocError>
@@ -33,10 +30,7 @@ impl Watch {
         ensures trees { IfOk result (λ watch. trees_of watch ≡ map pattern_tree patterns.now) }
     {
         let sessions = sessions_for(alloc, patterns)?;
-        Ok(Watch {
-            alloc,
-            sessions: VecDeque::from_vec(sessions),
-        })
+        Ok(Watch { sessions })
     }
 
     /// How many patterns there are.
@@ -50,15 +44,15 @@ impl Watch {
     pub fn at(&self) -> u64
         ensures { result ≡ time_of self.now }
     {
-        match self.sessions.front() {
+        match self.sessions.first() {
             Some(session) => session.at(),
             None => 0,
         }
     }
 
-    /// Reads a segment for each pattern, and keeps what each session tells of it. After a refusal
-    /// the watch is of no use.
-    pub fn step(&mut self, segments: &[Segment]) -> Result<(), PushFault>
+    /// Reads a segment for each pattern. What each session tells of it is then
+    /// [`told`](Watch::told). After a refusal the watch is of no use.
+    pub fn segment(&mut self, segments: &[Segment]) -> Result<(), PushFault>
         requires count { length segments.now ≡ length (trees_of self.old) }
         requires alike { AreAlike segments.now }
         // Whatever traces it stood for, it then stands for these, each with its segment.
@@ -80,9 +74,10 @@ impl Watch {
 
     /// What the session of the pattern at this place told last: None exactly where there are fewer
     /// patterns.
-    pub fn told(&self, place: usize) -> Option<&ZoneSet>
-        ensures { option_map (λ zones. zones.now) result
+    pub fn told(&self, place: usize) -> Option<&[Zone]>
+        ensures told { option_map (λ zones. zones.now) result
             ≡ slice_get (ended_of_each self.now) place }
+        ensures set { IfSome result (λ zones. IsZoneSet zones.now) }
     {
         match self.sessions.get(place) {
             Some(session) => Some(session.told()),
@@ -90,69 +85,16 @@ impl Watch {
         }
     }
 
-    /// Reads a segment for each pattern, and gives the watch back with what each session tells.
-    /// After a refusal the watch is given up.
-    pub fn segment(self, segments: &[Segment]) -> Result<(Watch, Told), PushFault>
-        requires count { length segments.now ≡ length (trees_of self) }
-        requires alike { AreAlike segments.now }
-        // Whatever traces it stood for, it then stands for these, each with its segment.
-        ensures stands { (traces : List (List Segment)) → Watches self traces →
-            IfOk result (λ both. Watches both.0 (pushed_each traces segments.now)) }
-        ensures fits { (traces : List (List Segment)) → Watches self traces →
-            OnOk result (FitEach traces segments.now) }
-        ensures tells { (traces : List (List Segment)) → Watches self traces →
-            IfOk result (λ both. TellEach (trees_of self) traces segments.now (ended_of_each self)
-            (sets_of both.1)) }
-        ensures ended { IfOk result (λ both. ended_of_each both.0 ≡ sets_of both.1) }
-        ensures trees { IfOk result (λ both. trees_of both.0 ≡ trees_of self) }
-
-        // Each fault comes exactly where it says.
-        ensures refused { (traces : List (List Segment)) → Watches self traces →
-            IfErr result (AreRefusedFor traces segments.now) }
+    /// The traces have ended, and these events happen at their ends, given for each pattern. What
+    /// has become a match with them is then [`told`](Watch::told). No segment may follow.
+    pub fn close(&mut self, events: &[u64]) -> Result<(), AllocError>
+        requires count { length events.now ≡ length (trees_of self.old) }
+        ensures tells { (traces : List (List Segment)) → Watches self.old traces →
+            OnOk result (TellLastEach (trees_of self.old) traces events.now
+            (ended_of_each self.old) (ended_of_each self.new)) }
+        ensures trees { OnOk result (trees_of self.new ≡ trees_of self.old) }
     {
-        let mut watch = self;
-        watch.step(segments)?;
-        match told_by_each(watch.alloc, &watch.sessions) {
-            Ok(sets) => Ok((watch, Told { sets })),
-            Err(_) => Err(PushFault::Memory),
-        }
-    }
-
-    /// The traces have ended, and these events happen at their ends, given for each pattern. Tells
-    /// what has become a match with them.
-    pub fn close(self, events: &[u64]) -> Result<Told, AllocError>
-        requires count { length events.now ≡ length (trees_of self) }
-        ensures { (traces : List (List Segment)) → Watches self traces →
-            IfOk result (λ told. TellLastEach (trees_of self) traces events.now
-            (ended_of_each self) (sets_of told)) }
-    {
-        let sets = close_each(self.alloc, &self.sessions.into_vec(), events)?;
-        Ok(Told { sets })
-    }
-}
-
-/// What the sessions of a watch tell: a set of zones for each pattern, in the order of the
-/// patterns.
-#[derive(Drop)]
-pub struct Told {
-    sets: Vec<ZoneSet>,
-}
-
-impl Told {
-    ghost use Rattle.tre_online.specs.Watch.{sets_of};
-
-    /// What is told of the pattern at this place: None exactly where there are fewer patterns.
-    pub fn of(&self, place: usize) -> Option<&ZoneSet>
-        ensures { option_map (λ zones. zones.now) result ≡ slice_get (sets_of self.now) place }
-    {
-        self.sets.get(place)
-    }
-
-    /// The sets, in the order of the patterns.
-    pub fn into_sets(self) -> Vec<ZoneSet>
-        ensures { result.items ≡ sets_of self }
-    {
-        self.sets
+        close_each(&mut self.sessions, events)
     }
 }
 
@@ -177,82 +119,24 @@ fn session_for(alloc: Global, pattern: &Pattern) -> Result<Session, AllocError>
 }
 
 // Gives each session its segment.
-fn give_each(sessions: &mut VecDeque<Session>, segments: &[Segment]) -> Result<(), PushFault>
-    requires { length segments.now ≡ length sessions.old.items }
-    ensures ok { OnOk result (GoEach sessions.old.items segments.now sessions.new.items) }
-    ensures err { IfErr result (IsRefusedByOne sessions.old.items segments.now) }
+fn give_each(sessions: &mut [Session], segments: &[Segment]) -> Result<(), PushFault>
+    requires { length segments.now ≡ length sessions.old }
+    ensures ok { OnOk result (Become SessionGoes sessions.old segments.now sessions.new) }
+    ensures err { IfErr result (IsRefusedByOne sessions.old segments.now) }
 {
-    for segment in segments {
-        give_first(sessions, *segment)?;
+    for (place, segment) in segments.iter().enumerate() {
+        sessions[place].go_on(*segment)?;
     }
     Ok(())
 }
 
-// Gives the first session a segment. It goes behind the others.
-#[inline(always)]
-fn give_first(sessions: &mut VecDeque<Session>, segment: Segment) -> Result<(), PushFault>
-    requires { 0 < length sessions.old.items }
-    ensures ok { OnOk result (IsGivenFirst sessions.old.items segment sessions.new.items) }
-    ensures err { (session : Session) (others : List Session)
-        → sessions.old.items ≡ session ∷ others → IfErr result (IsRefusedBy session segment) }
+// Closes each session, with the events at its end.
+fn close_each(sessions: &mut [Session], events: &[u64]) -> Result<(), AllocError>
+    requires { length events.now ≡ length sessions.old }
+    ensures { OnOk result (Become SessionCloses sessions.old events.now sessions.new) }
 {
-    match sessions.pop_front() {
-        Some(session) => give(session, segment, sessions),
-        None => unreachable!(),
+    for (place, here) in events.iter().enumerate() {
+        sessions[place].close(*here)?;
     }
-}
-
-// Gives the session a segment, and puts it behind the others.
-#[inline(always)]
-fn give(
-    session: Session,
-    segment: Segment,
-    sessions: &mut VecDeque<Session>,
-) -> Result<(), PushFault>
-    ensures ok { OnOk result (IsGiven session segment sessions.old.items sessions.new.items) }
-    ensures err { IfErr result (IsRefusedBy session segment) }
-{
-    let next = session.go_on(segment)?;
-    match put(next, sessions) {
-        Ok(()) => Ok(()),
-        Err(_) => Err(PushFault::Memory),
-    }
-}
-
-#[inline(always)]
-fn put(session: Session, sessions: &mut VecDeque<Session>) -> Result<(), AllocError>
-    ensures { OnOk result (sessions.new.items ≡ sessions.old.items ++ session ∷ []) }
-{
-    sessions.push_back(session)?;
     Ok(())
-}
-
-// A copy of what each session told last.
-fn told_by_each(alloc: Global, sessions: &VecDeque<Session>) -> Result<Vec<ZoneSet>, AllocError>
-    ensures { IfOk result (λ sets.
-        sets.items ≡ map (λ session. ended_of session) sessions.now.items) }
-{
-    let mut sets = Vec::new(alloc);
-    for place in 0..sessions.len() {
-        let told = sessions[place].told().try_clone()?;
-        sets.push(told)?;
-    }
-    Ok(sets)
-}
-
-// What each session tells where its trace ends with these events.
-fn close_each(
-    alloc: Global,
-    sessions: &[Session],
-    events: &[u64],
-) -> Result<Vec<ZoneSet>, AllocError>
-    requires { length events.now ≡ length sessions.now }
-    ensures { IfOk result (λ sets. TellEachAtEnd sessions.now events.now sets.items) }
-{
-    let mut sets = Vec::new(alloc);
-    for (place, session) in sessions.iter().enumerate() {
-        let told = session.last_told(events[place])?;
-        sets.push(told)?;
-    }
-    Ok(sets)
 }

@@ -11,7 +11,6 @@ use Rattle.tre_online.specs.Watch.{trees_of, ended_of_each, time_of, Watches, Te
 use Rattle.tre_online.specs.declared.watch.Watch.{Watch}
 use Rattle.tre_syntax.specs.Pattern.{pattern_tree}
 use Rattle.tre_syntax.specs.declared.pattern.Pattern.{Pattern}
-use Rattle.tre_syntax.specs.PatternTree.{PatternTree}
 use Rattle.tre_trace.specs.Reading.{Vocabulary}
 use Rattle.tre_trace.specs.Trace.{timeline_of, quiet}
 use Rattle.tre_trace.specs.declared.segment.Segment.{Segment}
@@ -171,22 +170,6 @@ module _ {watch : Watch} {labels : List (List ℕ)} {scale : ℕ} {patterns : Li
               at_end.prints,
         ) (IsCutBehind-after before now now' _ _ so_far.told.written (rw made.is_text at part));
       }
-
--- as many sets are told as there are trees
-pub count_told : (trees : List PatternTree) (rows : List (List Segment)) (lasts : List ℕ)
-    (earlier told : List (List ZoneBounds)) → TellLastEach trees rows lasts earlier told
-    → length told ≡ length trees
-count_told [] [] [] [] [] tells = refl
-count_told (tree ∷ trees) (row ∷ rows) (events ∷ lasts) (last ∷ earlier) (zones ∷ told) tells =
-    ap suc (count_told trees rows lasts earlier told tells.1)
-count_told [] [] [] [] (zones ∷ told) tells = absurd tells
-count_told [] [] [] (last ∷ earlier) told tells = absurd tells
-count_told [] [] (events ∷ lasts) earlier told tells = absurd tells
-count_told [] (row ∷ rows) lasts earlier told tells = absurd tells
-count_told (tree ∷ trees) [] lasts earlier told tells = absurd tells
-count_told (tree ∷ trees) (row ∷ rows) [] earlier told tells = absurd tells
-count_told (tree ∷ trees) (row ∷ rows) (events ∷ lasts) [] told tells = absurd tells
-count_told (tree ∷ trees) (row ∷ rows) (events ∷ lasts) (last ∷ earlier) [] tells = absurd tells
 
 -- nothing was told of a pattern
 abbrev start_account : Sought → Account

@@ -1,11 +1,11 @@
 -- An input that is told, from before it is opened to its end.
-use Rattle.std.proofs.Common.{◌≡◌, ◌≢◌, ◌∙◌, ℕ, ◌+◌, ◌<◌, Bool, true, false, List, [], ◌∷◌, ◌++◌, length, take, map, MatchBool, Option, None, Some, IfErr, IsTrue, Result, Ok, Err, refl, sym, ap, subst, arith}
+use Rattle.std.proofs.Common.{◌≡◌, ◌≢◌, ◌∙◌, ℕ, ◌<◌, Bool, true, false, List, [], ◌∷◌, ◌++◌, length, take, map, MatchBool, Option, None, Some, IsTrue, Result, Err, refl, sym, ap, subst, arith}
 use Rattle.std.specs.Io.KnownBytes.{Keeps}
 use Rattle.std.proofs.KnownBytes.{Consumes-kept, Consumes-nil}
 use Rattle.std.proofs.lemmas.List.{length-map, take_all}
 use Rattle.tre_feed.specs.Input.{HasReadCause, InputTold, WereRead}
 use Rattle.tre_feed.specs.Each.{AllStand, recording_by}
-use Rattle.tre_feed.specs.Standing.{IsAsked, IsNew, WereFed, recording_of}
+use Rattle.tre_feed.specs.Standing.{IsAsked, IsNew, recording_of}
 use Rattle.tre_feed.specs.declared.each.Fed.{Fed}
 use Rattle.tre_feed.specs.declared.input.Input.{Input}
 use Rattle.tre_feed.proofs.Pieces.{found_behind}

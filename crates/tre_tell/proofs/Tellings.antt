@@ -1,5 +1,5 @@
 -- How the telling of an input ends.
-use Rattle.std.proofs.Common.{◌≡◌, ◌≢◌, ◌∙◌, ℕ, ◌-◌, ◌<◌, ◌≤◌, Bool, true, false, All, List, [], ◌∷◌, ◌++◌, length, take, drop, map, MatchBool, Option, None, Some, IfSome, IsErrOf, IsTrue, Result, Ok, Err, refl, sym, ap, subst, inl, inr, arith, length-append, append-nil, append_assoc, take-append-drop}
+use Rattle.std.proofs.Common.{◌≡◌, ◌∙◌, ℕ, ◌-◌, ◌<◌, ◌≤◌, Bool, true, false, All, List, [], ◌∷◌, ◌++◌, length, take, drop, map, MatchBool, Option, None, Some, IfSome, IsErrOf, IsTrue, Result, Ok, Err, refl, sym, ap, subst, inl, inr, arith, length-append, append-nil, append_assoc, take-append-drop}
 use Rattle.std.specs.Io.KnownBytes.{Consumes, IsAtEnd}
 use Rattle.std.proofs.KnownBytes.{Consumes-whole}
 use Rattle.std.proofs.Math.Seq.{take-append_seam}
@@ -13,15 +13,14 @@ use Rattle.tre_io.specs.Faults.{count_after}
 use Rattle.tre_online.specs.declared.watch.Watch.{Watch}
 use Rattle.tre_trace.specs.Reading.{Grows, Recording, Stretch, Vocabulary, segments_for, events_for}
 use Rattle.tre_trace.specs.Trace.{Timeline, IsTrace}
-use Rattle.tre_trace.specs.declared.segment.Segment.{Segment}
 use Rattle.tre_tell.specs.Blocks.{AreAccounts, blocks_text, ending_text}
 use Rattle.tre_tell.specs.Transcript.{Account, IsClosing}
 use Rattle.tre_tell.specs.Ends.{EndsTelling, EndsAtInput, ReadsInput, StandsAtMemory, StandsSoFar, TellsWhole, as_it_comes}
 use Rattle.tre_feed.specs.Turn.{EndsTurn, TakesOn, TakesRead}
 use Rattle.tre_feed.specs.Traces.{trace_for}
-use Rattle.tre_tell.specs.Online.{BlocksStand, IsPrompt, IsOnlineAnswer, blocks_for}
+use Rattle.tre_tell.specs.Online.{BlocksStand, IsPrompt, blocks_for}
 use Rattle.tre_tell.specs.Outputs.{OutputTold, AllWritesGood, NothingWritten, IsCutBehind}
-use Rattle.tre_tell.specs.Request.{Request, outcome_for, whole_recording}
+use Rattle.tre_tell.specs.Request.{Request, outcome_for}
 use Rattle.tre_tell.specs.Sought.{Sought, all_names}
 use Rattle.tre_tell.specs.Streams.{OfBytes, WroteFront}
 use Rattle.tre_tell.specs.Telling.{first_row, rows_for, timelines, BlocksWritten, CanTellAll, StopsWithin, HasWriteCause, HasClosed, ClosingIsCut, EndsClosing}

@@ -1,5 +1,5 @@
 // An input that is told as it comes: a block for each stretch, and what its end completes.
-ghost use Rattle.std.specs.Prelude.{◌≡◌, ◌≤◌, ◌<◌, ◌+◌, ◌++◌, ℕ, List, Option, [], IsTrue, IfOk, IfErr, IfSome, false, true, length, map, string_bytes};
+ghost use Rattle.std.specs.Prelude.{◌≡◌, ◌≤◌, ◌<◌, ◌+◌, ◌++◌, ℕ, List, Option, [], IsTrue, OnOk, IfErr, IfSome, false, true, length, map, string_bytes};
 ghost use Rattle.tre_decimal.specs.declared.TheConstants.{SCALE_MAX};
 ghost use Rattle.tre_feed.specs.Input.{input_told, TakesAtMost};
 ghost use Rattle.tre_feed.specs.Standing.{Asks, IsNew, Wait, limit_of, recording_of};
@@ -43,33 +43,32 @@ fn tell_blocks<R: TraceReader + Drop, O: Sink>(
     labels: &[String],
     scale: u8,
     input: &Input<R>,
-    watch: Watch,
+    watch: &mut Watch,
     room: &mut Room,
     out: &mut O,
-) -> Result<Watch, Fault>
-    requires comes { CanTellWaiting R.names watch input.now }
-    requires labels { length labels.now ≡ length (trees_of watch) }
+) -> Result<(), Fault>
+    requires comes { CanTellWaiting R.names watch.old input.now }
+    requires labels { length labels.now ≡ length (trees_of watch.old) }
     requires scale { scale ≤ SCALE_MAX }
-    ensures trees { IfOk result (λ then. trees_of then ≡ trees_of watch) }
+    ensures trees { OnOk result (trees_of watch.new ≡ trees_of watch.old) }
     ensures told { (patterns : List Sought) (told waiting : List Stretch)
         (before : Option (List ℕ)) → Asks R.names input.now (all_names patterns) →
-        Wait R.names input.now waiting → HasTold watch (map string_bytes labels.now) scale patterns
+        Wait R.names input.now waiting → HasTold watch.old (map string_bytes labels.now) scale patterns
         (rows_for (all_names patterns) told) before (O.told out.old).written →
-        IfOk result (λ then. HasTold then (map string_bytes labels.now) scale patterns
+        OnOk result (HasTold watch.new (map string_bytes labels.now) scale patterns
         (rows_for (all_names patterns) (told ++ waiting)) before (O.told out.new).written) }
     ensures stops { (patterns : List Sought) (told waiting : List Stretch)
         (before : Option (List ℕ)) → Asks R.names input.now (all_names patterns) →
-        Wait R.names input.now waiting → HasTold watch (map string_bytes labels.now) scale patterns
+        Wait R.names input.now waiting → HasTold watch.old (map string_bytes labels.now) scale patterns
         (rows_for (all_names patterns) told) before (O.told out.old).written →
         IfErr result (StopsWithin scale patterns told waiting before (O.told out.new).written) }
     ensures cause { HasWriteCause (O.told out.old).faults (O.told out.new).faults result }
 {
-    let mut watch = watch;
     for place in 0..input.waiting() {
         input.column(place, &mut room.column)?;
-        watch = tell_block(&room.column, labels, scale, watch, &mut room.text, out)?;
+        tell_block(&room.column, labels, scale, watch, &mut room.text, out)?;
     }
-    Ok(watch)
+    Ok(())
 }
 
 /// Tells the patterns of a job as its input comes from the source: the block of each stretch, as
@@ -106,12 +105,12 @@ pub fn tell_matches<S: Source, R: TraceReader + Drop, O: Sink>(
     input.open(job.input.text(), source)?;
     loop {
         let read = input.next(source);
-        watch = tell_blocks(labels, job.scale, input, watch, &mut room, out)?;
+        tell_blocks(labels, job.scale, input, &mut watch, &mut room, out)?;
         input.clear();
         if !read? {
             break;
         }
     }
     let lasts = input.lasts(alloc)?;
-    tell_end(&lasts, labels, job.scale, watch, &mut room.text, out)
+    tell_end(&lasts, labels, job.scale, &mut watch, &mut room.text, out)
 }

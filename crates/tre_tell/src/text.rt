@@ -5,13 +5,13 @@ ghost use Rattle.tre_decimal.specs.declared.TheConstants.{SCALE_MAX};
 ghost use Rattle.tre_online.specs.Watch.{ended_of_each};
 ghost use Rattle.tre_show.specs.Line.{line_of};
 ghost use Rattle.tre_tell.specs.Blocks.{lines_with};
+ghost use Rattle.tre_zoneset.specs.ZoneSet.{IsZoneSet};
 ghost use Rattle.tre_tell.specs.Printed.{IsPrinted, IsSetPut, IsToldPut, IsTextOf, time_line};
 
 use std::alloc::{AllocError, Global};
 use tre_online::Watch;
 use tre_show::{LINE_MAX, are_rising, in_printed_order, write_line, write_time, write_word};
 use tre_zone::Zone;
-use tre_zoneset::ZoneSet;
 
 fn zeros(alloc: Global, count: usize) -> Result<Vec<u8>, AllocError>
     ensures { IfOk result (λ bytes. length bytes.items ≡ count) }
@@ -91,32 +91,34 @@ fn put_lines(
     Ok(at)
 }
 
-// The zones of a set, in the order in which they are printed.
-fn printed(set: ZoneSet) -> Vec<Zone>
-    ensures { IsPrinted set result.items }
+// A copy of the zones of a set, in the order in which they are printed.
+fn printed(alloc: Global, set: &[Zone]) -> Result<Vec<Zone>, AllocError>
+    requires { IsZoneSet set.now }
+    ensures { IfOk result (λ zones. IsPrinted set.now zones.items) }
 {
-    in_printed_order(set.into_zones())
+    let zones = set.to_vec(alloc)?;
+    Ok(in_printed_order(zones))
 }
 
 // Puts the lines of the zones of a set, each behind the label, in the order of printing.
 fn put_set(
     label: &str,
-    set: &ZoneSet,
+    set: &[Zone],
     scale: u8,
     text: &mut Vec<u8>,
     begin: usize,
 ) -> Result<usize, AllocError>
+    requires set { IsZoneSet set.now }
     requires scale { scale ≤ SCALE_MAX }
     requires within { begin ≤ length text.old.items }
     ensures put { IfOk result (λ at. IsSetPut scale label.now set.now
         (drop begin text.old.items) (drop at text.new.items)) }
     ensures within { IfOk result (λ at. at ≤ length text.new.items) }
 {
-    let zones = set.zones();
-    if are_rising(zones) {
-        return put_lines(label, zones, scale, text, begin);
+    if are_rising(set) {
+        return put_lines(label, set, scale, text, begin);
     }
-    let zones = printed(set.try_clone()?);
+    let zones = printed(*text.allocator(), set)?;
     put_lines(label, &zones, scale, text, begin)
 }
 
@@ -166,30 +168,6 @@ fn put_told(
     Ok(at)
 }
 
-// Puts the lines of each set, behind the label at its place.
-fn put_sets(
-    labels: &[String],
-    sets: &[ZoneSet],
-    scale: u8,
-    text: &mut Vec<u8>,
-    begin: usize,
-) -> Result<usize, AllocError>
-    requires count { length sets.now ≡ length labels.now }
-    requires scale { scale ≤ SCALE_MAX }
-    requires within { begin ≤ length text.old.items }
-    ensures put { IfOk result (λ at. IsTextOf scale (map string_bytes labels.now)
-        sets.now (drop begin text.old.items) (drop at text.new.items)) }
-    ensures within { IfOk result (λ at. at ≤ length text.new.items) }
-{
-    let mut at = begin;
-    let mut left = labels.len();
-    while left > 0 {
-        left -= 1;
-        at = put_set(labels[left].as_str(), &sets[left], scale, text, at)?;
-    }
-    Ok(at)
-}
-
 // Makes the line of a time behind a word, as the end of the text, in place of what was there.
 fn start_text(word: &str, time: u64, scale: u8, text: &mut Vec<u8>) -> Result<usize, AllocError>
     requires scale { scale ≤ SCALE_MAX }
@@ -218,24 +196,4 @@ pub fn write_told(
 {
     let end = start_text(word, time, scale, text)?;
     put_told(labels, watch, scale, text, end)
-}
-
-/// Makes the text of sets of zones, one for each label, and of a time behind a word, in place of
-/// the text that was there. Says where it begins.
-pub fn write_sets(
-    labels: &[String],
-    sets: &[ZoneSet],
-    word: &str,
-    time: u64,
-    scale: u8,
-    text: &mut Vec<u8>,
-) -> Result<usize, AllocError>
-    requires count { length sets.now ≡ length labels.now }
-    requires scale { scale ≤ SCALE_MAX }
-    ensures text { IfOk result (λ begin. IsTextOf scale (map string_bytes labels.now)
-        sets.now (time_line scale word.now time) (drop begin text.new.items)) }
-    ensures within { IfOk result (λ begin. begin ≤ length text.new.items) }
-{
-    let end = start_text(word, time, scale, text)?;
-    put_sets(labels, sets, scale, text, end)
 }

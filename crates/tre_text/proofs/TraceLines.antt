@@ -17,7 +17,7 @@ use Rattle.tre_trace.specs.Reading.{Recording, Stretch, no_names, segment_for}
 use Rattle.tre_trace.specs.Trace.{end_of, AreLong, IsTrace}
 use Rattle.tre_trace.specs.declared.segment.Segment.{Segment}
 use Rattle.tre_trace.specs.declared.fault.TraceKind.{TraceKind}
-use Rattle.tre_trace.specs.declared.fault.TraceKind.TheVariants.{LineTooLong, BadNumber, Zero, TooLate, BadName, BadToken, UnknownName, TimeBack, CutShort, Spent, Memory}
+use Rattle.tre_trace.specs.declared.fault.TraceKind.TheVariants.{LineTooLong, BadNumber, Zero, TooLate, BadName, BadToken, BadScale, UnknownName, TooFine, TimeBack, CutShort, Spent, Memory}
 
 -- the segments of stretches, for nobody
 abbrev bare : List Stretch → List Segment
@@ -236,7 +236,9 @@ fault_says digits scale past line BadName has =
     ⊎_elim (no_name_says digits scale past line) (no_event_says scale past line) has
 fault_says digits scale past line LineTooLong has = absurd has
 fault_says digits scale past line BadToken has = absurd has
+fault_says digits scale past line BadScale has = absurd has
 fault_says digits scale past line UnknownName has = absurd has
+fault_says digits scale past line TooFine has = absurd has
 fault_says digits scale past line TimeBack has = absurd has
 fault_says digits scale past line CutShort has = absurd has
 fault_says digits scale past line Spent has = absurd has

@@ -304,7 +304,7 @@ request_of job forms patterns recording =
 -- what bytes say for a job, by the definitions of names
 recorded_by : Job → List Sought → List Defined → List SignalDefined → Bool → List ℕ → Recording
 recorded_by job patterns lets signals =
-    recording_in job.format job.scale patterns lets signals
+    recording_in job.format job.scale job.unit patterns lets signals
 
 -- They give one job.
 abbrev pub GiveOne : (Job → Type 0) → Type 0

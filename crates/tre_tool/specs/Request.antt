@@ -168,7 +168,7 @@ pub record AsksFor (Gives : Job → Type 0) (Says : Saying) (request : Request) 
   pub signals : List SignalDefined
   pub asks : IsAsked request.job.mode Says request.job request.patterns request.forms lets signals
   pub recorded : request.recording ≡ recording_in request.job.format request.job.scale
-      request.patterns lets signals
+      request.job.unit request.patterns lets signals
 
 -- They give a job that is refused so.
 pub record JobIsRefused (Gives : Job → Type 0) (Says : Saying) (refusal : Status) : Type 0 where

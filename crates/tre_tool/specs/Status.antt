@@ -1,7 +1,7 @@
 -- What a run answers, as a number and as a line on standard error.
 use Rattle.std.specs.Prelude.{ℕ, List, [], ◌++◌, codes, decimal}
 use Rattle.tre_trace.specs.declared.fault.TraceKind.{TraceKind}
-use Rattle.tre_trace.specs.declared.fault.TraceKind.TheVariants.{LineTooLong, BadNumber, Zero, TooLate, BadName, BadToken, UnknownName, TimeBack, CutShort, Spent, Memory as KindMemory}
+use Rattle.tre_trace.specs.declared.fault.TraceKind.TheVariants.{LineTooLong, BadNumber, Zero, TooLate, BadName, BadToken, BadScale, UnknownName, TooFine, TimeBack, CutShort, Spent, Memory as KindMemory}
 use Rattle.tre_parse.specs.declared.fault.ParseFault.{ParseFault}
 use Rattle.tre_parse.specs.declared.fault.ParseFault.TheVariants.{TooLong, BadByte, Number, TooDeep, Syntax, EmptyInterval, TooManyNames, TooLarge, Memory as ParseMemory}
 use Rattle.tre_define.specs.declared.let_fault.LetFault.{LetFault}
@@ -56,7 +56,9 @@ kind_name Zero = codes "Zero"
 kind_name TooLate = codes "TooLate"
 kind_name BadName = codes "BadName"
 kind_name BadToken = codes "BadToken"
+kind_name BadScale = codes "BadScale"
 kind_name UnknownName = codes "UnknownName"
+kind_name TooFine = codes "TooFine"
 kind_name TimeBack = codes "TimeBack"
 kind_name CutShort = codes "CutShort"
 kind_name Spent = codes "Spent"

@@ -5,7 +5,7 @@ use Rattle.tre_trace.specs.Reading.{Vocabulary, Recording, segment_for, segments
 use Rattle.tre_trace.specs.declared.segment.Segment.{Segment}
 use Rattle.tre_trace.specs.declared.fault.TraceFault.{TraceFault}
 use Rattle.tre_trace.specs.declared.fault.TraceKind.{TraceKind}
-use Rattle.tre_trace.specs.declared.fault.TraceKind.TheVariants.{LineTooLong, BadNumber, Zero, TooLate, BadName, BadToken, UnknownName, TimeBack, CutShort, Spent, Memory}
+use Rattle.tre_trace.specs.declared.fault.TraceKind.TheVariants.{LineTooLong, BadNumber, Zero, TooLate, BadName, BadToken, BadScale, UnknownName, TooFine, TimeBack, CutShort, Spent, Memory}
 
 module _ (asked : Vocabulary) where
   -- no segment is added where none came
@@ -104,7 +104,9 @@ is_memory Zero = inr (λ e. cc (e))
 is_memory TooLate = inr (λ e. cc (e))
 is_memory BadName = inr (λ e. cc (e))
 is_memory BadToken = inr (λ e. cc (e))
+is_memory BadScale = inr (λ e. cc (e))
 is_memory UnknownName = inr (λ e. cc (e))
+is_memory TooFine = inr (λ e. cc (e))
 is_memory TimeBack = inr (λ e. cc (e))
 is_memory CutShort = inr (λ e. cc (e))
 is_memory Spent = inr (λ e. cc (e))

@@ -23,15 +23,19 @@ pub enum TraceKind {
     BadName = 5,
     /// A token stands where it may not.
     BadToken = 6,
+    /// A unit of time is asked for, and how long a tick takes isn't declared.
+    BadScale = 7,
     /// A name of the pattern isn't declared.
-    UnknownName = 7,
+    UnknownName = 8,
+    /// A time is no whole number of the units that are asked for.
+    TooFine = 9,
     /// A time is before the last one.
-    TimeBack = 8,
+    TimeBack = 10,
     /// The input ends too early.
-    CutShort = 9,
+    CutShort = 11,
     /// The reader was refused or finished before.
-    Spent = 10,
-    Memory = 11,
+    Spent = 12,
+    Memory = 13,
 }
 
 /// The first fault of the text of a trace.

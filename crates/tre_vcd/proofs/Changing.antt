@@ -4,7 +4,7 @@ use Rattle.tre_vcd.specs.VcdReading.{Form, Statement, change}
 use Rattle.tre_vcd.specs.Kept.{KnowsOfPast}
 use Rattle.tre_vcd.specs.Offers.{KnowsOffers}
 use Rattle.tre_vcd.specs.Sections.{KnowsPast}
-use Rattle.tre_vcd.specs.Signals.{KnowsSignals}
+use Rattle.tre_vcd.specs.Defined.{KnowsSignals}
 use Rattle.tre_vcd.specs.declared.past.Past.{Past}
 use Rattle.tre_vcd.specs.declared.signals.Signals.{Signals}
 use Rattle.tre_vcd.specs.declared.token_reader.TokenReader.{TokenReader}

@@ -3,7 +3,8 @@ use Rattle.std.proofs.Common.{◌≡◌, ◌<◌, ◌≤◌, ℕ, List, [], ◌�
 use Rattle.std.specs.Global.{Vec}
 use Rattle.tre_vcd.specs.VcdReading.{Statement, var, offer_in, offer_of, path}
 use Rattle.tre_vcd.specs.Kept.{IsQuiet, KnowsOfPast}
-use Rattle.tre_vcd.specs.Signals.{KnowsSignals, begins_range}
+use Rattle.tre_vcd.specs.Defined.{KnowsSignals}
+use Rattle.tre_vcd.specs.Signals.{begins_range}
 use Rattle.tre_vcd.specs.declared.past.Past.{Past}
 use Rattle.tre_vcd.specs.declared.signals.Signals.{Signals}
 

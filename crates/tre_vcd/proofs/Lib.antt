@@ -13,10 +13,12 @@ mod Naming
 mod Needing
 mod Offering
 mod OneMore
+mod Pairing
 mod Pasts
 mod Plain
 mod Reading
 mod Rows
+mod Scaling
 mod Scoping
 mod Sectioning
 mod Signalling
@@ -25,6 +27,7 @@ mod Standing
 mod Slots
 mod Staying
 mod Testing
+mod Timing
 mod Tokens
 mod Undefined
 mod Unread

@@ -1,11 +1,12 @@
 -- What is known of the names that must be declared.
-use Rattle.std.proofs.Common.{◌≡◌, ◌≤◌, ℕ, Bool, List, [], ◌∷◌, length, ap₂, rules}
+use Rattle.std.proofs.Common.{◌≡◌, ◌≤◌, ℕ, Bool, List, [], ◌∷◌, length, Option, ap₂, rules}
 use Rattle.std.specs.Global.{Vec}
 use Rattle.std.specs.Prelude.{All}
 use Rattle.tre_trace.specs.Reading.{Vocabulary}
 use Rattle.tre_vcd.specs.VcdReading.{Statement, Terms, var, scopes_at, is_signal, is_event}
 use Rattle.tre_vcd.specs.Kept.{identifier_of, KnowsNeeded, AreNoLonger, DeclaresNoneWithin, plain_of}
 use Rattle.tre_define.specs.Signals.{SignalDefined}
+use Rattle.tre_unit.specs.declared.unit.TimeUnit.{TimeUnit}
 use Rattle.tre_vcd.specs.Offers.{KnowsOffers}
 use Rattle.tre_vcd.specs.declared.found.Found.{Found}
 use Rattle.tre_vcd.proofs.Flagging.{flags-same, flags-within}
@@ -42,14 +43,18 @@ pub offers-found : (all : List SignalDefined) (past : List Statement) (found : F
 offers-found all past found names events knows = search rules
 
 -- what is asked of the reader, by what changes of it
-abbrev pub terms_of : ℕ → Vocabulary → List SignalDefined → Terms
-terms_of scale declared definitions =
-    record { declared = declared ∷ []; scale = scale; definitions = definitions }
+abbrev pub terms_of : ℕ → Option TimeUnit → Vocabulary → List SignalDefined → Terms
+terms_of scale unit declared definitions = record {
+  declared = declared ∷ [];
+  scale = scale;
+  unit = unit;
+  definitions = definitions;
+}
 
 pub same-terms : {now declared : Vocabulary} {own definitions : List SignalDefined} (scale : ℕ)
-    → now ≡ declared → own ≡ definitions
-    → terms_of scale now own ≡ terms_of scale declared definitions
-same-terms scale named defined = ap₂ (terms_of scale) named defined
+    (unit : Option TimeUnit) → now ≡ declared → own ≡ definitions
+    → terms_of scale unit now own ≡ terms_of scale unit declared definitions
+same-terms scale unit named defined = ap₂ (terms_of scale unit) named defined
 
 -- ---- names that are longer
 

@@ -2,14 +2,16 @@
 use Rattle.std.proofs.Common.{◌≡◌, ◌≢◌, ℕ, ◌==◌, ◌≤◌, ◌&&◌, not, Bool, true, false, true≢false, None, Some, List, ◌∷◌, [], Option, length, get_or, refl, sym, ap, ◌∙◌, arith, if◌then◌else◌, rules}
 use Rattle.std.specs.Int.{bit_at}
 use Rattle.std.proofs.lemmas.Bool.Decides.{nat_tests}
-use Rattle.std.specs.Option.{option_or, option_map_or}
+use Rattle.std.specs.Option.{is_some, option_and_then, option_map, option_or, option_map_or}
 use Rattle.std.specs.Prelude.{All}
 use Rattle.tre_trace.specs.Reading.{Vocabulary}
-use Rattle.tre_vcd.specs.VcdReading.{Form, Statement, var, time, change, scalar, is_defined, time_at, scopes_at, in_dump, letters_at, happened_at, happened_in, latest, is_signal, is_event, path}
+use Rattle.tre_vcd.specs.VcdReading.{Form, Statement, var, time, change, scalar, is_defined, time_at, scopes_at, timescale, timescale_at, in_dump, letters_at, happened_at, happened_in, latest, is_signal, is_event, path}
 use Rattle.tre_vcd.specs.Brief.{IsBriefOf}
 use Rattle.tre_vcd.specs.declared.brief.Brief.{Brief}
 use Rattle.tre_vcd.specs.Kept.{ends_true, identifier_at, identifier_of, value_at, KnowsOfPast, IsQuiet, AreScopes, AreKnown, KeepsNames, AreHaving, AreNoLonger, Declares, DeclaresNone, DeclaresNoneWithin, and_declared, valuation_behind, events_at}
+use Rattle.tre_vcd.specs.Timescale.{tick_of}
 use Rattle.tre_vcd.specs.declared.scopes.Scopes.{Scopes}
+use Rattle.tre_vcd.specs.declared.timescale.Tick.{Tick}
 use Rattle.tre_vcd.specs.declared.past.Past.{Past}
 use Rattle.tre_vcd.specs.declared.variables.Variables.{Variables}
 use Rattle.tre_vcd.proofs.Knowing.{keeps-among, keeps-same, option_or-none}
@@ -54,27 +56,30 @@ knows-brief names event_names kept past brief told known = search rules
 -- a statement that says nothing of names and times
 pub knows-later : (names event_names : List (List ℕ)) (kept : Past) (past : List Statement)
     (statement : Statement)
-    (defined dumps : Bool) (scopes : Scopes) → defined ≡ is_defined (statement ∷ past)
+    (defined dumps : Bool) (scopes : Scopes) (tick : Option (Option Tick))
+    → defined ≡ is_defined (statement ∷ past)
     → dumps ≡ in_dump (statement ∷ past) → time_at (statement ∷ past) ≡ time_at past
     → LooksSame past (statement ∷ past)
     → (is_defined (statement ∷ past) ≡ false → is_defined past ≡ false)
     → (is_defined (statement ∷ past) ≡ true → IsBriefOf (identifier_at kept.propositions.list.items)
     kept.brief)
     → AreScopes (scopes_at (statement ∷ past)) scopes.prefix.items scopes.lens.items
+    → tick ≡ option_map tick_of (timescale_at (statement ∷ past))
     → KnowsOfPast names event_names kept past
     → KnowsOfPast names event_names (record kept {
       is_defined = defined;
       in_dump = dumps;
       scopes = scopes;
+      tick = tick;
     })
     (statement ∷ past)
-knows-later names event_names kept past statement defined dumps scopes is_now dumps_now same_time
-    same before told
-    are known = record {
+knows-later names event_names kept past statement defined dumps scopes tick is_now dumps_now
+    same_time same before told are ticks known = record {
       defined = is_now;
       dump = dumps_now;
       time = known.time ∙ sym same_time;
       scopes = are;
+      tick = ticks;
       propositions =
           keeps-same (identifier_of is_signal past) (identifier_of is_signal (statement ∷ past))
           names kept.propositions (same.identifiers is_signal) known.propositions;
@@ -89,11 +94,12 @@ knows-later names event_names kept past statement defined dumps scopes is_now du
 
 pub knows-begins : (names event_names : List (List ℕ)) (kept : Past) → kept.is_defined ≡ false
     → kept.in_dump ≡ false → kept.time ≡ 0
-    → AreScopes [] kept.scopes.prefix.items kept.scopes.lens.items
+    → AreScopes [] kept.scopes.prefix.items kept.scopes.lens.items → kept.tick ≡ None
     → KeepsNames (λ name. None) names kept.propositions
     → KeepsNames (λ name. None) event_names kept.events → kept.values ≡ 0 → kept.happened ≡ 0
     → KnowsOfPast names event_names kept []
-knows-begins names event_names kept defined dumps ticks scopes propositions events values happened =
+knows-begins names event_names kept defined dumps ticks scopes tick propositions events values
+    happened =
     search (rules, time, keeps-same, identifier_of, is_signal, events, is_event, values, mask-quiet)
 
 -- ---- times
@@ -134,6 +140,7 @@ knows-time names event_names kept past ticks other known =
       dump = known.dump;
       time = refl;
       scopes = known.scopes;
+      tick = known.tick;
       propositions =
           keeps-same (identifier_of is_signal past) (identifier_of is_signal (time ticks ∷ past))
           names kept.propositions (λ name. refl) known.propositions;
@@ -165,6 +172,7 @@ knows-same_time names event_names kept past ticks is known =
       dump = known.dump;
       time = sym is;
       scopes = known.scopes;
+      tick = known.tick;
       propositions =
           keeps-same (identifier_of is_signal past) (identifier_of is_signal (time ticks ∷ past))
           names kept.propositions (λ name. refl) known.propositions;
@@ -216,6 +224,7 @@ knows-change names event_names kept past form identifier letters value values
       dump = known.dump;
       time = known.time;
       scopes = known.scopes;
+      tick = known.tick;
       propositions =
           keeps-same (identifier_of is_signal past) (identifier_of is_signal now) names
           kept.propositions (λ name. refl) known.propositions;
@@ -359,6 +368,7 @@ knows-declared names event_names kept past tokens propositions events before sig
       dump = known.dump;
       time = known.time;
       scopes = known.scopes;
+      tick = known.tick;
       propositions = signals;
       events = said;
       values = known.values
@@ -400,3 +410,38 @@ knows-within longest asked kept past tokens before signals said within known =
     known.propositions)
     (keeps-within longest is_event past tokens asked.events kept.events said within.events
     known.events) known
+
+-- ---- ticks
+
+-- a `$timescale`, which says how long a tick takes
+pub knows-measured : (names event_names : List (List ℕ)) (kept : Past) (past : List Statement)
+    (tokens : List (List ℕ)) (tick : Option (Option Tick))
+    → tick ≡ option_map tick_of (timescale_at (timescale tokens ∷ past))
+    → KnowsOfPast names event_names kept past
+    → KnowsOfPast names event_names (record kept { tick = tick }) (timescale tokens ∷ past)
+knows-measured names event_names kept past tokens tick is known =
+    knows-later names event_names kept past (timescale tokens) kept.is_defined kept.in_dump
+    kept.scopes tick known.defined known.dump refl (record {
+      identifiers = λ test name. refl;
+      values = λ identifier. refl;
+      events = λ identifier. refl;
+    }) (λ e. e) known.brief known.scopes is known
+
+pub first-measured : (said : Option (List (List ℕ))) (tokens : List (List ℕ))
+    → is_some (option_map tick_of said) ≡ false
+    → option_map tick_of (option_or said (Some tokens)) ≡ Some (tick_of tokens)
+first-measured None tokens none = refl
+first-measured (Some first) tokens none = cc (none)
+
+pub later-measured : (said : Option (List (List ℕ))) (tokens : List (List ℕ))
+    → is_some (option_map tick_of said) ≡ true
+    → option_map tick_of (option_or said (Some tokens)) ≡ option_map tick_of said
+later-measured None tokens some = cc (some)
+later-measured (Some first) tokens some = refl
+
+-- the tick, where the first `$timescale` says one
+pub tick-is : (kept : Option (Option Tick)) (said : Option (List (List ℕ)))
+    → kept ≡ option_map tick_of said → option_and_then (λ tick. tick) kept
+    ≡ option_and_then tick_of said
+tick-is kept None is = rw is refl
+tick-is kept (Some tokens) is = rw is refl

@@ -1,13 +1,12 @@
 -- What the lowest bit of a value says.
 use Rattle.std.proofs.Common.{◌≡◌, ℕ, suc, ◌+◌, ◌==◌, nat_le, Bool, true, false, ◌&&◌, ◌||◌, List, [], ◌∷◌, length, drop, None, Some, pos, refl, sym, ap, ◌∙◌, arith, if◌then◌else◌, rules}
 use Rattle.std.specs.List.{list_all}
-use Rattle.std.specs.Option.{option_map_or}
 use Rattle.std.specs.Str.Parse.{digits_value}
 use Rattle.std.proofs.lemmas.List.{take_all}
-use Rattle.tre_define.specs.Comparison.{compares}
 use native.Mathlib.Numerals.{unary_clauses}
 use Rattle.std.proofs.lemmas.Bool.Decides.{nat_tests}
-use Rattle.tre_define.specs.Values.{is_bit, is_known, letters_of, passes, plain_test}
+use Rattle.tre_define.specs.Values.{compares_known, is_bit, is_known, letters_of, passes, plain_test}
+use Rattle.tre_define.specs.declared.comparison.Comparison.TheVariants.{Equal}
 use Rattle.tre_define.specs.declared.part.Part.{Part}
 use Rattle.tre_vcd.specs.Kept.{ends_true}
 
@@ -36,8 +35,8 @@ last-of letter rest = search (rules, take_all)
 
 compared : Bool → List ℕ → Bool
 compared known letters =
-    option_map_or (λ number. compares plain_test.comparison (pos number) (pos plain_test.number))
-    (if known && list_all is_bit letters then Some (digits_value 2 letters) else None) false
+    compares_known Equal
+    (if known && list_all is_bit letters then Some (digits_value 2 letters) else None) (Some 1)
 
 plain-longer : (first second : ℕ) (rest : List ℕ)
     → passes plain_test (first ∷ second ∷ rest) ≡ passes plain_test (second ∷ rest)

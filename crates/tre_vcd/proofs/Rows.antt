@@ -1,10 +1,12 @@
 -- Files and what they say, by computation.
 use Rattle.std.specs.Prelude.{◌≡◌, ℕ, List, [], ◌∷◌, ◌++◌, true, None, Some, codes, refl}
 use Rattle.tre_trace.specs.Segments.{segment_with, plain_segment}
-use Rattle.tre_trace.specs.Reading.{Reading, Vocabulary, reading_for}
+use Rattle.tre_trace.specs.Reading.{Reading, Vocabulary, no_names, reading_for}
 use Rattle.tre_vcd.specs.VcdReading.{vcd_recording, token_says, end_says}
 use Rattle.tre_parts.specs.Format.{recording_from}
-use Rattle.tre_trace.specs.declared.fault.TraceKind.TheVariants.{UnknownName, TimeBack, CutShort}
+use Rattle.tre_trace.specs.declared.fault.TraceKind.TheVariants.{BadScale, UnknownName, TooFine, TimeBack, CutShort}
+use Rattle.tre_unit.specs.declared.unit.TimeUnit.{TimeUnit}
+use Rattle.tre_unit.specs.declared.unit.TimeUnit.TheVariants.{Nanoseconds, Microseconds, Picoseconds}
 
 lines : List (List ℕ) → List ℕ
 lines [] = []
@@ -17,6 +19,7 @@ said_for names bytes =
     reading_for asked (vcd_recording (record {
       declared = asked ∷ [];
       scale = 0;
+      unit = None;
       definitions = [];
     }) true bytes)
 
@@ -74,6 +77,7 @@ asking_event = record { names = []; events = codes "top.e" ∷ [] }
 events_say : reading_for asking_event (vcd_recording (record {
   declared = [];
   scale = 3;
+  unit = None;
   definitions = [];
 }) true
     (with_events (codes "#4 1% #6 $dumpall 1% $end #7 #7 0% ")))
@@ -84,3 +88,42 @@ events_say : reading_for asking_event (vcd_recording (record {
     }
 unfolding recording_from token_says end_says
 events_say = refl
+
+-- ---- in a unit of time
+
+abbrev in_unit : TimeUnit → List ℕ → Reading
+in_unit unit bytes = reading_for no_names (vcd_recording (record {
+  declared = [];
+  scale = 0;
+  unit = Some unit;
+  definitions = [];
+}) true bytes)
+
+abbrev timed : List ℕ → List ℕ → List ℕ
+timed said times =
+    codes "$timescale " ++ said ++ codes " $end $enddefinitions $end " ++ times
+
+-- ticks of 10 ns, in picoseconds, and then one of them in microseconds
+ticks_say : in_unit Picoseconds (timed (codes "10ns") (codes "#2 #0003 "))
+    ≡ record {
+      segments = plain_segment 20000 0 ∷ plain_segment 10000 0 ∷ [];
+      last = 0;
+      fault = None;
+    }
+unfolding recording_from token_says end_says
+ticks_say = refl
+
+too_fine : in_unit Microseconds (timed (codes "10 ns") (codes "#100 #250 "))
+    ≡ record {
+      segments = plain_segment 1 0 ∷ [];
+      last = 0;
+      fault = Some (record { place = 48; kind = TooFine });
+    }
+unfolding recording_from token_says end_says
+too_fine = refl
+
+-- of two, the first counts, and it says no tick
+bad_scale : in_unit Nanoseconds (codes "$timescale 2ns $end " ++ timed (codes "1ns") [])
+    ≡ record { segments = []; last = 0; fault = Some (record { place = 40; kind = BadScale }) }
+unfolding recording_from token_says end_says
+bad_scale = refl

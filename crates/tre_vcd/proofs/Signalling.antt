@@ -10,7 +10,7 @@ use Rattle.std.proofs.lemmas.Slice.Eq.{bytes_eq-Decides}
 use Rattle.std.proofs.Math.Seq.{get_or-append_seam}
 use Rattle.tre_define.specs.Named.{IsFront}
 use Rattle.tre_define.specs.Signals.{SignalDefined}
-use Rattle.tre_vcd.specs.Bases.{HasFront, HasSignal, HasSignals}
+use Rattle.tre_vcd.specs.Bases.{HasFront, HasSignal, HasSignals, HasTexts}
 use Rattle.tre_vcd.specs.declared.bases.Bases.{Bases}
 
 apart-step : (same others all : Bool) → (others ≡ false → all ≡ true)
@@ -57,21 +57,42 @@ signal-added {T = T} {E = E} (Ok value) mid new text fronts whole kept = record 
 }
 signal-added (Err error) mid new text fronts whole kept = tt
 
+-- more fronts are there
+signal-kept : (old new : Bases) (text : List ℕ)
+    → ((other : List ℕ) → HasFront old other → HasFront new other) → HasSignal old text
+    → HasSignal new text
+signal-kept old new text kept has = record {
+  fronts = λ front is. kept front (has.fronts front is);
+}
+
+texts-kept : (old new : Bases) (one : SignalDefined)
+    → ((other : List ℕ) → HasFront old other → HasFront new other) → HasTexts old one
+    → HasTexts new one
+texts-kept old new one kept has = record {
+  signal = signal-kept old new one.signal kept has.signal;
+  other = signal-kept old new one.other kept has.other;
+}
+
 -- one definition more
-pub signals-more : (old new : Bases) (all : List SignalDefined) (i : ℕ) (one : SignalDefined)
-    (text : List ℕ) → i < length all → get_or all i one ≡ one → text ≡ one.signal
-    → ((other : List ℕ) → HasFront old other → HasFront new other)
-    → HasSignals old (take i all) → HasSignal new text → HasSignals new (take (i + 1) all)
-signals-more old new all i one text below same is kept before own =
-    let Has : SignalDefined → Type 0 = λ it. HasSignal new it.signal in
-    let old_ones : All Has (take i all) = λ k d below. record {
-      fronts = λ front it. kept front ((before.each k d below).fronts front it);
+pub signals-more : (old mid new : Bases) (all : List SignalDefined) (i : ℕ) (one : SignalDefined)
+    (signal other : List ℕ) → i < length all → get_or all i one ≡ one → signal ≡ one.signal
+    → other ≡ one.other → ((text : List ℕ) → HasFront old text → HasFront mid text)
+    → ((text : List ℕ) → HasFront mid text → HasFront new text)
+    → HasSignals old (take i all) → HasSignal mid signal → HasSignal new other
+    → HasSignals new (take (i + 1) all)
+signals-more old mid new all i one signal other below same is other_is first second before own
+    last =
+    let kept = λ (text : List ℕ) (has : HasFront old text). second text (first text has) in
+    let old_ones : All (HasTexts new) (take i all) =
+    λ k d within. texts-kept old new (get_or (take i all) k d) kept (before.each k d within) in
+    let both : HasTexts new one = record {
+      signal = subst (HasSignal new) is (signal-kept mid new signal second own);
+      other = subst (HasSignal new) other_is last;
     } in
-    let last : Has (get_or all i one) =
-    subst Has (sym same) (subst (HasSignal new) is own) in
     record {
-      each = subst (All Has) (sym (take_more all i one below))
-          (All-push Has (take i all) (get_or all i one) old_ones last);
+      each = subst (All (HasTexts new)) (sym (take_more all i one below))
+          (All-push (HasTexts new) (take i all) (get_or all i one) old_ones
+          (subst (HasTexts new) (sym same) both));
     }
 
 -- one place more

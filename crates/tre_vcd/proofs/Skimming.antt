@@ -1,9 +1,6 @@
 -- Tokens among the values, that are read one after the other.
-use Rattle.std.specs.Str.Parse.{digits_value}
-use Rattle.std.proofs.Common.{◌≡◌, ◌≢◌, ℕ, ◌+◌, ◌-◌, ◌*◌, ◌^◌, ◌≤◌, ◌<◌, min, nat_lt, ◌==◌, true, false, List, [], ◌∷◌, append-nil, length, Result, refl, sym, ◌∙◌, subst, arith, if◌then◌else◌, rules}
+use Rattle.std.proofs.Common.{◌≡◌, ℕ, ◌+◌, ◌≤◌, ◌<◌, nat_lt, ◌==◌, true, false, List, [], ◌∷◌, append-nil, length, Result, refl, sym, ◌∙◌, subst, arith, if◌then◌else◌, rules}
 use Rattle.std.proofs.lemmas.Bool.Decides.{nat_tests}
-use Rattle.tre_decimal.specs.Decimal.{is_numeral}
-use Rattle.tre_pairs.specs.declared.TheConstants.{TIME_MAX}
 use Rattle.tre_parts.specs.Bytes.{between, IsNextAt}
 use Rattle.tre_parts.specs.Format.{Step}
 use Rattle.tre_parts.specs.Skims.{Skims}
@@ -16,8 +13,9 @@ use Rattle.tre_trace.specs.declared.fault.TraceKind.{TraceKind}
 use Rattle.tre_trace.specs.declared.segment.Segment.{Segment}
 use Rattle.tre_vcd.specs.Kept.{KnowsOfPast}
 use Rattle.tre_vcd.specs.Sections.{Holds, KnowsPast}
-use Rattle.tre_vcd.specs.Signals.{KnowsChanges, KnowsSignals}
-use Rattle.tre_vcd.specs.VcdReading.{Terms, Form, scalar, wide, Statement, change, time, Open, nothing, vector, Place, is_defined, is_white, of_changes, time_at, stretch_until, goes_to, scalar_says, ticks_say, value_says, vector_says, token_says, vcd_format}
+use Rattle.tre_vcd.specs.Defined.{KnowsSignals}
+use Rattle.tre_vcd.specs.Signals.{KnowsChanges}
+use Rattle.tre_vcd.specs.VcdReading.{Terms, Form, scalar, wide, Statement, change, time, Open, nothing, vector, Place, is_defined, is_white, of_changes, time_at, goes_to, scalar_says, value_says, vector_says, token_says, vcd_format}
 use Rattle.tre_vcd.specs.Taken.{IsTaken}
 use Rattle.tre_vcd.specs.declared.changes.Changes.{Changes}
 use Rattle.tre_vcd.specs.declared.inside.Inside.TheVariants.{Nothing}
@@ -27,6 +25,7 @@ use Rattle.tre_vcd.specs.declared.skim.Taken.TheVariants.{Not, Vector}
 use Rattle.tre_vcd.specs.declared.token_reader.TokenReader.{TokenReader}
 use Rattle.tre_vcd.proofs.Changing.{past-changed}
 use Rattle.tre_vcd.proofs.Needing.{needed-same}
+use Rattle.tre_vcd.proofs.Pairing.{pairs-timed}
 use Rattle.tre_vcd.proofs.Standing.{reads-no_var, stays-time}
 use Rattle.tre_vcd.proofs.Staying.{offers-stay, past-stays, tests-stay-time}
 
@@ -102,6 +101,7 @@ holds-later reader past ticks kept changes known changed holds =
           knows.needed;
       signals = record {
         tests = tests-stay-time past ticks _ reader.names reader.signals.tests knows.signals.tests;
+        pairs = pairs-timed past ticks _ reader.names _ reader.signals.pairs knows.signals.pairs;
         changes = changed;
       };
       offers = offers-stay _ past (time ticks ∷ past) reader.needed
@@ -144,23 +144,6 @@ pub vector-taken : (asked : Vocabulary) (holds : Place → Type 0) (past : List 
     (if length rest == 0 then Not else Vector)
 vector-taken asked holds past said [] letters segments is same held = (held, refl)
 vector-taken asked holds past said (byte ∷ rest) letters segments is same held = search rules
-
-module _ (terms : Terms) (past : List Statement) (digits : List ℕ) (ticks : ℕ)
-    (numeral : is_numeral digits ≡ true)
-    (value : ticks ≡ min (digits_value 10 digits * 10 ^ terms.scale) (2 ^ 64 - 1))
-    (in_time : ticks ≤ TIME_MAX) where
-  -- the time that it was
-  pub time-again : {holds : Place → Type 0} → ticks ≡ time_at past
-      → holds (record { past = time ticks ∷ past; inside = nothing })
-      → PartGoesOn (ticks_say terms past digits) [] holds
-  time-again same held = search rules
-
-  -- a later one, which ends a stretch
-  pub time-later : {holds : Place → Type 0} → time_at past ≤ ticks → ticks ≢ time_at past
-      → holds (record { past = time ticks ∷ past; inside = nothing })
-      → PartGoesOn (ticks_say terms past digits) (stretch_until terms.definitions past ticks ∷ [])
-      holds
-  time-later late apart held = search rules
 
 below : (a b : ℕ) → a < b → nat_lt a b ≡ true
 below a b lt = grind (arith, nat_tests)

@@ -1,6 +1,6 @@
 -- Statements that say nothing of definitions.
 use Rattle.std.proofs.Common.{◌≡◌, ℕ, List, ◌∷◌, None, rules}
-use Rattle.tre_vcd.specs.VcdReading.{Statement, scope, upscope, var, dump, dump_end, definitions, time, change, time_at, scopes_at, offer_in}
+use Rattle.tre_vcd.specs.VcdReading.{Statement, scope, upscope, var, timescale, dump, dump_end, definitions, time, change, time_at, scopes_at, offer_in}
 use Rattle.tre_vcd.proofs.Staying.{ReadsSame, StaysSame}
 
 -- it is no declaration
@@ -16,6 +16,7 @@ reads-no_var statement past is = search rules
 abbrev pub IsStill : Statement → Type 0
 IsStill (scope name) = Unit {0}
 IsStill upscope = Unit {0}
+IsStill (timescale tokens) = Unit {0}
 IsStill dump = Unit {0}
 IsStill dump_end = Unit {0}
 IsStill _ = ⊥
@@ -24,6 +25,7 @@ pub stays : (statement : Statement) (past : List Statement) → IsStill statemen
     → StaysSame past (statement ∷ past)
 stays (scope name) past is = search rules
 stays upscope past is = search rules
+stays (timescale tokens) past is = search rules
 stays dump past is = search rules
 stays dump_end past is = search rules
 stays (var tokens) past is = absurd is

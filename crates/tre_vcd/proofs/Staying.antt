@@ -1,17 +1,19 @@
 -- What is known by definitions, behind a statement that says nothing of them.
 use Rattle.std.specs.Global.{Vec}
-use Rattle.std.proofs.Common.{◌≡◌, ℕ, Bool, true, false, List, [], ◌∷◌, map, Option, None, Some, refl, sym, ap, ap₂, ◌∙◌, rules}
+use Rattle.std.proofs.Common.{◌≡◌, ℕ, Bool, true, false, List, [], ◌∷◌, map, Option, None, Some, refl, sym, ap, ap₂, ◌∙◌, not, ◌&&◌, ◌||◌, if◌then◌else◌, rules}
 use Rattle.std.proofs.Math.Path.{fun_ext}
 use Rattle.std.specs.Option.{is_some, option_map_or}
 use Rattle.std.specs.Int.{bit_at}
 use Rattle.tre_define.specs.Signals.{SignalDefined}
 use Rattle.tre_define.specs.declared.part.Part.{Part}
 use Rattle.tre_define.specs.declared.test.Test.{Test}
-use Rattle.tre_vcd.specs.VcdReading.{Statement, time, is_defined, letters_at, before_now, Asked, differs, is_passed}
+use Rattle.tre_vcd.specs.VcdReading.{Statement, time, is_defined, letters_at, before_now, Asked, first_read, part_in, differs, is_passed}
 use Rattle.tre_vcd.specs.Kept.{KnowsOfPast, identifier_of}
-use Rattle.tre_vcd.specs.Offers.{KnowsOffers}
+use Rattle.tre_vcd.specs.Offers.{KnowsOffers, is_compared}
+use Rattle.tre_vcd.specs.Pairs.{side_read}
 use Rattle.tre_vcd.specs.Sections.{KnowsPast}
-use Rattle.tre_vcd.specs.Signals.{SignalsAreWatched, KnowsAt, KnowsChanges, KnowsSignals, KnowsTests, bit_of, has_changed, part_kept, part_read, test_at, test_read, watched_at}
+use Rattle.tre_vcd.specs.Defined.{KnowsSignals}
+use Rattle.tre_vcd.specs.Signals.{SignalsAreWatched, KnowsAt, KnowsChanges, KnowsTests, bit_of, has_changed, part_kept, part_read, test_at, test_read, watched_at}
 use Rattle.tre_vcd.specs.declared.changes.Changes.{Changes}
 use Rattle.tre_vcd.specs.declared.changes.Watched.{Watched}
 use Rattle.tre_vcd.specs.declared.found.Found.{Found}
@@ -21,6 +23,7 @@ use Rattle.tre_vcd.specs.declared.signals.Signals.{Signals}
 use Rattle.tre_vcd.specs.declared.tests.Tests.{Tests}
 use Rattle.tre_vcd.specs.declared.token_reader.TokenReader.{TokenReader}
 use Rattle.tre_vcd.proofs.Needing.{needed-same}
+use Rattle.tre_vcd.proofs.Pairing.{pairs-alike}
 use Rattle.tre_vcd.proofs.Testing.{tested-same}
 
 -- Looking back from two pasts, definitions read the same.
@@ -29,6 +32,7 @@ pub record ReadsSame (past now : List Statement) : Type 0 where
       ≡ test_read past definition
   pub parts : (definition : Option SignalDefined) → part_read now definition
       ≡ part_read past definition
+  pub texts : (text : List ℕ) → first_read (part_in text) now ≡ first_read (part_in text) past
 
 -- So are the letters, now and before.
 pub record SaysSame (past now : List Statement) : Type 0 where
@@ -116,11 +120,18 @@ changes-stay past now all names kept same knows = record {
       (bit_at kept.happened k) same.says (knows.each k);
 }
 
+sides-same : (past now : List Statement) → ReadsSame past now → (text : Option (List ℕ))
+    → side_read now text ≡ side_read past text
+sides-same past now same None = refl
+sides-same past now same (Some text) = same.texts text
+
 pub signals-stay : (past now : List Statement) (names events : List (List ℕ)) (kept : Signals)
     → StaysSame past now → KnowsSignals names events kept past
     → KnowsSignals names events kept now
 signals-stay past now names events kept same knows = record {
   tests = tests-stay past now _ names kept.tests same knows.tests;
+  pairs = pairs-alike past now _ names kept.tests.sieve kept.pairs
+      (sides-same past now same.reads) same.says.letters same.defined knows.pairs;
   changes = changes-stay past now _ events kept.changes same knows.changes;
 }
 
@@ -129,7 +140,11 @@ pub offers-stay : (all : List SignalDefined) (past now : List Statement) (found 
 offers-stay all past now found same knows = record {
   same = knows.same;
   tests = knows.tests ∙ ap (λ (f : SignalDefined → Bool). map f found.needed.value.tests.items)
-      (fun_ext (λ one. ap is_some (sym (same.tests (Some one)))));
+      (fun_ext (λ one. ap₂ (λ a b. if is_compared one then is_some a else is_some b)
+      (sym (same.texts one.signal)) (sym (same.tests (Some one)))));
+  others = knows.others ∙ ap (λ (f : SignalDefined → Bool). map f found.needed.value.tests.items)
+      (fun_ext (λ one. ap (λ b. not (is_compared one) || (is_compared one && is_some b))
+      (sym (same.texts one.other))));
   changes = knows.changes
       ∙ ap (λ (f : SignalDefined → Bool). map f found.needed.value.changes.items)
       (fun_ext (λ one. ap is_some (sym (same.parts (Some one)))));

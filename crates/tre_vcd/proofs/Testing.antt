@@ -14,7 +14,7 @@ use Rattle.tre_trace.specs.Reading.{bits_of}
 use Rattle.tre_define.specs.Signals.{SignalDefined, signal_definition_of, test_in}
 use Rattle.tre_define.specs.Values.{passes, plain_test}
 use Rattle.tre_define.specs.declared.test.Test.{Test}
-use Rattle.tre_vcd.specs.VcdReading.{Form, Statement, scope, upscope, var, definitions, time, change, dump, dump_end, is_defined, scopes_at, Offer, offer_in, Asked, asking, asked_in, signal_in, is_signal, identifier_in, first_read, letters_at, is_passed, true_at}
+use Rattle.tre_vcd.specs.VcdReading.{Form, Statement, scope, upscope, var, timescale, definitions, time, change, dump, dump_end, is_defined, scopes_at, Offer, offer_in, Asked, asking, asked_in, signal_in, is_signal, identifier_in, first_read, letters_at, is_passed, tested_at}
 use Rattle.tre_vcd.specs.Kept.{IsQuiet, ends_true, identifier_of, value_at, mask_from}
 use Rattle.tre_vcd.specs.Signals.{AreDefined, AreTested, KnowsTests, bit_of, bit_told, has_at, has_test_at, test_at, test_kept, test_read, test_told}
 use Rattle.tre_vcd.specs.declared.tests.Tested.{Tested}
@@ -98,6 +98,7 @@ plain-read (var tokens ∷ past) name =
     (plain-read past name)
     ∙ asking-or plain_test (identifier_of is_signal past name)
     (identifier_in is_signal (scopes_at past) name tokens)
+plain-read (timescale tokens ∷ past) name = plain-read past name
 plain-read (definitions ∷ past) name = plain-read past name
 plain-read (time ticks ∷ past) name = plain-read past name
 plain-read (change form other letters ∷ past) name = plain-read past name
@@ -118,7 +119,7 @@ plain-passed past (Some identifier) = plain-letters (letters_at past identifier)
 plain-true : (all : List SignalDefined) (past : List Statement) (name : List ℕ)
     → signal_definition_of all name ≡ None
     → option_map_or (value_at past) (identifier_of is_signal past name) false
-    ≡ true_at all past name
+    ≡ tested_at all past name
 plain-true all past name none =
     search (rules, plain-passed, identifier_of, is_signal, is_passed, plain-read, first_read)
 
@@ -137,7 +138,7 @@ chosen-one : (all : List SignalDefined) (past : List Statement) (name : List ℕ
     → definition ≡ signal_definition_of all name → test_kept tested ≡ test_read past definition
     → either (is_some definition) (option_map_or (is_passed past) (test_kept tested) false)
     (option_map_or (value_at past) (identifier_of is_signal past name) false)
-    ≡ true_at all past name
+    ≡ tested_at all past name
 chosen-one all past name tested None own is kept = plain-true all past name (sym is)
 chosen-one all past name tested (Some one) own is kept = search rules
 
@@ -146,7 +147,7 @@ chosen : (all : List SignalDefined) (past : List Statement) (names : List (List 
     → AreDefined all names (map (λ tested. tested.definition) list) → AreTested past list
     → either (has_test_at list k) (option_map_or (is_passed past) (test_at list k) false)
     (passes_at (identifier_of is_signal past) (value_at past) names k)
-    ≡ passes_at Some (true_at all past) names k
+    ≡ passes_at Some (tested_at all past) names k
 chosen all past [] [] k defined are = refl
 chosen all past [] (tested ∷ list) k defined are = cc (defined)
 chosen all past (name ∷ names) [] zero defined are = plain-true all past name defined.0
@@ -187,9 +188,9 @@ pub valuation-is : (all : List SignalDefined) (past : List Statement) (names : L
     → ((k : ℕ) → bit_at mask k ≡ bit_of (has_test_at list k))
     → ((k : ℕ) → bit_at values k
     ≡ bit_of (option_map_or (is_passed past) (test_at list k) false))
-    → result ≡ bits_of (true_at all past) names
+    → result ≡ bits_of (tested_at all past) names
 valuation-is all past names list result plain mask values defined are is plain_is masked own =
-    same_from_bits result (mask_from Some (true_at all past) 0 names) (λ k.
+    same_from_bits result (mask_from Some (tested_at all past) 0 names) (λ k.
     let both : bit_at result k
     ≡ max ((bit_at plain k + min (bit_at plain k) (bit_at mask k)) % 2) (bit_at values k) =
     ap (λ n. bit_at n k) is
@@ -203,8 +204,8 @@ valuation-is all past names list result plain mask values defined are is plain_i
     (bit_at plain k) (bit_at mask k) (bit_at values k) both plain_bit (masked k) (own k)
     (λ none. none-passes past (test_at list k) (unasked past list k are none))
     ∙ ap bit_of (chosen all past names list k defined are)
-    ∙ sym (bit_in Some (true_at all past) names k))
-    ∙ mask-bits Some (true_at all past) names
+    ∙ sym (bit_in Some (tested_at all past) names k))
+    ∙ mask-bits Some (tested_at all past) names
 
 -- ---- what is kept of tests, one statement later
 
@@ -250,6 +251,20 @@ pub tests-sifted : (all : List SignalDefined) (names : List (List ℕ)) (kept : 
     → KnowsTests all names (record kept { sieve = sieve }) (definitions ∷ past)
 tests-sifted all names kept past sieve sifted knows =
     search (rules, tested-same, read-defined, at-below, bit_of, passed-defined, kept.list.items)
+
+-- where the sieve is told of more
+pub tests-sieved : (all : List SignalDefined) (names : List (List ℕ)) (kept : Tests)
+    (past : List Statement) (sieve : List ℕ)
+    → ((identifier : List ℕ) (k : ℕ) → MayBe kept.sieve identifier k → MayBe sieve identifier k)
+    → KnowsTests all names kept past → KnowsTests all names (record kept { sieve = sieve }) past
+tests-sieved all names kept past sieve more knows = record {
+  few = knows.few;
+  definitions = knows.definitions;
+  tests = knows.tests;
+  sieve = λ e k asked is. more asked.identifier k (knows.sieve e k asked is);
+  defined = knows.defined;
+  values = knows.values;
+}
 
 -- a number that isn't told has another identifier
 pub tests-changed : (all : List SignalDefined) (names : List (List ℕ)) (kept : Tests)

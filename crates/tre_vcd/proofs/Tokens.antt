@@ -2,10 +2,11 @@
 use Rattle.std.proofs.Common.{◌≡◌, ℕ, ◌<◌, ◌≤◌, nat_lt, Bool, true, false, List, [], ◌∷◌, length, map, get_or, take, Result, refl, sym, ap, ◌∙◌, arith, if◌then◌else◌, rules}
 use Rattle.std.proofs.lemmas.List.{get_or-map, length-map}
 use Rattle.std.proofs.lemmas.Bool.Decides.{nat_tests}
-use Rattle.tre_vcd.specs.VcdReading.{Statement, Place, scope, upscope, var, definitions, nothing, path, is_signal, is_event, goes_to, scope_says, declaration_says, section_says}
+use Rattle.tre_vcd.specs.VcdReading.{Statement, Place, scope, upscope, var, timescale, definitions, nothing, path, is_signal, is_event, goes_to, scope_says, declaration_says, section_says}
 use Rattle.tre_vcd.specs.Sections.{command_of}
+use Rattle.tre_vcd.specs.Timescale.{tick_of}
 use Rattle.tre_vcd.specs.declared.command.Command.{Command}
-use Rattle.tre_vcd.specs.declared.command.Command.TheVariants.{Scope, Upscope, Var, EndDefinitions, Other}
+use Rattle.tre_vcd.specs.declared.command.Command.TheVariants.{Scope, Upscope, Var, Timescale, EndDefinitions, Other}
 use Rattle.tre_parts.specs.Format.{Step}
 use Rattle.tre_trace.specs.declared.fault.TraceKind.{TraceKind}
 use Rattle.tre_vcd.specs.Kept.{Declares, DeclaresNone, DeclaresNoneWithin}
@@ -64,25 +65,35 @@ abbrev pub ended_by : Command → List Statement → List (List ℕ) → Result 
 ended_by Scope past tokens = scope_says past tokens
 ended_by Upscope past tokens = goes_to (upscope ∷ past) nothing
 ended_by Var past tokens = declaration_says past tokens
+ended_by Timescale past tokens = goes_to (timescale tokens ∷ past) nothing
 ended_by EndDefinitions past tokens = goes_to (definitions ∷ past) nothing
 ended_by Other past tokens = goes_to past nothing
 
-picked : (a b c d : Bool) (past : List Statement) (tokens : List (List ℕ))
+picked : (a b c d e : Bool) (past : List Statement) (tokens : List (List ℕ))
     → (if a then scope_says past tokens else (if b then goes_to (upscope ∷ past) nothing
     else (if c then declaration_says past tokens
-    else (if d then goes_to (definitions ∷ past) nothing else goes_to past nothing))))
+    else (if d then goes_to (timescale tokens ∷ past) nothing
+    else (if e then goes_to (definitions ∷ past) nothing else goes_to past nothing)))))
     ≡ ended_by (if a then Scope else (if b then Upscope else (if c then Var else (if d then
-    EndDefinitions else Other)))) past tokens
-picked true b c d past tokens = refl
-picked false true c d past tokens = refl
-picked false false true d past tokens = refl
-picked false false false true past tokens = refl
-picked false false false false past tokens = refl
+    Timescale else (if e then EndDefinitions else Other))))) past tokens
+picked true b c d e past tokens = refl
+picked false true c d e past tokens = refl
+picked false false true d e past tokens = refl
+picked false false false true e past tokens = refl
+picked false false false false true past tokens = refl
+picked false false false false false past tokens = refl
 
 pub section-ended : (past : List Statement) (word : List ℕ) (tokens : List (List ℕ))
     (command : Command) → command ≡ command_of word
     → section_says past word tokens ≡ ended_by command past tokens
 section-ended past word tokens command is = search rules
+
+-- a `$timescale` has two tokens at most that say a tick
+pub tick-kept : (tokens : List (List ℕ)) → tick_of (take 6 tokens) ≡ tick_of tokens
+tick-kept [] = refl
+tick-kept (both ∷ []) = refl
+tick-kept (number ∷ unit ∷ []) = refl
+tick-kept (a ∷ b ∷ c ∷ tokens) = refl
 
 -- an element of a list that is kept in another form
 pub kept-at : {X : Type 0} (f : X → List ℕ) (items : List X) (kept : List (List ℕ)) (i : ℕ)

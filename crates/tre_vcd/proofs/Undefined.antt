@@ -4,17 +4,24 @@ use Rattle.std.specs.Prelude.{All}
 use Rattle.std.proofs.lemmas.Bool.Decides.{nat_tests}
 use Rattle.std.specs.Option.{is_some, option_and_then}
 use Rattle.std.specs.Int.{bit_at}
+use Rattle.std.specs.List.{slice_get}
+use Rattle.std.proofs.lemmas.Bool.{false≢true}
 use Rattle.std.proofs.lemmas.List.Elements.{All-head}
 use Rattle.tre_define.specs.Signals.{SignalDefined, signal_definition_of}
 use Rattle.tre_vcd.specs.VcdReading.{Statement, of_changes}
 use Rattle.tre_vcd.specs.Offers.{KnowsOffers}
-use Rattle.tre_vcd.specs.Signals.{AreDefined, AreTested, SignalsAreWatched, KnowsAt, KnowsChanges, KnowsSignals, KnowsTests, bit_of, has_at, part_at, part_kept, part_read, test_at, test_read, watched_at}
+use Rattle.tre_vcd.specs.Pairs.{KnowsPairAt, KnowsPaired, KnowsPairs, KnowsSide, one_text, other_text, reads_at, side_read}
+use Rattle.tre_vcd.specs.Defined.{KnowsSignals}
+use Rattle.tre_vcd.specs.Signals.{AreDefined, AreTested, SignalsAreWatched, KnowsAt, KnowsChanges, KnowsTests, bit_of, has_at, part_at, part_kept, part_read, test_at, test_read, watched_at}
 use Rattle.tre_vcd.specs.declared.changes.Changes.{Changes}
 use Rattle.tre_vcd.specs.declared.changes.Watched.{Watched}
 use Rattle.tre_vcd.specs.declared.found.Found.{Found}
+use Rattle.tre_vcd.specs.declared.pairs.Paired.{Paired}
+use Rattle.tre_vcd.specs.declared.pairs.Pairs.{Pairs}
 use Rattle.tre_vcd.specs.declared.signals.Signals.{Signals}
 use Rattle.tre_vcd.specs.declared.tests.Tested.{Tested}
 use Rattle.tre_vcd.specs.declared.tests.Tests.{Tests}
+use Rattle.tre_vcd.proofs.Pairing.{side-none}
 use Rattle.tre_vcd.proofs.Testing.{none-passes, unasked}
 use Rattle.tre_vcd.proofs.Watching as watching
 
@@ -76,6 +83,53 @@ changes-undefined past now names kept knows =
           (bit_at kept.happened k) (none k) (knows.each k);
     }
 
+paired-undefined : (past now : List Statement) (paired : Paired) → paired.definition ≡ None
+    → KnowsPaired past paired → KnowsPaired now paired
+paired-undefined past now paired is knows = record {
+  one = subst (λ text. KnowsSide now text paired.one) (sym (ap one_text is))
+      (side-none past now paired.one
+      (subst (λ text. KnowsSide past text paired.one) (ap one_text is) knows.one));
+  other = subst (λ text. KnowsSide now text paired.other) (sym (ap other_text is))
+      (side-none past now paired.other
+      (subst (λ text. KnowsSide past text paired.other) (ap other_text is) knows.other));
+}
+
+paired-none : (past now : List Statement) (names : List (List ℕ)) (list : List Paired)
+    → AreDefined [] names (map (λ paired. paired.definition) list) → (k value : ℕ)
+    → KnowsPairAt past (slice_get list k) value → KnowsPairAt now (slice_get list k) value
+paired-none past now names [] defined k value knows = knows
+paired-none past now [] (paired ∷ list) defined k value knows = absurd (cc (defined))
+paired-none past now (name ∷ names) (paired ∷ list) defined zero value knows =
+    (paired-undefined past now paired defined.0 knows.0, knows.1)
+paired-none past now (name ∷ names) (paired ∷ list) defined (suc k) value knows =
+    paired-none past now names list defined.1 k value knows
+
+unread-none : (past : List Statement) (names : List (List ℕ)) (list : List Paired)
+    → AreDefined [] names (map (λ paired. paired.definition) list)
+    → ((k : ℕ) → (value : ℕ) × KnowsPairAt past (slice_get list k) value) → (k : ℕ)
+    (identifier : List ℕ) → reads_at (slice_get list k) identifier ≡ false
+unread-none past names [] defined each k identifier = refl
+unread-none past [] (paired ∷ list) defined each k identifier = absurd (cc (defined))
+unread-none past (name ∷ names) (paired ∷ list) defined each zero identifier =
+    let knows = (each 0).1.0 in
+    rw (
+      knows.one.asked ∙ ap (side_read past) (ap one_text defined.0),
+      knows.other.asked ∙ ap (side_read past) (ap other_text defined.0),
+    ) refl
+unread-none past (name ∷ names) (paired ∷ list) defined each (suc k) identifier =
+    unread-none past names list defined.1 (λ i. each (suc i)) k identifier
+
+pairs-undefined : (past now : List Statement) (names : List (List ℕ)) (sieve : List ℕ)
+    (kept : Pairs) → KnowsPairs [] names sieve kept past → KnowsPairs [] names sieve kept now
+pairs-undefined past now names sieve kept knows = record {
+  few = knows.few;
+  definitions = knows.definitions;
+  each = λ k. paired-none past now names kept.list.items knows.definitions k _ (knows.each k);
+  sifted = λ e k identifier reads. absurd (false≢true (sym (unread-none past names kept.list.items
+      knows.definitions (λ i. (_, knows.each i)) k identifier) ∙ reads));
+  compared = knows.compared;
+}
+
 pub signals-undefined : (names events : List (List ℕ)) (kept : Signals)
     (past now : List Statement) → (length kept.definitions.items == 0) ≡ true
     → KnowsSignals names events kept past → KnowsSignals names events kept now
@@ -86,6 +140,10 @@ signals-undefined names events kept past now empty knows =
           subst (λ all. KnowsTests all names kept.tests now) (sym none)
           (tests-undefined past now names kept.tests
           (subst (λ all. KnowsTests all names kept.tests past) none knows.tests));
+      pairs =
+          subst (λ all. KnowsPairs all names kept.tests.sieve kept.pairs now) (sym none)
+          (pairs-undefined past now names kept.tests.sieve kept.pairs
+          (subst (λ all. KnowsPairs all names kept.tests.sieve kept.pairs past) none knows.pairs));
       changes =
           subst (λ all. KnowsChanges (of_changes all) events kept.changes now) (sym none)
           (changes-undefined past now events kept.changes
@@ -109,6 +167,8 @@ offers-undefined past now found knows = record {
   same = knows.same;
   tests = flags-none _ _ found.needed.value.tests.items found.tests.items
       (own-none found.needed.value.tests.items knows.names.defined) knows.tests;
+  others = flags-none _ _ found.needed.value.tests.items found.others.items
+      (own-none found.needed.value.tests.items knows.names.defined) knows.others;
   changes = flags-none _ _ found.needed.value.changes.items found.changes.items
       (own-none found.needed.value.changes.items knows.events.defined) knows.changes;
   names = knows.names;

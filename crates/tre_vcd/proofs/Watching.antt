@@ -15,7 +15,7 @@ use Rattle.tre_define.specs.Values.{differ_from, letter_at}
 use Rattle.tre_define.specs.declared.part.Part.{Part}
 use Rattle.tre_state.specs.Sieve.{MayBe}
 use Rattle.tre_trace.specs.Reading.{bits_of}
-use Rattle.tre_vcd.specs.VcdReading.{Form, Statement, scope, upscope, var, definitions, time, change, dump, dump_end, is_defined, time_at, scopes_at, Offer, offer_in, Asked, Occasion, scalar_said, asking, asked_in, occasion_in, event_read_by, is_event, identifier_in, first_read, letters_at, before_now, happened_at, differs, is_come, of_changes, happens_at}
+use Rattle.tre_vcd.specs.VcdReading.{Form, Statement, scope, upscope, var, timescale, definitions, time, change, dump, dump_end, is_defined, time_at, scopes_at, Offer, offer_in, Asked, Occasion, scalar_said, asking, asked_in, occasion_in, event_read_by, is_event, identifier_in, first_read, letters_at, before_now, happened_at, differs, is_come, of_changes, happens_at}
 use Rattle.tre_vcd.specs.Kept.{IsQuiet, identifier_of, mask_from}
 use Rattle.tre_vcd.specs.Signals.{AreDefined, SignalsAreWatched, KnowsAt, KnowsChanges, KnowsPart, KnowsWatched, SameAsked, bit_of, has_at, has_changed, has_part_at, letters_kept, occasion_of, part_at, part_kept, part_read, reads_part, watched_at}
 use Rattle.tre_vcd.specs.declared.changes.Changes.{Changes}
@@ -192,6 +192,7 @@ plain-event (var tokens ∷ past) name =
     (plain-event past name)
     ∙ asking-or scalar_said (identifier_of is_event past name)
     (identifier_in is_event (scopes_at past) name tokens)
+plain-event (timescale tokens ∷ past) name = plain-event past name
 plain-event (definitions ∷ past) name = plain-event past name
 plain-event (time ticks ∷ past) name = plain-event past name
 plain-event (change form other letters ∷ past) name = plain-event past name
@@ -340,6 +341,7 @@ before-quiet [] identifier none = refl
 before-quiet (scope other ∷ past) identifier none = before-quiet past identifier none
 before-quiet (upscope ∷ past) identifier none = before-quiet past identifier none
 before-quiet (var tokens ∷ past) identifier none = before-quiet past identifier none
+before-quiet (timescale tokens ∷ past) identifier none = before-quiet past identifier none
 before-quiet (definitions ∷ past) identifier none = before-quiet past identifier none
 before-quiet (time ticks ∷ past) identifier none =
     before-time past identifier (ticks == time_at past) none (before-quiet past identifier none)

@@ -16,5 +16,10 @@ pub record HasFront (bases : Bases) (name : List ℕ) : Type 0 where
 pub record HasSignal (bases : Bases) (text : List ℕ) : Type 0 where
   pub fronts : (front : List ℕ) → IsFront front text → HasFront bases front
 
+-- So are those of both texts of a definition.
+pub record HasTexts (bases : Bases) (one : SignalDefined) : Type 0 where
+  pub signal : HasSignal bases one.signal
+  pub other : HasSignal bases one.other
+
 pub record HasSignals (bases : Bases) (all : List SignalDefined) : Type 0 where
-  pub each : All (λ one. HasSignal bases one.signal) all
+  pub each : All (HasTexts bases) all

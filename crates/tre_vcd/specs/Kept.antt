@@ -1,18 +1,22 @@
 -- What the reader keeps of the past: each field is what a look back over it finds.
-use Rattle.std.specs.Prelude.{◌≡◌, ◌≤◌, ℕ, zero, suc, ◌+◌, ◌-◌, ◌^◌, Bool, true, false, ◌==◌, List, [], ◌∷◌, ◌++◌, length, map, All, Option, None, Some, slice_index, if◌then◌else◌}
-use Rattle.std.specs.Option.{is_some, option_map, option_map_or, option_or}
+use Rattle.std.specs.Prelude.{◌≡◌, ◌≤◌, ℕ, zero, suc, ◌+◌, ◌-◌, ◌^◌, min, Bool, true, false, ◌==◌, List, [], ◌∷◌, ◌++◌, length, map, All, Option, None, Some, slice_index, if◌then◌else◌}
+use Rattle.std.specs.Option.{is_some, option_and_then, option_map, option_map_or, option_or}
 use Rattle.std.specs.Str.{bytes_eq}
+use Rattle.std.specs.Str.Parse.{digits_value}
+use Rattle.tre_decimal.specs.Decimal.{is_numeral}
 use Rattle.std.specs.Int.{bit_at}
 use Rattle.tre_state.specs.Sieve.{MayBe}
 use Rattle.tre_trace.specs.Reading.{Vocabulary}
-use Rattle.tre_vcd.specs.VcdReading.{Statement, var, is_defined, time_at, scopes_at, in_dump, letters_at, happened_at, is_signal, is_event, identifier_in}
+use Rattle.tre_vcd.specs.VcdReading.{Statement, var, is_defined, time_at, scopes_at, timescale_at, in_dump, letters_at, happened_at, is_signal, is_event, identifier_in}
 use Rattle.tre_vcd.specs.declared.variable.Variable.{Variable}
 use Rattle.tre_vcd.specs.declared.variables.Variables.{Variables}
 use Rattle.tre_vcd.specs.declared.past.Past.{Past}
+use Rattle.tre_vcd.specs.declared.timescale.Tick.{Tick}
 use Rattle.tre_vcd.specs.declared.needed.Needed.{Needed}
 use Rattle.tre_vcd.specs.declared.found.Found.{Found}
 use Rattle.tre_vcd.specs.Brief.{IsBriefOf}
 use Rattle.tre_vcd.specs.Needs.{needs}
+use Rattle.tre_vcd.specs.Timescale.{shifted, tick_of}
 
 -- ---- names that have no definition
 
@@ -111,6 +115,10 @@ pub record AreHaving (variables : List Variable) (identifier : List ℕ) (bits :
   pub sound : (k : ℕ) → bit_at bits k ≡ 1 → identifier_at variables k ≡ Some identifier
   pub whole : (k : ℕ) → identifier_at variables k ≡ Some identifier → bit_at bits k ≡ 1
 
+-- how long a tick takes, where this is known
+abbrev pub tick_kept : Past → Option Tick
+tick_kept kept = option_and_then (λ tick. tick) kept.tick
+
 -- ---- all fields
 
 -- Nothing has changed, and no event has happened.
@@ -127,6 +135,7 @@ pub record KnowsOfPast (names event_names : List (List ℕ)) (kept : Past) (past
     pub dump : kept.in_dump ≡ in_dump past
     pub time : kept.time ≡ time_at past
     pub scopes : AreScopes (scopes_at past) kept.scopes.prefix.items kept.scopes.lens.items
+    pub tick : kept.tick ≡ option_map tick_of (timescale_at past)
     pub propositions : KeepsNames (identifier_of is_signal past) names kept.propositions
     pub events : KeepsNames (identifier_of is_event past) event_names kept.events
     pub values : kept.values ≡ valuation_behind past names
@@ -183,3 +192,12 @@ pub record DeclaresNone (test : List ℕ → List ℕ → Bool) (scopes tokens :
 pub record DeclaresNoneWithin (longest : ℕ) (test : List ℕ → List ℕ → Bool)
     (scopes tokens : List (List ℕ)) : Type 0 where
   pub is : (name : List ℕ) → length name ≤ longest → identifier_in test scopes name tokens ≡ None
+
+-- ---- times
+
+-- The number that digits write, times 10^more * 10^-less; past 2^64 - 1 it stays there.
+abbrev pub shifted_digits : ℕ → ℕ → List ℕ → Option ℕ
+shifted_digits more less digits =
+    if is_numeral digits
+    then option_map (λ exact. min exact (2 ^ 64 - 1)) (shifted more less (digits_value 10 digits))
+    else None

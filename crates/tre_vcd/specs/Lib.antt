@@ -1,4 +1,5 @@
 -- What a reader must believe.
+pub mod Timescale
 pub mod VcdReading
 pub mod Sorted
 pub mod Needs
@@ -8,6 +9,8 @@ pub mod Brief
 pub mod Bases
 pub mod Kept
 pub mod Signals
+pub mod Pairs
+pub mod Defined
 pub mod Offers
 pub mod Unread
 pub mod Letters

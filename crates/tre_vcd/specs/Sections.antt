@@ -8,9 +8,9 @@ use Rattle.tre_trace.specs.declared.fault.TraceKind.TheVariants.{BadToken}
 use Rattle.tre_vcd.specs.VcdReading.{Terms, Statement, dump, dump_end, Open, nothing, section, comment, vector, number, Place, is_defined, in_dump, goes_to}
 use Rattle.tre_vcd.specs.Kept.{KnowsOfPast, KnowsNeeded, AreNoLonger, ends_true, plain_of, vocabulary_of}
 use Rattle.tre_vcd.specs.Offers.{KnowsOffers}
-use Rattle.tre_vcd.specs.Signals.{KnowsSignals}
+use Rattle.tre_vcd.specs.Defined.{KnowsSignals}
 use Rattle.tre_vcd.specs.declared.command.Command.{Command}
-use Rattle.tre_vcd.specs.declared.command.Command.TheVariants.{Scope, Upscope, Var, EndDefinitions, Other}
+use Rattle.tre_vcd.specs.declared.command.Command.TheVariants.{Scope, Upscope, Var, Timescale, EndDefinitions, Other}
 use Rattle.tre_vcd.specs.declared.inside.Inside.{Inside}
 use Rattle.tre_vcd.specs.declared.inside.Inside.TheVariants.{Nothing, Section, Comment, Vector, Number}
 use Rattle.tre_vcd.specs.declared.declaring.TheConstants.{KEPT_MAX}
@@ -21,7 +21,8 @@ command_of token =
     if bytes_eq token (codes "$scope") then Scope
     else (if bytes_eq token (codes "$upscope") then Upscope
     else (if bytes_eq token (codes "$var") then Var
-    else (if bytes_eq token (codes "$enddefinitions") then EndDefinitions else Other)))
+    else (if bytes_eq token (codes "$timescale") then Timescale
+    else (if bytes_eq token (codes "$enddefinitions") then EndDefinitions else Other))))
 
 -- a dump section opens or closes
 abbrev pub dump_says : List Statement → Result (Step Place) TraceKind
@@ -65,6 +66,7 @@ abbrev pub terms_kept : TokenReader → Terms
 terms_kept reader = record {
   declared = vocabulary_of reader.needed ∷ [];
   scale = reader.scale.exponent;
+  unit = reader.scale.unit;
   definitions = reader.signals.definitions.items;
 }
 

@@ -16,7 +16,6 @@ use Rattle.tre_vcd.specs.declared.changes.Changes.{Changes}
 use Rattle.tre_vcd.specs.declared.changes.Watched.{Watched}
 use Rattle.tre_vcd.specs.declared.letters.Letters.{Letters}
 use Rattle.tre_vcd.specs.declared.offer.Offered.{Offered}
-use Rattle.tre_vcd.specs.declared.signals.Signals.{Signals}
 use Rattle.tre_vcd.specs.declared.tests.AskedTest.{AskedTest}
 use Rattle.tre_vcd.specs.declared.tests.Tested.{Tested}
 use Rattle.tre_vcd.specs.declared.tests.Tests.{Tests}
@@ -194,10 +193,3 @@ pub record KnowsChanges (all : List SignalDefined) (names : List (List ℕ)) (ke
   pub defined : (k : ℕ) → bit_at kept.defined k ≡ bit_of (has_part_at kept.list.items k)
   pub each : (k : ℕ) → KnowsAt (watched_at kept.list.items k) (bit_at kept.said k)
       (bit_at kept.happened k) past
-
--- ---- all of it
-
-pub record KnowsSignals (names events : List (List ℕ)) (kept : Signals)
-    (past : List Statement) : Type 0 where
-  pub tests : KnowsTests kept.definitions.items names kept.tests past
-  pub changes : KnowsChanges (of_changes kept.definitions.items) events kept.changes past

@@ -1,7 +1,8 @@
 -- A token that is no time says no segment, and one that is says its segment in the order of time.
-use Rattle.std.proofs.Common.{◌≡◌, ℕ, ◌*◌, ◌^◌, ◌<◌, ◌≤◌, nat_lt, ◌==◌, ◌||◌, ◌&&◌, not, Bool, true, false, List, map, [], ◌∷◌, ◌++◌, length, codes, Result, Ok, Err, refl, sym, arith, subst, if◌then◌else◌}
+use Rattle.std.proofs.Common.{◌≡◌, ℕ, ◌<◌, ◌≤◌, nat_lt, ◌==◌, ◌||◌, ◌&&◌, not, Bool, true, false, List, map, [], ◌∷◌, ◌++◌, length, codes, None, Option, Some, Result, Ok, Err, refl, sym, arith, subst, if◌then◌else◌}
 use Rattle.std.proofs.lemmas.Bool.Decides.{nat_tests}
 use Rattle.std.specs.List.{list_all, list_any}
+use Rattle.std.specs.Option.{option_map_or}
 use Rattle.std.specs.Str.{bytes_eq}
 use Rattle.std.specs.Str.Parse.{digits_value}
 use Rattle.tre_pairs.specs.declared.TheConstants.{TIME_MAX}
@@ -9,9 +10,9 @@ use Rattle.tre_decimal.specs.Decimal.{is_numeral}
 use Rattle.tre_define.specs.Signals.{SignalDefined}
 use Rattle.tre_parts.specs.Format.{Step, LeadsInTime, KeepsTime}
 use Rattle.tre_trace.specs.declared.fault.TraceKind.{TraceKind}
-use Rattle.tre_trace.specs.declared.fault.TraceKind.TheVariants.{TooLate, BadToken, UnknownName, TimeBack}
+use Rattle.tre_trace.specs.declared.fault.TraceKind.TheVariants.{TooLate, BadToken, BadScale, UnknownName, TooFine, TimeBack}
 use Rattle.tre_trace.specs.Reading.{Vocabulary, Stretch, segment_for}
-use Rattle.tre_vcd.specs.VcdReading.{is_command, is_dump, is_scalar, are_declared, is_defined, in_dump, scopes_at, Terms, scalar, wide, Statement, scope, upscope, var, definitions, time, change, dump, dump_end, Open, nothing, section, comment, vector, number, Place, time_at, stretch_until, goes_to, is_end, is_whole, scope_says, section_says, command_says, ticks_say, keyword_says, scalar_says, vector_says, value_says, token_at, token_says, vcd_format}
+use Rattle.tre_vcd.specs.VcdReading.{is_command, is_dump, is_scalar, are_declared, is_defined, in_dump, scopes_at, Terms, has_tick, units_at, scalar, wide, Statement, scope, upscope, var, timescale, definitions, time, change, dump, dump_end, Open, nothing, section, comment, vector, number, Place, time_at, stretch_until, goes_to, is_end, is_whole, scope_says, section_says, command_says, time_says, ticks_say, keyword_says, scalar_says, vector_says, value_says, token_at, token_says, vcd_format}
 
 -- No segment is said, and no other time is reached.
 pub record StatesNoTime (past : List Statement) (said : Result (Step Place) TraceKind) : Type 0
@@ -52,8 +53,10 @@ silent-section past command tokens =
     (silent-if past (bytes_eq command (codes "$var")) _ _
     (silent-if past (nat_lt (length tokens) 4) _ _
     (silent-err past BadToken) (silent-goes past (var tokens ∷ past) nothing refl))
+    (silent-if past (bytes_eq command (codes "$timescale")) _ _
+    (silent-goes past (timescale tokens ∷ past) nothing refl)
     (silent-if past (bytes_eq command (codes "$enddefinitions")) _ _
-    (silent-goes past (definitions ∷ past) nothing refl) (silent-goes past past nothing refl))))
+    (silent-goes past (definitions ∷ past) nothing refl) (silent-goes past past nothing refl)))))
 
 pub silent-command : (terms : Terms) (past : List Statement) (token : List ℕ) → StatesNoTime past
     (command_says terms past token)
@@ -63,9 +66,12 @@ silent-command terms past token =
     (silent-if past (bytes_eq token (codes "$upscope") && length (scopes_at past) == 0) _ _
     (silent-err past BadToken)
     (silent-if past
+    (bytes_eq token (codes "$enddefinitions") && not (has_tick terms past)) _ _
+    (silent-err past BadScale)
+    (silent-if past
     (bytes_eq token (codes "$enddefinitions")
     && not (list_all (are_declared terms.definitions past) terms.declared))
-    _ _ (silent-err past UnknownName) (silent-goes past past (section token []) refl)))
+    _ _ (silent-err past UnknownName) (silent-goes past past (section token []) refl))))
 
 silent-keyword : (past : List Statement) (token : List ℕ) → StatesNoTime past (keyword_says past
     token)
@@ -183,12 +189,16 @@ keeps-ticks defined past ticks false false false e l s =
     let fits : ticks ≤ TIME_MAX = grind (arith, nat_tests) in
     keeps-later defined past ticks (omega (arith, not_before, other)) fits
 
+keeps-units : (defined : List SignalDefined) (past : List Statement) (units : Option ℕ)
+    → KeepsOrder past (option_map_or (time_says defined past) units (Err TooFine))
+keeps-units defined past None = keeps-silent past _ (silent-err past TooFine)
+keeps-units defined past (Some units) = keeps-ticks defined past units _ _ _ refl refl refl
+
 keeps-number : (terms : Terms) (past : List Statement) (digits : List ℕ) → KeepsOrder past
     (ticks_say terms past digits)
 keeps-number terms past digits =
     keeps-if past (is_numeral digits) _ _
-    (keeps-ticks terms.definitions past (digits_value 10 digits * 10 ^ terms.scale) _ _ _ refl refl
-    refl)
+    (keeps-units terms.definitions past (units_at terms past (digits_value 10 digits)))
     (keeps-silent past _ (silent-err past BadToken))
 
 keeps-value : (terms : Terms) (past : List Statement) (token : List ℕ) → KeepsOrder past

@@ -1,31 +1,37 @@
 -- What the tokens of a value change dump say (IEEE Std 1364-2005, clause 18).
-use Rattle.std.specs.Prelude.{ℕ, ◌-◌, ◌*◌, ◌^◌, min, nat_le, nat_lt, Bool, true, false, not, ◌&&◌, ◌||◌, ◌==◌, List, [], ◌∷◌, ◌++◌, drop, length, filter, Option, None, Some, Result, Ok, Err, codes, slice_index, if◌then◌else◌}
+use Rattle.std.specs.Prelude.{ℕ, ◌-◌, ◌^◌, min, nat_le, nat_lt, Bool, true, false, not, ◌&&◌, ◌||◌, ◌==◌, List, [], ◌∷◌, ◌++◌, drop, length, filter, Option, None, Some, Result, Ok, Err, codes, slice_index, if◌then◌else◌}
 use Rattle.std.specs.List.{list_all, list_any}
 use Rattle.std.specs.Str.{bytes_eq}
 use Rattle.std.specs.Str.Parse.{digits_value}
 use Rattle.std.specs.Option.{is_some, option_map, option_map_or, option_and_then, option_or}
 use Rattle.tre_pairs.specs.declared.TheConstants.{TIME_MAX}
 use Rattle.tre_decimal.specs.Decimal.{is_numeral}
-use Rattle.tre_define.specs.Signals.{SignalDefined, signal_definition_of, test_in, changes_in}
-use Rattle.tre_define.specs.Values.{passes, plain_test, differ}
+use Rattle.tre_define.specs.Signals.{SignalDefined, signal_definition_of, part_of_text, test_in, changes_in}
+use Rattle.tre_define.specs.Values.{compares_known, number_of_part, passes, plain_test, differ}
+use Rattle.tre_define.specs.declared.comparison.Comparison.{Comparison}
 use Rattle.tre_define.specs.declared.part.Part.{Part}
 use Rattle.tre_define.specs.declared.reads.Reads.{Reads}
-use Rattle.tre_define.specs.declared.reads.Reads.TheVariants.{Changes}
+use Rattle.tre_define.specs.declared.reads.Reads.TheVariants.{Beside, Changes}
 use Rattle.tre_define.specs.declared.test.Test.{Test}
 use Rattle.tre_parts.specs.Format.{Format, Step, recording_of}
 use Rattle.tre_trace.specs.Reading.{Recording, Stretch, Vocabulary}
 use Rattle.tre_trace.specs.declared.fault.TraceKind.{TraceKind}
-use Rattle.tre_trace.specs.declared.fault.TraceKind.TheVariants.{TooLate, BadToken, UnknownName, TimeBack, CutShort}
+use Rattle.tre_trace.specs.declared.fault.TraceKind.TheVariants.{TooLate, BadToken, BadScale, UnknownName, TooFine, TimeBack, CutShort}
+use Rattle.tre_unit.specs.declared.unit.TimeUnit.{TimeUnit}
+use Rattle.tre_vcd.specs.Timescale.{tick_of, units_by}
+use Rattle.tre_vcd.specs.declared.timescale.Tick.{Tick}
 
 -- White space is the byte 32, and the bytes 9 to 13.
 abbrev pub is_white : ℕ → Bool
 is_white byte = byte == 32 || (nat_le 9 byte && nat_le byte 13)
 
 -- What is asked of a dump: the names that it must declare, and what names are defined to read. A
--- time of the dump is 10^scale units of time.
+-- tick of the dump is 10^scale units of time. Where a unit is asked for, a unit of time is instead
+-- 10^-scale of that, however long a tick takes.
 pub record Terms : Type 0 where
   pub declared : List Vocabulary
   pub scale : ℕ
+  pub unit : Option TimeUnit
   pub definitions : List SignalDefined
 
 -- How a change is written: as one letter and its identifier, or as a vector.
@@ -38,6 +44,7 @@ pub data Statement : Type 0 where
   scope : List ℕ → Statement
   upscope : Statement
   var : List (List ℕ) → Statement
+  timescale : List (List ℕ) → Statement
   definitions : Statement
   time : ℕ → Statement
   change : Form → List ℕ → List ℕ → Statement
@@ -81,6 +88,15 @@ scopes_at [] = []
 scopes_at (scope name ∷ past) = name ∷ scopes_at past
 scopes_at (upscope ∷ past) = drop 1 (scopes_at past)
 scopes_at (_ ∷ past) = scopes_at past
+
+-- the tokens of the first `$timescale`
+abbrev pub timescale_at : List Statement → Option (List (List ℕ))
+timescale_at [] = None
+timescale_at (timescale tokens ∷ past) = option_or (timescale_at past) (Some tokens)
+timescale_at (_ ∷ past) = timescale_at past
+
+abbrev pub tick_at : List Statement → Option Tick
+tick_at past = option_and_then tick_of (timescale_at past)
 
 abbrev pub in_dump : List Statement → Bool
 in_dump [] = false
@@ -205,6 +221,21 @@ signal_in None name =
 signal_in (Some one) name =
     λ scopes tokens. option_and_then (asked_in (test_in one)) (offer_in scopes tokens)
 
+-- What a text names of a declaration in these scopes.
+abbrev pub part_in : List ℕ → (List (List ℕ) → List (List ℕ) → Option (Asked Part))
+part_in text = λ scopes tokens. option_and_then (asked_in (part_of_text text)) (offer_in scopes tokens)
+
+-- Two parts, the first of which is compared so with the second.
+pub record Pair : Type 0 where
+  pub comparison : Comparison
+  pub one : Asked Part
+  pub other : Asked Part
+
+abbrev pub pair_by : Reads → Option (Asked Part) → Option (Asked Part) → Option Pair
+pair_by (Beside comparison) (Some one) (Some other) =
+    Some (record { comparison = comparison; one = one; other = other })
+pair_by _ one other = None
+
 -- When an event happens: where a scalar change of the identifier says it, or where some of its bits
 -- change.
 pub data Occasion : Type 0 where
@@ -241,6 +272,16 @@ abbrev pub signal_of : List SignalDefined → List Statement → List ℕ → Op
 signal_of defined past name =
     first_read (signal_in (signal_definition_of defined name) name) past
 
+-- What a name is defined to compare: of each text what is read of the first declaration of which
+-- something is.
+abbrev pub pair_read : List Statement → Option SignalDefined → Option Pair
+pair_read past None = None
+pair_read past (Some one) =
+    pair_by one.reads (first_read (part_in one.signal) past) (first_read (part_in one.other) past)
+
+abbrev pub pair_of : List SignalDefined → List Statement → List ℕ → Option Pair
+pair_of defined past name = pair_read past (signal_definition_of defined name)
+
 abbrev pub event_asked : List SignalDefined → List Statement → List ℕ → Option (Asked Occasion)
 event_asked defined past name =
     first_read (event_read_by (signal_definition_of (of_changes defined) name) name) past
@@ -248,6 +289,15 @@ event_asked defined past name =
 abbrev pub is_passed : List Statement → Asked Test → Bool
 is_passed past asked =
     option_map_or (passes asked.asks) (letters_at past asked.identifier) false
+
+-- the number of a part now; none where a bit of it is unknown
+abbrev pub number_at : List Statement → Asked Part → Option ℕ
+number_at past asked =
+    option_and_then (number_of_part asked.asks) (letters_at past asked.identifier)
+
+abbrev pub pair_holds : List Statement → Pair → Bool
+pair_holds past pair =
+    compares_known pair.comparison (number_at past pair.one) (number_at past pair.other)
 
 -- some of the bits have other letters than before, if there were any
 abbrev pub differs : Part → Option (List ℕ) → Option (List ℕ) → Bool
@@ -263,9 +313,21 @@ has_come past identifier (bits_changed part) =
 abbrev pub is_come : List Statement → Asked Occasion → Bool
 is_come past asked = has_come past asked.identifier asked.asks
 
-abbrev pub true_at : List SignalDefined → List Statement → List ℕ → Bool
-true_at defined past name =
+abbrev pub tested_at : List SignalDefined → List Statement → List ℕ → Bool
+tested_at defined past name =
     option_map_or (is_passed past) (signal_of defined past name) false
+
+abbrev pub compared_at : List SignalDefined → List Statement → List ℕ → Bool
+compared_at defined past name =
+    option_map_or (pair_holds past) (pair_of defined past name) false
+
+-- A name is a proposition by what it asks of a signal, or by the two that it compares.
+abbrev pub true_at : List SignalDefined → List Statement → List ℕ → Bool
+true_at defined past name = tested_at defined past name || compared_at defined past name
+
+abbrev pub is_proposition : List SignalDefined → List Statement → List ℕ → Bool
+is_proposition defined past name =
+    is_some (signal_of defined past name) || is_some (pair_of defined past name)
 
 abbrev pub happens_at : List SignalDefined → List Statement → List ℕ → Bool
 happens_at defined past name =
@@ -274,8 +336,17 @@ happens_at defined past name =
 -- something is declared that each of the names reads, as a proposition or as an event
 abbrev pub are_declared : List SignalDefined → List Statement → Vocabulary → Bool
 are_declared defined past needed =
-    list_all (λ name. is_some (signal_of defined past name)) needed.names
+    list_all (is_proposition defined past) needed.names
     && list_all (λ name. is_some (event_asked defined past name)) needed.events
+
+-- ---- times
+
+-- it is known how long a tick takes, where a unit is asked for
+abbrev pub has_tick : Terms → List Statement → Bool
+has_tick terms past = not (is_some terms.unit) || is_some (tick_at past)
+
+abbrev pub units_at : Terms → List Statement → ℕ → Option ℕ
+units_at terms past ticks = units_by terms.scale terms.unit (tick_at past) ticks
 
 -- ---- what a token says
 
@@ -310,16 +381,19 @@ section_says past command tokens =
     if bytes_eq command (codes "$scope") then scope_says past tokens
     else (if bytes_eq command (codes "$upscope") then goes_to (upscope ∷ past) nothing
     else (if bytes_eq command (codes "$var") then declaration_says past tokens
+    else (if bytes_eq command (codes "$timescale") then goes_to (timescale tokens ∷ past) nothing
     else (if bytes_eq command (codes "$enddefinitions") then goes_to (definitions ∷ past) nothing
-    else goes_to past nothing)))
+    else goes_to past nothing))))
 
 abbrev pub command_says : Terms → List Statement → List ℕ → Result (Step Place) TraceKind
 command_says terms past token =
     if not (is_command token) || is_end token || is_dump token then Err BadToken
     else (if bytes_eq token (codes "$upscope") && length (scopes_at past) == 0 then Err BadToken
+    else (if bytes_eq token (codes "$enddefinitions") && not (has_tick terms past)
+    then Err BadScale
     else (if bytes_eq token (codes "$enddefinitions")
     && not (list_all (are_declared terms.definitions past) terms.declared)
-    then Err UnknownName else goes_to past (section token [])))
+    then Err UnknownName else goes_to past (section token []))))
 
 -- the stretch from the last time to this one: its values, and the events at its begin
 abbrev pub stretch_until : List SignalDefined → List Statement → ℕ → Stretch
@@ -363,11 +437,12 @@ abbrev pub vector_says : List Statement → List ℕ → Result (Step Place) Tra
 vector_says past [] = Err BadToken
 vector_says past letters = goes_to past (vector letters)
 
--- `#` and decimal digits, one at least and no point: the time in units
+-- `#` and decimal digits, one at least and no point: the time in units, a whole number of them
 abbrev pub ticks_say : Terms → List Statement → List ℕ → Result (Step Place) TraceKind
 ticks_say terms past digits =
     if is_numeral digits
-    then time_says terms.definitions past (digits_value 10 digits * 10 ^ terms.scale)
+    then option_map_or (time_says terms.definitions past)
+    (units_at terms past (digits_value 10 digits)) (Err TooFine)
     else Err BadToken
 
 -- a token among the values, where nothing is open, by its first byte: `#`, `$`, the letters of

@@ -102,6 +102,7 @@ pub fn bases_of(alloc: Global, definitions: &[SignalDefinition]) -> Result<Bases
     let mut bases = Bases::new(alloc);
     for definition in definitions {
         bases.add_signal(definition.signal().as_bytes())?;
+        bases.add_signal(definition.other().as_bytes())?;
     }
     Ok(bases)
 }

@@ -9,6 +9,7 @@ pub enum Command {
     Scope,
     Upscope,
     Var,
+    Timescale,
     EndDefinitions,
     /// It is passed over.
     Other,
@@ -24,6 +25,8 @@ pub fn command_of(token: &[u8]) -> Command
         Command::Upscope
     } else if is(token, "$var") {
         Command::Var
+    } else if is(token, "$timescale") {
+        Command::Timescale
     } else if is(token, "$enddefinitions") {
         Command::EndDefinitions
     } else {

@@ -7,7 +7,7 @@ ghost use Rattle.tre_define.specs.Signals.{SignalDefined};
 ghost use Rattle.tre_vcd.specs.VcdReading.{scopes_at, Statement, var, nothing, section, is_defined, goes_to, command_says, section_says, scope_says, declaration_says, token_at};
 ghost use Rattle.tre_vcd.specs.Sections.{Holds, KnowsPast, asked_of_reader, terms_kept, command_of};
 ghost use Rattle.tre_vcd.specs.Offers.{KnowsOffers};
-ghost use Rattle.tre_vcd.specs.Signals.{KnowsSignals};
+ghost use Rattle.tre_vcd.specs.Defined.{KnowsSignals};
 ghost use Rattle.tre_vcd.specs.Kept.{AreScopes, IsQuiet, KnowsOfPast, KnowsNeeded};
 
 use crate::command::{Command, command_of};
@@ -41,6 +41,9 @@ impl TokenReader {
         }
         if is(token, "$upscope") && self.past.scopes.is_empty() {
             return Said::Wrong(TraceKind::BadToken);
+        }
+        if is(token, "$enddefinitions") && !self.has_tick() {
+            return Said::Wrong(TraceKind::BadScale);
         }
         if is(token, "$enddefinitions") && !self.needed.is_declared() {
             return Said::Wrong(TraceKind::UnknownName);
@@ -226,6 +229,11 @@ impl TokenReader {
                 Said::Nothing
             }
             Command::Var => self.end_declaration(),
+            Command::Timescale => {
+                self.past.measure(&self.tokens);
+                self.close();
+                Said::Nothing
+            }
             Command::EndDefinitions => {
                 self.past.define(&self.names);
                 self.signals.sift();

@@ -1,19 +1,20 @@
 // Which of the names that a dump must declare it has declared.
-ghost use Rattle.std.specs.Prelude.{◌≡◌, ◌≢◌, ◌<◌, ◌≤◌, ◌∷◌, ◌||◌, ◌&&◌, ℕ, List, Bool, [], true, false, Some, length, map, set, replicate, if◌then◌else◌, All, AllPairs, IfOk};
+ghost use Rattle.std.specs.Prelude.{◌≡◌, ◌≢◌, ◌<◌, ◌≤◌, ◌∷◌, ◌||◌, ◌&&◌, ℕ, List, Bool, [], true, false, Some, length, map, set, replicate, not, if◌then◌else◌, All, AllPairs, IfOk};
 ghost use Rattle.std.specs.List.{list_all};
 ghost use Rattle.std.specs.Option.{is_some};
 ghost use Rattle.std.specs.Str.{bytes_eq};
 ghost use Rattle.tre_state.specs.Names.{place_of};
-ghost use Rattle.tre_define.specs.Signals.{SignalDefined, changes_in, test_in};
-ghost use Rattle.tre_vcd.specs.VcdReading.{Statement, var, scopes_at, is_signal, is_event, offer_in, are_declared};
+ghost use Rattle.tre_define.specs.Signals.{SignalDefined, changes_in};
+ghost use Rattle.tre_vcd.specs.VcdReading.{Statement, var, scopes_at, is_signal, is_event, offer_in, are_declared, is_proposition};
 ghost use Rattle.tre_vcd.specs.Needs.{definitions_of, needs};
 ghost use Rattle.tre_vcd.specs.Kept.{KnowsNeeded, AreNoLonger, Declares, DeclaresNone, plain_of, vocabulary_of};
-ghost use Rattle.tre_vcd.specs.Offers.{KnowsOffers};
+ghost use Rattle.tre_vcd.specs.Offers.{KnowsOffers, is_compared, reads_first, reads_other};
 ghost use Rattle.tre_vcd.specs.Signals.{offer_kept};
 ghost use Rattle.tre_vcd.specs.Unread.{AreUnread};
 
 use crate::needed::Needed;
 use crate::offer::Offered;
+use crate::pairs::comparison_of;
 use indexmap::IndexSet;
 use std::alloc::{AllocError, Global};
 use std::rc::Rc;
@@ -25,7 +26,10 @@ pub struct Found {
     pub needed: Rc<Needed>,
     pub names: Vec<bool>,
     pub events: Vec<bool>,
+    // Of the names that are defined: whether the signal that is read is declared, and whether the
+    // other one is, where two are compared.
     pub tests: Vec<bool>,
+    pub others: Vec<bool>,
     pub changes: Vec<bool>,
 }
 
@@ -46,11 +50,13 @@ impl Found {
             needed.defined_names().len(),
             needed.defined_events().len(),
         )?;
+        let others = alone(alloc, needed.defined_names())?;
         Ok(Found {
             needed,
             names,
             events,
             tests,
+            others,
             changes,
         })
     }
@@ -118,6 +124,7 @@ impl Found {
         ensures same_names { self.new.needed ≡ self.old.needed }
     {
         flag_tests(&self.needed.tests, offered, &mut self.tests);
+        flag_others(&self.needed.tests, offered, &mut self.others);
         flag_changes(&self.needed.changes, offered, &mut self.changes);
     }
 
@@ -127,8 +134,36 @@ impl Found {
             KnowsNeeded past self.now → KnowsOffers all past self.now →
             result ≡ are_declared all past (vocabulary_of self.now) }
     {
-        are_set(&self.names, &self.tests) && are_set(&self.events, &self.changes)
+        self.are_propositions() && are_set(&self.events, &self.changes)
     }
+
+    // Whether all of the names are declared.
+    fn are_propositions(&self) -> bool
+        ensures { (all : List SignalDefined) (past : List Statement) →
+            KnowsNeeded past self.now → KnowsOffers all past self.now →
+            result ≡ list_all (is_proposition all past) (vocabulary_of self.now).names }
+    {
+        are_set(&self.names, &self.tests) && all_set(&self.others)
+    }
+}
+
+// Which of the definitions compare no two signals.
+fn alone(alloc: Global, definitions: &[SignalDefinition]) -> Result<Vec<bool>, AllocError>
+    ensures { IfOk result (λ flags.
+        flags.items ≡ map (λ one. not (is_compared one)) definitions.now) }
+{
+    let mut flags = Vec::new(alloc);
+    for definition in definitions {
+        flags.push(!is_compared(definition))?;
+    }
+    Ok(flags)
+}
+
+// Whether the definition compares two signals.
+fn is_compared(definition: &SignalDefinition) -> bool
+    ensures { result ≡ is_compared definition.now }
+{
+    comparison_of(definition.reads()).is_some()
 }
 
 // None of so many names and of so many events is declared.
@@ -169,16 +204,51 @@ fn flag(names: &IndexSet<Vec<u8>>, path: &[u8], flags: &mut Vec<bool>)
     }
 }
 
-// Those names are declared that have a test of what is offered.
+// Of those names the first signal is declared that read what is offered.
 fn flag_tests(definitions: &[SignalDefinition], offered: &Offered, flags: &mut [bool])
     ensures { (test : SignalDefined → Bool) → flags.old ≡ map test definitions.now →
-        flags.new ≡ map (λ one. test one || is_some (test_in one offered.now.full_name.items
-        offered.now.size)) definitions.now }
+        flags.new ≡ map (λ one. test one || reads_first one offered.now.full_name.items
+        offered.now.size) definitions.now }
 {
     for place in 0..definitions.len().min(flags.len()) {
-        let test = definitions[place].test_in(&offered.full_name, offered.size);
-        raise(flags, place, test.is_some());
+        raise(flags, place, reads_first(&definitions[place], offered));
     }
+}
+
+// Whether what is offered is the signal that the definition reads, or the first of two.
+fn reads_first(definition: &SignalDefinition, offered: &Offered) -> bool
+    ensures { result ≡ reads_first definition.now offered.now.full_name.items
+        offered.now.size }
+{
+    if is_compared(definition) {
+        let part = definition.signal_part(&offered.full_name, offered.size);
+        return part.is_some();
+    }
+    let test = definition.test_in(&offered.full_name, offered.size);
+    test.is_some()
+}
+
+// Of those names the other signal is declared that compare one with what is offered.
+fn flag_others(definitions: &[SignalDefinition], offered: &Offered, flags: &mut [bool])
+    ensures { (test : SignalDefined → Bool) → flags.old ≡ map test definitions.now →
+        flags.new ≡ map (λ one. test one || reads_other one offered.now.full_name.items
+        offered.now.size) definitions.now }
+{
+    for place in 0..definitions.len().min(flags.len()) {
+        raise(flags, place, reads_other(&definitions[place], offered));
+    }
+}
+
+// Whether what is offered is the second of two signals that the definition compares.
+fn reads_other(definition: &SignalDefinition, offered: &Offered) -> bool
+    ensures { result ≡ reads_other definition.now offered.now.full_name.items
+        offered.now.size }
+{
+    if !is_compared(definition) {
+        return false;
+    }
+    let part = definition.other_part(&offered.full_name, offered.size);
+    part.is_some()
 }
 
 // Those names are declared that are the changes of what is offered.

@@ -12,7 +12,7 @@
 //!
 //! ```text
 //! let needed = Rc::new(alloc, Needed::new(alloc))?;
-//! let tokens = TokenReader::new(alloc, names, events, 0, &needed)?;
+//! let tokens = TokenReader::new(alloc, names, events, 0, None, &needed)?;
 //! let mut reader = VcdReader::new(alloc, tokens);
 //! reader.feed(b"$var wire 1 ! p $end $enddefinitions $end 1! #5", &mut segments)?;
 //! reader.finish(&mut segments)?; // one segment of five ticks, on which p is true
@@ -32,13 +32,16 @@ pub mod laws;
 mod letters;
 mod needed;
 mod offer;
+mod pairs;
 mod past;
 mod saying;
 mod scale;
 mod scopes;
+mod side;
 mod signals;
 mod skim;
 mod tests;
+mod timescale;
 mod token;
 mod token_reader;
 mod variable;

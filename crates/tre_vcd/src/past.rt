@@ -1,10 +1,12 @@
 // What the reader keeps of the statements that it has read.
-ghost use Rattle.std.specs.Prelude.{◌≡◌, ◌==◌, ◌&&◌, not, length, ◌∷◌, ℕ, List, [], true, false, OnOk};
-ghost use Rattle.tre_vcd.specs.VcdReading.{Statement, scope, upscope, var, definitions, time, change, scalar, wide, dump, dump_end, is_defined, in_dump, scopes_at, is_signal, is_event};
-ghost use Rattle.tre_vcd.specs.Kept.{KnowsOfPast, ends_true, Declares, DeclaresNone, valuation_behind, events_at};
+ghost use Rattle.std.specs.Prelude.{◌≡◌, ◌==◌, ◌&&◌, not, length, map, ◌∷◌, ℕ, List, [], true, false, OnOk};
+ghost use Rattle.tre_vcd.specs.Timescale.{tick_of};
+ghost use Rattle.tre_vcd.specs.VcdReading.{Statement, scope, upscope, var, timescale, tick_at, definitions, time, change, scalar, wide, dump, dump_end, is_defined, in_dump, scopes_at, is_signal, is_event};
+ghost use Rattle.tre_vcd.specs.Kept.{KnowsOfPast, ends_true, tick_kept, Declares, DeclaresNone, valuation_behind, events_at};
 
 use crate::brief::Brief;
 use crate::scopes::Scopes;
+use crate::timescale::{Tick, tick_of};
 use crate::variable::set_value;
 use crate::variables::Variables;
 use std::alloc::{AllocError, Global};
@@ -18,6 +20,8 @@ pub struct Past {
     pub in_dump: bool,
     pub time: u64,
     pub scopes: Scopes,
+    // What the first `$timescale` says, once there is one.
+    pub tick: Option<Option<Tick>>,
     pub propositions: Variables,
     pub events: Variables,
     // Once the declarations have ended, the identifiers of the propositions.
@@ -39,6 +43,7 @@ impl Past {
             in_dump: false,
             time: 0,
             scopes: Scopes::new(alloc),
+            tick: None,
             propositions: Variables::new(alloc),
             events: Variables::new(alloc),
             brief: Brief::new(),
@@ -63,6 +68,30 @@ impl Past {
             KnowsOfPast names event_names self.new (upscope ∷ past) }
     {
         self.scopes.leave();
+    }
+
+    // A `$timescale` has these tokens, the first of which are kept.
+    pub fn measure(&mut self, kept: &[Vec<u8>])
+        ensures { (names event_names : List (List ℕ)) (past : List Statement)
+            (tokens : List (List ℕ)) → KnowsOfPast names event_names self.old past →
+            tick_of (map (λ token. token.items) kept.now) ≡ tick_of tokens →
+            KnowsOfPast names event_names self.new (timescale tokens ∷ past) }
+    {
+        if self.tick.is_none() {
+            self.tick = Some(tick_of(kept));
+        }
+    }
+
+    // How long a tick takes, where this is known.
+    pub fn tick(&self) -> Option<Tick>
+        ensures kept { result ≡ tick_kept self.now }
+        ensures knows { (names event_names : List (List ℕ)) (past : List Statement) →
+            KnowsOfPast names event_names self.now past → result ≡ tick_at past }
+    {
+        match self.tick {
+            Some(tick) => tick,
+            None => None,
+        }
     }
 
     // A proposition of this path is declared with this identifier.

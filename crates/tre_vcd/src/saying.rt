@@ -10,6 +10,7 @@ ghost use Rattle.tre_vcd.specs.Kept.{ends_true};
 
 use crate::inside::Inside;
 use crate::letters::copy_into;
+use crate::scale::time_fault;
 use crate::token::{Letter, ends_true, is, is_dump, is_end, letter_of};
 use crate::token_reader::TokenReader;
 use tre_pairs::TIME_MAX;
@@ -28,8 +29,8 @@ impl TokenReader {
         ensures same_terms { terms_kept self.new ≡ terms_kept self.old }
         ensures same_names { asked_of_reader self.new ≡ asked_of_reader self.old }
     {
-        let Some(ticks) = self.scale.time(digits) else {
-            return Said::Wrong(TraceKind::BadToken);
+        let Some(ticks) = self.scale.time(&self.past, digits) else {
+            return Said::Wrong(time_fault(digits));
         };
         if ticks < self.past.time {
             return Said::Wrong(TraceKind::TimeBack);
@@ -56,7 +57,7 @@ impl TokenReader {
             (stretch_until self.now.signals.definitions.items past ticks) }
     {
         let len = ticks - self.past.time;
-        let val = self.signals.tests.valuation(self.past.valuation());
+        let val = self.signals.valuation(self.past.valuation());
         let ev = self.signals.changes.events(self.past.events());
         Segment { len, val, ev }
     }

@@ -1,13 +1,16 @@
 // What names read by their definitions.
 ghost use Rattle.std.specs.Prelude.{◌≡◌, ◌≢◌, ◌==◌, ◌∷◌, ℕ, List, [], length, true, false, Some, None, IfOk, OnOk};
-ghost use Rattle.tre_vcd.specs.VcdReading.{Form, Statement, var, change, time, definitions, is_defined, scopes_at, offer_in, of_changes};
-ghost use Rattle.tre_vcd.specs.Kept.{IsQuiet};
+ghost use Rattle.tre_trace.specs.Reading.{bits_of};
+ghost use Rattle.tre_vcd.specs.VcdReading.{Form, Statement, var, change, time, definitions, is_defined, scopes_at, offer_in, of_changes, true_at};
+ghost use Rattle.tre_vcd.specs.Kept.{IsQuiet, valuation_behind};
+ghost use Rattle.tre_vcd.specs.Pairs.{KnowsPairs};
 ghost use Rattle.tre_vcd.specs.Taken.{behind_if};
 ghost use Rattle.tre_vcd.specs.Signals.{offer_kept, KnowsTests, KnowsChanges};
 
 use crate::changes::Changes;
 use crate::definitions::{copy_of, definition_of, of_changes};
 use crate::offer::Offered;
+use crate::pairs::Pairs;
 use crate::tests::Tests;
 use std::alloc::{AllocError, Global};
 use tre_define::SignalDefinition;
@@ -18,11 +21,13 @@ use tre_state::Names;
 pub struct Signals {
     pub definitions: Vec<SignalDefinition>,
     pub tests: Tests,
+    // Of the names that compare two signals. The sieve of the tests was told of these too.
+    pub pairs: Pairs,
     pub changes: Changes,
 }
 
 impl Signals {
-    ghost use Rattle.tre_vcd.specs.Signals.{KnowsSignals};
+    ghost use Rattle.tre_vcd.specs.Defined.{KnowsSignals};
 
     // There are these definitions.
     pub fn new(
@@ -35,11 +40,13 @@ impl Signals {
         ensures kept { IfOk result (λ signals. signals.definitions.items ≡ all.now) }
     {
         let tests = tests_of(alloc, names, all)?;
+        let pairs = pairs_of(alloc, names, all)?;
         let changes = changes_by(alloc, events, all)?;
         let definitions = copy_of(alloc, all)?;
         Ok(Signals {
             definitions,
             tests,
+            pairs,
             changes,
         })
     }
@@ -62,17 +69,19 @@ impl Signals {
         ensures kept { self.new.definitions ≡ self.old.definitions }
     {
         self.tests.declare(alloc, offered)?;
+        self.pairs.declare(alloc, offered)?;
         self.changes.declare(alloc, offered)
     }
 
     // The declarations end.
     pub fn sift(&mut self)
         ensures knows { (names events : List (List ℕ)) (past : List Statement) →
-            KnowsSignals names events self.old past →
+            is_defined past ≡ false → KnowsSignals names events self.old past →
             KnowsSignals names events self.new (definitions ∷ past) }
         ensures kept { self.new.definitions ≡ self.old.definitions }
     {
         self.tests.sift();
+        self.pairs.sift(&mut self.tests.sieve);
         self.changes.sift();
     }
 
@@ -91,7 +100,7 @@ impl Signals {
     }
 
     // The tests are told that an identifier has a value of these letters, unless an event may be
-    // one of its changes. This says whether they were.
+    // one of its changes, or a comparison of two signals may read it. This says whether they were.
     pub fn change_tests(&mut self, identifier: &[u8], letters: &[u8]) -> bool
         ensures knows { (names events : List (List ℕ)) (past : List Statement) (form : Form) →
             is_defined past ≡ true → KnowsSignals names events self.old past →
@@ -100,6 +109,9 @@ impl Signals {
         ensures kept { self.new.definitions ≡ self.old.definitions }
     {
         if self.changes.may_read(identifier) {
+            return false;
+        }
+        if self.pairs.may_read(self.tests.sieve.numbers(identifier)) {
             return false;
         }
         self.tests.change(identifier, letters);
@@ -115,8 +127,20 @@ impl Signals {
             (change form identifier.now letters.now ∷ past)) }
         ensures kept { self.new.definitions ≡ self.old.definitions }
     {
+        let numbers = self.tests.sieve.numbers(identifier);
         self.tests.change(identifier, letters);
+        self.pairs.change(numbers, identifier, letters)?;
         self.changes.change(identifier, letters)
+    }
+
+    // These values, with those of the names that are defined in their places.
+    #[inline(always)]
+    pub fn valuation(&self, plain: u64) -> u64
+        ensures { (names events : List (List ℕ)) (past : List Statement) →
+            KnowsSignals names events self.now past → plain ≡ valuation_behind past names →
+            result ≡ bits_of (true_at self.now.definitions.items past) names }
+    {
+        self.pairs.valuation(self.tests.valuation(plain))
     }
 }
 
@@ -155,4 +179,19 @@ fn changes_of(alloc: Global, names: &Names, all: &[SignalDefinition]) -> Result<
         }
     }
     Ok(changes)
+}
+
+// The comparisons of the names by these definitions.
+fn pairs_of(alloc: Global, names: &Names, all: &[SignalDefinition]) -> Result<Pairs, AllocError>
+    ensures { IfOk result (λ pairs.
+        (sieve : List ℕ) → KnowsPairs all.now names.now sieve pairs []) }
+{
+    let mut pairs = Pairs::new(alloc);
+    for number in 0..names.len() as u8 {
+        match names.name(number) {
+            Some(name) => pairs.add(alloc, definition_of(all, name.as_bytes()))?,
+            None => unreachable!(),
+        }
+    }
+    Ok(pairs)
 }

@@ -6,7 +6,7 @@ ghost use Rattle.tre_define.specs.Signals.{SignalDefined, signal_definition_of};
 ghost use Rattle.tre_define.specs.declared.test.Test.{Test};
 ghost use Rattle.tre_state.specs.Sieve.{MayBe};
 ghost use Rattle.tre_trace.specs.Reading.{bits_of};
-ghost use Rattle.tre_vcd.specs.VcdReading.{Form, Statement, var, change, definitions, is_defined, scopes_at, offer_in, Asked, true_at};
+ghost use Rattle.tre_vcd.specs.VcdReading.{Form, Statement, var, change, definitions, is_defined, scopes_at, offer_in, Asked, tested_at};
 ghost use Rattle.tre_vcd.specs.Kept.{IsQuiet, valuation_behind};
 ghost use Rattle.tre_vcd.specs.Signals.{offer_kept, test_kept, test_read, test_told, test_at, bit_told, AreDefined, AreTested, KnowsTests};
 
@@ -157,20 +157,22 @@ impl Tests {
     // Whether one of them may read values of this identifier.
     #[inline(always)]
     pub fn may_read(&self, identifier: &[u8]) -> bool
-        ensures { result ≡ false → (all : List SignalDefined) (names : List (List ℕ))
+        ensures knows { result ≡ false → (all : List SignalDefined) (names : List (List ℕ))
             (past : List Statement) (form : Form) (letters : List ℕ) → is_defined past ≡ true →
             KnowsTests all names self.now past →
             KnowsTests all names self.now (change form identifier.now letters ∷ past) }
+        ensures none { result ≡ false → (k : ℕ) → MayBe self.now.sieve identifier.now k → ⊥ }
     {
         self.sieve.may_be(identifier)
     }
 
     // An identifier has a value of these letters.
     pub fn change(&mut self, identifier: &[u8], letters: &[u8])
-        ensures { (all : List SignalDefined) (names : List (List ℕ))
+        ensures knows { (all : List SignalDefined) (names : List (List ℕ))
             (past : List Statement) (form : Form) → is_defined past ≡ true →
             KnowsTests all names self.old past →
             KnowsTests all names self.new (change form identifier.now letters.now ∷ past) }
+        ensures same { self.new.sieve ≡ self.old.sieve }
     {
         let numbers = self.sieve.numbers(identifier);
         tell(&self.list, &mut self.values, numbers, identifier, letters);
@@ -182,7 +184,7 @@ impl Tests {
         ensures { (all : List SignalDefined) (names : List (List ℕ))
             (past : List Statement) → KnowsTests all names self.now past →
             plain ≡ valuation_behind past names →
-            result ≡ bits_of (true_at all past) names }
+            result ≡ bits_of (tested_at all past) names }
     {
         (plain ^ (plain & self.defined)) | self.values
     }

@@ -1,9 +1,9 @@
 // The tokens of a dump, one after the other.
-ghost use Rattle.std.specs.Prelude.{◌≡◌, ◌≤◌, [], ◌∷◌, length, not, ◌&&◌, All, IfOk};
+ghost use Rattle.std.specs.Prelude.{◌≡◌, ◌≤◌, List, [], ◌∷◌, length, not, ◌&&◌, All, IfOk};
 ghost use Rattle.tre_decimal.specs.declared.TheConstants.{SCALE_MAX};
 ghost use Rattle.tre_parts.specs.declared.said.Said.{Said};
-ghost use Rattle.tre_vcd.specs.VcdReading.{Terms, first_place, Place, number, is_defined, vcd_format};
-ghost use Rattle.tre_vcd.specs.Sections.{Holds, asked_of_reader, terms_kept, is_nothing};
+ghost use Rattle.tre_vcd.specs.VcdReading.{Terms, Statement, first_place, Place, number, is_defined, has_tick, vcd_format};
+ghost use Rattle.tre_vcd.specs.Sections.{Holds, KnowsPast, asked_of_reader, terms_kept, is_nothing};
 ghost use Rattle.tre_vcd.specs.Needs.{definitions_of, needs};
 ghost use Rattle.tre_vcd.specs.Times.{vcd-keeps_time};
 
@@ -20,6 +20,7 @@ use std::rc::Rc;
 use tre_parts::{PartReader, Said, Skimmed, Spot, first_of};
 use tre_state::Names;
 use tre_trace::{Segment, TraceKind};
+use tre_unit::TimeUnit;
 
 /// Reads the tokens of a dump for the propositions and the events of its names.
 ///
@@ -44,12 +45,14 @@ pub struct TokenReader {
 
 impl TokenReader {
     /// Nothing was read. The dump must declare what is needed, whether it is read or not, and names
-    /// are read as its definitions say. A tick of the dump is 10^scale units.
+    /// are read as its definitions say. A tick of the dump is 10^scale units; where a unit of time
+    /// is asked for, a unit is 10^-scale of that, however long a tick takes by the `$timescale`.
     pub fn new(
         alloc: Global,
         names: Names,
         events: Names,
         scale: u8,
+        unit: Option<TimeUnit>,
         needed: &Rc<Needed>,
     ) -> Result<TokenReader, AllocError>
         requires scale { scale ≤ SCALE_MAX }
@@ -59,6 +62,7 @@ impl TokenReader {
             ≡ record {
               declared = needs needed.now.value ∷ [];
               scale = scale;
+              unit = unit;
               definitions = definitions_of needed.now.value;
             }) }
         ensures names { IfOk result (λ reader. ⟦<TokenReader as PartReader>⟧.names reader
@@ -73,7 +77,7 @@ impl TokenReader {
             events,
             needed: found,
             longest,
-            scale: Scale::new(scale),
+            scale: Scale::new(scale, unit),
             past: Past::new(alloc),
             signals,
             inside: Inside::Nothing,
@@ -88,6 +92,14 @@ impl TokenReader {
         ensures { result ≡ (self.now.past.is_defined && is_nothing self.now.inside) }
     {
         self.past.is_defined && self.inside.is_nothing()
+    }
+
+    // Whether it is known how long a tick takes, where a unit is asked for.
+    pub(crate) fn has_tick(&self) -> bool
+        ensures { (past : List Statement) → KnowsPast self.now past →
+            result ≡ has_tick (terms_kept self.now) past }
+    {
+        self.scale.unit.is_none() || self.past.tick().is_some()
     }
 
     // Whether the input may end here.

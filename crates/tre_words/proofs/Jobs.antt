@@ -6,6 +6,7 @@ use Rattle.std.proofs.lemmas.Bool.Decides.{nat_tests}
 use Rattle.clap.specs.Words.{Row, fault_of}
 use Rattle.tre_decimal.specs.Decimal.{is_numeral}
 use Rattle.tre_decimal.specs.declared.TheConstants.{SCALE_MAX}
+use Rattle.tre_unit.specs.declared.unit.TimeUnit.{TimeUnit}
 use Rattle.tre_words.specs.CommandLine.{FindsJob, command_line, found_in, rows_in}
 use Rattle.tre_words.specs.Job.{GivesJob, GivesOver, GivesPlain, IsCount, IsJob, MayReadFile, MayStand, MayWatch, Says, SaysJob, begins_with, is_given, job_over, made_count, made_job, number_written}
 use Rattle.tre_words.specs.Settings.{Text, said}
@@ -23,20 +24,22 @@ one_value e = cc
 -- ---- one job
 
 -- an option that is told is one option
-some_once : (one other : Option ℕ) → option_map Some one ≡ option_map Some other → one ≡ other
+some_once : {X : Type 0} (one other : Option X) → option_map Some one ≡ option_map Some other
+    → one ≡ other
 some_once None None e = refl
 some_once (Some m) (Some n) e = cc
 some_once None (Some n) e = cc
 some_once (Some m) None e = cc
 
-unfoldable job_of : Mode → Format → List ℕ → ℕ → ℕ → Bool → Option ℕ → Option (List ℕ)
-    → Option (List ℕ) → List ℕ → Job
-job_of mode format input max_bytes scale normal max_zones minus lets expr = record {
+unfoldable job_of : Mode → Format → List ℕ → ℕ → ℕ → Option TimeUnit → Bool → Option ℕ
+    → Option (List ℕ) → Option (List ℕ) → List ℕ → Job
+job_of mode format input max_bytes scale unit normal max_zones minus lets expr = record {
   mode = mode;
   format = format;
   input = input;
   max_bytes = max_bytes;
   scale = scale;
+  unit = unit;
   normal = normal;
   max_zones = max_zones;
   minus = minus;
@@ -45,7 +48,7 @@ job_of mode format input max_bytes scale normal max_zones minus lets expr = reco
 }
 
 job_parts : (job : Job) → job ≡ job_of job.mode job.format job.input job.max_bytes job.scale
-    job.normal job.max_zones job.minus job.lets job.expr
+    job.unit job.normal job.max_zones job.minus job.lets job.expr
 unfolding job_of
 job_parts job = refl
 
@@ -58,6 +61,8 @@ said_once said job other says says' expr =
     let max_bytes : job.max_bytes ≡ other.max_bytes =
     one_value (sym says.max_bytes ∙ says'.max_bytes) in
     let scale : job.scale ≡ other.scale = one_value (sym says.scale ∙ says'.scale) in
+    let unit : job.unit ≡ other.unit =
+    some_once job.unit other.unit (sym says.unit ∙ says'.unit) in
     let normal : job.normal ≡ other.normal = sym says.normal ∙ says'.normal in
     let max_zones : job.max_zones ≡ other.max_zones =
     some_once job.max_zones other.max_zones (sym says.max_zones ∙ says'.max_zones) in
@@ -242,6 +247,7 @@ made_is_job count is = record {
     minus = λ e. cc;
     columns = λ e. cc;
     lets = λ e. cc;
+    unit = λ e. cc;
   };
   offline = λ mode csv. cc;
   watched = λ file mode. cc;
@@ -268,6 +274,7 @@ watch_is_job plain is may = record {
         let false_true : true ≡ false = sym given ∙ ap is_some may.reads.minus in cc;
     columns = is.together.columns;
     lets = is.together.lets;
+    unit = is.together.unit;
   };
   offline = λ mode csv. cc;
   watched = λ file mode. may.format;
@@ -285,6 +292,7 @@ check_is_job plain is may = record {
     minus = λ given. let false_true : true ≡ false = sym given ∙ ap is_some may.minus in cc;
     columns = is.together.columns;
     lets = is.together.lets;
+    unit = is.together.unit;
   };
   offline = λ mode csv. cc;
   watched = λ file mode. cc;

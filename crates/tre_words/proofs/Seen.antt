@@ -79,7 +79,10 @@ rules_known = (
                     (λ name e. inr (named options (codes "let") name refl e)),
                     (
                       (λ name e. inr (named options (codes "define") name refl e)),
-                      ((λ name e. cc), tt),
+                      (
+                        (λ name e. inr (named options (codes "unit") name refl e)),
+                        ((λ name e. cc), tt),
+                      ),
                     ),
                   ),
                 ),

@@ -116,7 +116,10 @@ option_named = pick Optional options (
               ([], (refl, refl, refl, (λ value. refl), refl, (λ value. refl), refl, refl)),
               (
                 ([], (refl, refl, refl, (λ value. refl), refl, (λ value. refl), refl, refl)),
-                tt,
+                (
+                  ([], (refl, refl, refl, (λ value. refl), refl, (λ value. refl), refl, refl)),
+                  tt,
+                ),
               ),
             ),
           ),

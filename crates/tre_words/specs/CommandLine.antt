@@ -44,6 +44,7 @@ command_line =
     ∷ option_rule (codes "minus")
     ∷ option_rule (codes "let")
     ∷ option_rule (codes "define")
+    ∷ option_rule (codes "unit")
     ∷ operand_rule (codes "EXPR")
     ∷ [])
 

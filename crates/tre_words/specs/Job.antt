@@ -5,6 +5,7 @@ use Rattle.std.specs.Str.{bytes_eq}
 use Rattle.std.specs.Str.Parse.{digits_value}
 use Rattle.tre_decimal.specs.Decimal.{is_numeral}
 use Rattle.tre_decimal.specs.declared.TheConstants.{SCALE_MAX}
+use Rattle.tre_unit.specs.Units.{unit_named}
 use Rattle.tre_words.specs.Settings.{AreTyped, Setting, Text, Types, said}
 use Rattle.tre_words.specs.declared.job.TheConstants.{COUNT_MAX, LIMIT_MAX, LIMIT_DEFAULT}
 use Rattle.tre_words.specs.declared.job.Format.{Format}
@@ -39,6 +40,7 @@ pub record StandsTogether (job : Job) : Type 0 where
   pub minus : is_some job.minus ≡ true → job.mode ≡ Offline
   pub columns : job.format ≡ Csv → job.minus ≡ None
   pub lets : is_some job.lets ≡ true → job.format ≢ TextFormat
+  pub unit : is_some job.unit ≡ true → job.format ≡ Vcd
 
 -- What is true of each job that words give: its numbers are within their limits, and what it has
 -- may stand together. Columns aren't read online, and not in a watch.
@@ -59,6 +61,7 @@ plain_job mode input expr = record {
   input = input;
   max_bytes = LIMIT_DEFAULT;
   scale = 0;
+  unit = None;
   normal = false;
   max_zones = None;
   minus = None;
@@ -104,6 +107,7 @@ pub record SaysJob (says : Says) (job : Job) : Type 0 where
       option_and_then (number_written 1 LIMIT_MAX) (says (codes "max-bytes")) ≡ Some job.max_bytes
   pub scale :
       option_and_then (number_written 0 SCALE_MAX) (says (codes "scale")) ≡ Some job.scale
+  pub unit : option_map unit_named (says (codes "unit")) ≡ option_map Some job.unit
   pub normal : is_given (codes "normal") says ≡ job.normal
   pub max_zones :
       option_map (number_written 0 LIMIT_MAX) (says (codes "max-zones"))

@@ -21,7 +21,7 @@ flags = codes "online" ∷ codes "show" ∷ codes "normal" ∷ []
 abbrev pub options : List Text
 options =
     codes "format" ∷ codes "input" ∷ codes "max-bytes" ∷ codes "scale" ∷ codes "max-zones"
-    ∷ codes "minus" ∷ codes "let" ∷ codes "define" ∷ []
+    ∷ codes "minus" ∷ codes "let" ∷ codes "define" ∷ codes "unit" ∷ []
 
 abbrev pub is_among : List Text → Text → Bool
 is_among names name = list_any (λ one. bytes_eq one name) names

@@ -58,6 +58,7 @@ fn command_line<'a>(alloc: Global) -> Result<Command<'a>, AllocError>
         .arg(option(alloc, "minus"))?
         .arg(option(alloc, "let"))?
         .arg(option(alloc, "define"))?
+        .arg(option(alloc, "unit"))?
         .arg(operand(alloc, "EXPR"))?;
     Ok(command)
 }

@@ -3,6 +3,7 @@ ghost use Rattle.std.specs.Prelude.{◌≡◌, IfOk};
 use std::alloc::{AllocError, Global};
 use std::marker::Model;
 use thiserror::Error;
+use tre_unit::TimeUnit;
 
 /// The largest number of bytes that an input may be limited to, and of zones that an answer may.
 pub const LIMIT_MAX: u64 = 1 << 40;
@@ -91,6 +92,9 @@ pub struct Job {
     pub max_bytes: u64,
     /// How many decimals a number has: the unit of time is 10^-`scale` of what is written.
     pub scale: u8,
+    /// The unit in which the times of a dump are read, by how long its tick is; where there is
+    /// none, in ticks.
+    pub unit: Option<TimeUnit>,
     /// Whether the zones of the answer are the one list that its pairs have.
     pub normal: bool,
     /// The most zones that this list may have.

@@ -3,6 +3,7 @@ ghost use Rattle.std.specs.Prelude.{◌≡◌, ◌≤◌, ◌<◌, ◌^◌, ◌-
 ghost use Rattle.std.specs.Option.{option_or};
 ghost use Rattle.clap.specs.Words.{found_of, rows_of, first_of};
 ghost use Rattle.tre_decimal.specs.declared.TheConstants.{SCALE_MAX};
+ghost use Rattle.tre_unit.specs.Units.{unit_named};
 ghost use Rattle.tre_words.specs.CommandLine.{found_in, FindsJob};
 ghost use Rattle.tre_words.specs.Job.{mode_in, format_named, number_written};
 ghost use Rattle.tre_words.specs.declared.job.Job.{Job};
@@ -12,6 +13,7 @@ use crate::job::{Format, Job, LIMIT_MAX, Mode, Word, WordsFault};
 use clap::ArgMatches;
 use std::alloc::{AllocError, Global};
 use tre_decimal::{SCALE_MAX, read_numeral};
+use tre_unit::TimeUnit;
 
 fn mode_in(matches: &ArgMatches) -> Mode
     ensures { result ≡ mode_in (found_in (rows_of (found_of matches.now))) }
@@ -75,6 +77,22 @@ fn scale_in(matches: &ArgMatches) -> Option<u8>
     Some(scale as u8)
 }
 
+// The unit of time, where the words give one; none where they give a word that is no unit.
+fn unit_in(matches: &ArgMatches) -> Option<Option<TimeUnit>>
+    ensures some { IfSome result (λ unit. option_map unit_named
+        (first_of (codes "unit") (rows_of (found_of matches.now))) ≡ option_map Some unit) }
+    ensures none { result ≡ None → option_map unit_named
+        (first_of (codes "unit") (rows_of (found_of matches.now))) ≡ Some None }
+{
+    match value_of(matches, "unit") {
+        Some(name) => match TimeUnit::named(name.as_bytes()) {
+            Some(unit) => Some(Some(unit)),
+            None => None,
+        },
+        None => Some(None),
+    }
+}
+
 // The most zones, where the words limit them; none where the limit is no number that may be.
 fn max_zones_in(matches: &ArgMatches) -> Option<Option<u64>>
     ensures some { IfSome result (λ most. option_map (number_written 0 LIMIT_MAX)
@@ -131,6 +149,9 @@ pub(crate) fn job_in(alloc: Global, matches: &ArgMatches) -> Result<Job, WordsFa
     let Some(max_zones) = max_zones_in(matches) else {
         return Err(WordsFault::Usage);
     };
+    let Some(unit) = unit_in(matches) else {
+        return Err(WordsFault::Usage);
+    };
     let Some(input) = value_of(matches, "input") else {
         return Err(WordsFault::Usage);
     };
@@ -147,6 +168,7 @@ pub(crate) fn job_in(alloc: Global, matches: &ArgMatches) -> Result<Job, WordsFa
         input,
         max_bytes,
         scale,
+        unit,
         normal: is_given(matches, "normal"),
         max_zones,
         minus,

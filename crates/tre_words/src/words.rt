@@ -32,6 +32,9 @@ fn stands_together(job: &Job) -> bool
     if job.max_zones.is_some() && !job.normal {
         return false;
     }
+    if job.unit.is_some() && job.format != Format::Vcd {
+        return false;
+    }
     if columns {
         return job.minus.is_none();
     }
@@ -184,6 +187,7 @@ fn made_job(alloc: Global, count: u64) -> Result<Job, AllocError>
         input,
         max_bytes: LIMIT_DEFAULT,
         scale: 0,
+        unit: None,
         normal: false,
         max_zones: None,
         minus: None,
@@ -209,11 +213,12 @@ fn read_made_run(alloc: Global, words: &[String]) -> Result<Job, WordsFault>
 
 /// Reads the words after the program's name, which are
 /// `[--online] [--show] [--format text|vcd|csv] [--input NAME] [--max-bytes N] [--scale K]
-/// [--normal] [--max-zones L] [--minus EXPR2] [--let TEXT] [--define TEXT] EXPR`, or
+/// [--normal] [--max-zones L] [--minus EXPR2] [--let TEXT] [--define TEXT] [--unit U] EXPR`, or
 /// `--generate K`, or
-/// `--watch [--format text|vcd] [--input NAME] [--max-bytes N] [--scale K] [--define TEXT] FILE`,
-/// or `--check [--format text|vcd|csv] [--input NAME] [--max-bytes N] [--scale K] [--normal]
-/// [--max-zones L] [--let TEXT] [--define TEXT] FILE`.
+/// `--watch [--format text|vcd] [--input NAME] [--max-bytes N] [--scale K] [--define TEXT]
+/// [--unit U] FILE`, or
+/// `--check [--format text|vcd|csv] [--input NAME] [--max-bytes N] [--scale K] [--normal]
+/// [--max-zones L] [--let TEXT] [--define TEXT] [--unit U] FILE`.
 pub fn read_words(alloc: Global, words: &[String]) -> Result<Job, WordsFault>
     ensures ok { IfOk result (GivesJob (map string_bytes words.now)) }
     ensures is_job { IfOk result IsJob }

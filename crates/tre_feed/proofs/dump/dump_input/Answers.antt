@@ -29,7 +29,7 @@ returns-clause-asks c = c.new.ensures.asks (map names_of c.args.patterns.now)
 
 pub returns-clause-new : goal.returns-clause-new
 returns-clause-new c = c.new.ensures.new
-    (dump_terms (needs c.in_ok-needed.needed.value ∷ []) c.args.scale
+    (dump_terms (needs c.in_ok-needed.needed.value ∷ []) c.args.scale c.args.unit
     (definitions_of c.in_ok-needed.needed.value)) c.in-Ok.ensures.fresh
 
 pub returns-clause-recording : goal.returns-clause-recording
@@ -37,10 +37,10 @@ returns-clause-recording c =
     if_ok_then c.new.result _ _
     (λ input is. is
     ∙ ap (λ defined. vcd_recording (dump_terms (needs c.in_ok-needed.needed.value ∷ [])
-    c.args.scale defined)) c.in_ok-needed.ensures.definitions
+    c.args.scale c.args.unit defined)) c.in_ok-needed.ensures.definitions
     ∙ needs-alike (needs c.in_ok-needed.needed.value)
-    (map names_of c.args.patterns.now) c.args.scale c.args.definitions.now
+    (map names_of c.args.patterns.now) c.args.scale c.args.unit c.args.definitions.now
     c.in_ok-needed.ensures.needs)
     (c.new.ensures.recording
-    (dump_terms (needs c.in_ok-needed.needed.value ∷ []) c.args.scale
+    (dump_terms (needs c.in_ok-needed.needed.value ∷ []) c.args.scale c.args.unit
     (definitions_of c.in_ok-needed.needed.value)) c.in-Ok.ensures.fresh)

@@ -11,6 +11,6 @@ abbrev pub invariant-loop-group : goal.invariant-loop-group
 invariant-loop-group l =
     HaveReaders (parts_names token_reader.names)
     (λ reader. (parts_terms token_reader.terms reader
-    ≡ dump_terms (needs l.needed.value ∷ []) l.scale (definitions_of l.needed.value))
+    ≡ dump_terms (needs l.needed.value ∷ []) l.scale l.unit (definitions_of l.needed.value))
     × parts_represent token_reader.terms token_reader.format token_reader.holds reader [])
     (take l.group-index l.groups) l.readers.items

@@ -18,8 +18,8 @@ loop-segment-init c = record {
   told = rw c.new-zones.ensures.items (AreTold-none (pattern_tree c.args.pattern));
 }
 
-pub told_of-requires : goal.told_of-requires
-told_of-requires c =
+pub read-requires : goal.read-requires
+read-requires c =
     let items = c.segments-segment-items.result.now in
     let place = c.loop-segment.segment-index in
     let front = take place items in
@@ -44,28 +44,29 @@ loop-segment-preserved c =
     let segments = take place items in
     let segment = get_or items place (plain_segment 0 0) in
     let old = c.loop-segment.session in
-    let goes = c.in_ok-told.ensures.goes_on segments c.loop-segment.invariant.stands in
-    let tells : TellsNew tree segments segment (ended_of old) c.in_ok-told.told =
-    subst (λ (t : PatternTree). TellsNew t segments segment (ended_of old) c.in_ok-told.told)
+    let told = ended_of c.read.new.session in
+    let goes = c.in_ok-read.ensures.goes_on segments c.loop-segment.invariant.stands in
+    let tells : TellsNew tree segments segment (ended_of old) told =
+    subst (λ (t : PatternTree). TellsNew t segments segment (ended_of old) told)
     c.loop-segment.invariant.tree goes.tells in
     let more = take_more items place (plain_segment 0 0) c.loop-segment-test.true in
     record {
-      stands = subst (λ (list : List Segment). StandsFor c.told_of.new.session list) (sym more)
+      stands = subst (λ (list : List Segment). StandsFor c.read.new.session list) (sym more)
           goes.stands;
-      tree = c.in_ok-told.ensures.tree ∙ c.loop-segment.invariant.tree;
-      told = rw (c.in_ok-extend_from_slice.ensures.items, c.zones.ensures.same)
+      tree = c.read.ensures.tree ∙ c.loop-segment.invariant.tree;
+      told = rw (c.in_ok-extend_from_slice.ensures.items, c.told.ensures.told)
           (subst (λ (list : List Segment).
-          MatchesAreTold tree list (c.loop-segment.zones.items ++ c.in_ok-told.told)) (sym more)
-          (AreTold-next tree c.loop-segment.zones.items segment (ended_of old) c.in_ok-told.told
+          MatchesAreTold tree list (c.loop-segment.zones.items ++ told)) (sym more)
+          (AreTold-next tree c.loop-segment.zones.items segment (ended_of old) told
           segments c.loop-segment.invariant.told tells));
     }
 
 pub returns : goal.returns
 returns c =
     AreTold-set (pattern_tree c.args.pattern) c.args.trace.now.segments c.loop-segment.zones.items
-    c.in_ok-told-2.told
+    c.in_ok-told.told
     (subst (λ (list : List Segment). MatchesAreTold (pattern_tree c.args.pattern) list
     c.loop-segment.zones.items)
     (take_all c.loop-segment.segment-index c.segments-segment-items.result.now
     c.loop-segment-test.false ∙ c.segments-segment-items.ensures.segments)
-    c.loop-segment.invariant.told) c.in_ok-told-2.ensures
+    c.loop-segment.invariant.told) c.in_ok-told.ensures

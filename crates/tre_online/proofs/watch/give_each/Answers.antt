@@ -1,30 +1,29 @@
+use Rattle.std.proofs.Common.{arith}
 use Rattle.std.proofs.lemmas.Result.{err_from_is_err_and}
-use Rattle.tre_online.proofs.InTurn.{HaveGone-start, some_left, refused_here, HaveGone-next, HaveGone-end}
+use Rattle.tre_online.specs.Giving.{SessionGoes}
+use Rattle.tre_online.proofs.Becoming.{HaveBecome-start, HaveBecome-next, HaveBecome-end, refused_here}
 use Rattle.tre_online.proofs.watch.give_each.Goals as goal
 
-pub loop-segment-init : goal.loop-segment-init
-loop-segment-init c = HaveGone-start c.args.sessions.now.items c.args.segments.now
+pub loop-place-init : goal.loop-place-init
+loop-place-init c = HaveBecome-start SessionGoes c.args.sessions.now c.args.segments.now
 
-pub give_first-requires : goal.give_first-requires
-give_first-requires c =
-    some_left c.args.sessions.now.items c.args.segments.now c.loop-segment.segment-index
-    c.loop-segment.sessions.items c.requires c.loop-segment.invariant c.loop-segment-test.true
+pub loop-place-preserved : goal.loop-place-preserved
+loop-place-preserved c =
+    let goes = c.in_ok-go_on.ensures in
+    HaveBecome-next SessionGoes c.args.sessions.now c.args.segments.now c.loop-place.place
+    c.loop-place.sessions _ c.index-sessions-place.result c.go_on.new.self c.loop-place.invariant
+    (omega (arith, c.loop-place-test.true, c.requires)) c.loop-place-test.true
+    (record { stands = goes.stands; fits = goes.fits; tells = goes.tells; tree = goes.tree })
 
-pub loop-segment-preserved : goal.loop-segment-preserved
-loop-segment-preserved c =
-    HaveGone-next c.args.sessions.now.items c.args.segments.now c.loop-segment.segment-index
-    c.loop-segment.sessions.items c.requires c.loop-segment.invariant c.loop-segment-test.true _
-    c.give_first.new.sessions.items c.in_ok-give_first.ensures.ok
-
-pub returns-in_err-give_first-clause-err : goal.returns-in_err-give_first-clause-err
-returns-in_err-give_first-clause-err c =
+pub returns-in_err-go_on-clause-err : goal.returns-in_err-go_on-clause-err
+returns-in_err-go_on-clause-err c =
     let p = err_from_is_err_and c.from_residual.result c.from_residual.ensures.1 in
-    rw (p.1, p.2) (refused_here c.args.sessions.now.items c.args.segments.now
-    c.loop-segment.segment-index c.loop-segment.sessions.items c.requires
-    c.loop-segment.invariant c.loop-segment-test.true _ c.in_err-give_first.field-0.0
-    c.in_err-give_first.ensures.err)
+    rw (p.1, p.2) (refused_here c.args.sessions.now c.args.segments.now c.loop-place.place
+    c.loop-place.sessions _ c.index-sessions-place.result c.in_err-go_on.field-0.0
+    c.loop-place.invariant (omega (arith, c.loop-place-test.true, c.requires))
+    c.loop-place-test.true (record { refused = c.in_err-go_on.ensures.refused }))
 
 pub returns-clause-ok : goal.returns-clause-ok
 returns-clause-ok c =
-    HaveGone-end c.args.sessions.now.items c.args.segments.now c.loop-segment.segment-index
-    c.loop-segment.sessions.items c.loop-segment.invariant c.requires c.loop-segment-test.false
+    HaveBecome-end SessionGoes c.args.sessions.now c.args.segments.now c.loop-place.place
+    c.loop-place.sessions c.loop-place.invariant c.requires c.loop-place-test.false

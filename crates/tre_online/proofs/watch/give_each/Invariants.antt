@@ -1,6 +1,6 @@
-use Rattle.tre_online.proofs.InTurn.{HaveGone}
+use Rattle.tre_online.specs.Giving.{SessionGoes}
+use Rattle.tre_online.proofs.Becoming.{HaveBecome}
 use Rattle.tre_online.proofs.watch.give_each.Given as goal
 
-abbrev pub invariant-loop-segment : goal.invariant-loop-segment
-invariant-loop-segment l =
-    HaveGone l.fn.sessions.items l.segments l.segment-index l.sessions.items
+abbrev pub invariant-loop-place : goal.invariant-loop-place
+invariant-loop-place l = HaveBecome SessionGoes l.fn.sessions l.segments l.place l.sessions

@@ -48,16 +48,16 @@ tell_block-requires-clause-comes g c =
       c.loop-place-test.true,
     ) in
     rw (c.deref.ensures.value, c.in_ok-column.ensures comes.asked waiting comes.asks comes.wait)
-    (CanTell-at c.args.watch c.loop-place.watch comes.asked waiting comes.can (take place waiting)
+    (CanTell-at c.args.watch.now c.loop-place.watch comes.asked waiting comes.can (take place waiting)
     (get_or waiting place stretch_behind) (drop (suc place) waiting)
     (split_around waiting place stretch_behind below)
     (c.loop-place.invariant.stands comes.asked comes.can.told waiting comes.asks comes.wait
     comes.can.stands))
 
-pub returns-in_err-watch-clause-stops : goal.returns-in_err-watch-clause-stops
-returns-in_err-watch-clause-stops g c =
-    let p = err_from_is_err_and c.from_residual-in_err-watch.result
-    c.from_residual-in_err-watch.ensures.1 in
+pub returns-in_err-tell_block-clause-stops : goal.returns-in_err-tell_block-clause-stops
+returns-in_err-tell_block-clause-stops g c =
+    let p = err_from_is_err_and c.from_residual-in_err-tell_block.result
+    c.from_residual-in_err-tell_block.ensures.1 in
     let place = c.loop-place.place in
     λ patterns told waiting before asks wait so_far.
     let below : place < length waiting =
@@ -65,7 +65,7 @@ returns-in_err-watch-clause-stops g c =
     rw (p.1, p.2) (stopped_at _ patterns told waiting _ _ _ place below (rw (
       c.deref.ensures.value,
       c.in_ok-column.ensures (all_names patterns) waiting asks wait,
-    ) at (c.in_err-watch.ensures.stops patterns _ before
+    ) at (c.in_err-tell_block.ensures.stops patterns _ before
     (c.loop-place.invariant.told patterns told waiting before asks wait so_far))))
 
 pub loop-place-preserved : goal.loop-place-preserved
@@ -80,18 +80,18 @@ loop-place-preserved g c =
           omega (arith, c.waiting-place-end.ensures waiting wait, c.loop-place-test.true) in
           rw (next, sym (pushed_at asked told waiting place below))
           (rw (c.deref.ensures.value, column asked waiting asks wait) at
-          (c.in_ok-watch.ensures.stands (rows_for asked (told ++ take place waiting))
+          (c.in_ok-tell_block.ensures.stands (rows_for asked (told ++ take place waiting))
           (inv.stands asked told waiting asks wait stands)));
-      trees = c.in_ok-watch.ensures.trees ∙ inv.trees;
+      trees = c.in_ok-tell_block.ensures.trees ∙ inv.trees;
       told = λ patterns told waiting before asks wait so_far.
           let asked = all_names patterns in
           let below : place < length waiting =
           omega (arith, c.waiting-place-end.ensures waiting wait, c.loop-place-test.true) in
           rw (next, sym (pushed_at asked told waiting place below))
           (rw (c.deref.ensures.value, column asked waiting asks wait) at
-          (c.in_ok-watch.ensures.told patterns (rows_for asked (told ++ take place waiting)) before
+          (c.in_ok-tell_block.ensures.told patterns (rows_for asked (told ++ take place waiting)) before
           (inv.told patterns told waiting before asks wait so_far)));
-      no_fault = c.in_ok-watch.ensures.cause ∙ inv.no_fault;
+      no_fault = c.in_ok-tell_block.ensures.cause ∙ inv.no_fault;
     }
 
 pub returns-clause-told : goal.returns-clause-told

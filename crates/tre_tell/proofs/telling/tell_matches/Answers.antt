@@ -140,16 +140,16 @@ tell_blocks-requires g c =
       scale = c.requires.scale;
     }
 
-pub returns-in_err-watch-2 : goal.returns-in_err-watch-2
-returns-in_err-watch-2 g c =
-    let has = (goal.at.returns-in_err-watch-2 g c).After-next-read in
+pub returns-in_err-tell_blocks : goal.returns-in_err-tell_blocks
+returns-in_err-tell_blocks g c =
+    let has = (goal.at.returns-in_err-tell_blocks g c).After-next-read in
     let inv = c.loop-room.invariant in
-    let p = err_from_is_err_and c.from_residual-in_err-watch-2.result
-    c.from_residual-in_err-watch-2.ensures.1 in
+    let p = err_from_is_err_and c.from_residual-in_err-tell_blocks.result
+    c.from_residual-in_err-tell_blocks.ensures.1 in
     record {
       ends = rw (p.1, p.2) (EndsTelling-within c.next-read.result (turn g has _ refl) _
-          c.in_err-watch-2.field-0.0 inv.good c.in_err-watch-2.ensures.cause
-          (λ waiting wait. c.in_err-watch-2.ensures.stops _ _ waiting _ (asks g has) wait
+          c.in_err-tell_blocks.field-0.0 inv.good c.in_err-tell_blocks.ensures.cause
+          (λ waiting wait. c.in_err-tell_blocks.ensures.stops _ _ waiting _ (asks g has) wait
           inv.telling.told));
       bounded = λ opened. EndsTurn-bounded (turn g has _ refl).ends;
       by_name = search rules;
@@ -164,8 +164,8 @@ returns-in_err-read g c =
     record {
       ends = rw (p.1, p.2) (EndsTelling-stopped c.in_err-read.field-0.0
           (turn g has (Err c.in_err-read.field-0.0) c.in_err-read.was) _
-          (c.in_ok-watch-2.ensures.cause ∙ inv.good)
-          (λ waiting wait. (c.in_ok-watch-2.ensures.told _ _ waiting _ (asks g has) wait
+          (c.in_ok-tell_blocks.ensures.cause ∙ inv.good)
+          (λ waiting wait. (c.in_ok-tell_blocks.ensures.told _ _ waiting _ (asks g has) wait
           inv.telling.told).told));
       bounded = λ opened. EndsTurn-bounded (turn g has _ refl).ends;
       by_name = search rules;
@@ -187,7 +187,7 @@ loop-room-preserved g c =
           few = omega (arith, ends.finds.1, ends.few, c.clear.ensures.taken);
           fed = c.clear.ensures.fed _ ends.finds.2;
         };
-        told = rw (rw ends.finds.0 at ends.adds.beyond) (c.in_ok-watch-2.ensures.told _ _ _ _
+        told = rw (rw ends.finds.0 at ends.adds.beyond) (c.in_ok-tell_blocks.ensures.told _ _ _ _
             (asks g has) (ends.adds.then [] inv.none) inv.telling.told);
       };
       none = c.clear.ensures.none;
@@ -195,7 +195,7 @@ loop-room-preserved g c =
       opened = more.opened;
       sound = c.next-read.ensures.source.same_sound ∙ inv.sound;
       no_fault = more.cause;
-      good = c.in_ok-watch-2.ensures.cause ∙ inv.good;
+      good = c.in_ok-tell_blocks.ensures.cause ∙ inv.good;
     }
 
 pub returns-in_err-lasts : goal.returns-in_err-lasts
@@ -208,8 +208,8 @@ returns-in_err-lasts g c =
     record {
       ends = rw (p.1, p.2) (
         ended.cause,
-        first_stand ended _ (c.in_ok-watch-2.ensures.cause ∙ inv.good) (λ waiting wait.
-            (c.in_ok-watch-2.ensures.told _ _ waiting _ (asks g has) wait inv.telling.told).told),
+        first_stand ended _ (c.in_ok-tell_blocks.ensures.cause ∙ inv.good) (λ waiting wait.
+            (c.in_ok-tell_blocks.ensures.told _ _ waiting _ (asks g has) wait inv.telling.told).told),
       );
       bounded = λ opened. EndsTurn-bounded (turn g has _ refl).ends;
       by_name = search rules;
@@ -220,13 +220,13 @@ tell_end-requires g c =
     let has = (goal.at.tell_end-requires g c).After-next-read in
     let inv = c.loop-room.invariant in
     let ended = turn g has (Ok false) (rw c.if-not-branch.true at c.in_ok-read.was) in
-    let told = c.in_ok-watch-2.ensures.told _ _ _ _ (asks g has) (ended.ends.adds.then [] inv.none)
+    let told = c.in_ok-tell_blocks.ensures.told _ _ _ _ (asks g has) (ended.ends.adds.then [] inv.none)
     inv.telling.told in
     let lasts = c.in_ok-lasts.ensures _ _ (c.clear.ensures.same.asks _ (asks g has))
     (c.clear.ensures.ended _ ended.ends.finds.2) in
     record {
       reads = record { rows = _; stands = told.stands };
-      count = rw (c.deref.ensures.value, lasts, c.in_ok-watch-2.ensures.trees)
+      count = rw (c.deref.ensures.value, lasts, c.in_ok-tell_blocks.ensures.trees)
           (count_lasts c.loop-room.watch _ _ _ inv.telling.told.stands);
       labels = sym (length-map c.args.labels.now string_bytes) ∙ labels_count told;
       scale = c.requires.scale;
@@ -241,9 +241,9 @@ returns g c =
       ends = EndsTelling-end ended _ c.tell_end.result _ (c.deref.ensures.value
           ∙ c.in_ok-lasts.ensures _ _ (c.clear.ensures.same.asks _ (asks g has))
           (c.clear.ensures.ended _ ended.ends.finds.2))
-          (c.in_ok-watch-2.ensures.cause ∙ inv.good) c.tell_end.ensures.cause
+          (c.in_ok-tell_blocks.ensures.cause ∙ inv.good) c.tell_end.ensures.cause
           (λ waiting wait. c.tell_end.ensures.tells _ _ _
-          (c.in_ok-watch-2.ensures.told _ _ waiting _ (asks g has) wait inv.telling.told));
+          (c.in_ok-tell_blocks.ensures.told _ _ waiting _ (asks g has) wait inv.telling.told));
       bounded = λ opened. EndsTurn-bounded (turn g has _ refl).ends;
       by_name = search rules;
     }

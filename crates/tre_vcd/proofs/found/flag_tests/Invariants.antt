@@ -1,6 +1,6 @@
 use Rattle.std.proofs.Common.{◌≡◌, ◌||◌, Bool, map}
-use Rattle.std.specs.Option.{is_some}
-use Rattle.tre_define.specs.Signals.{SignalDefined, test_in}
+use Rattle.tre_define.specs.Signals.{SignalDefined}
+use Rattle.tre_vcd.specs.Offers.{reads_first}
 use Rattle.tre_vcd.proofs.Offering.{flagged}
 use Rattle.tre_vcd.proofs.found.flag_tests.Given as goal
 
@@ -9,4 +9,4 @@ abbrev pub invariant-loop-place : goal.invariant-loop-place
 invariant-loop-place l = (test : SignalDefined → Bool)
     → l.fn.flags ≡ map test l.definitions
     → l.flags ≡ flagged l.place test (λ one. test one
-    || is_some (test_in one l.offered.full_name.items l.offered.size)) l.definitions
+    || reads_first one l.offered.full_name.items l.offered.size) l.definitions

@@ -11,6 +11,7 @@ returns c =
     bare_command-app c.new.result c.no_binary_name.result c.disable_help_flag-bare.result
     c.new.ensures.app c.no_binary_name.ensures c.disable_help_flag-bare.ensures in
     c.in_ok-command.ensures.shape c.operand.ensures.local
+    ∙ ap₂ with_rule (c.in_ok-arg-12.ensures.shape c.option-5.ensures.local
     ∙ ap₂ with_rule (c.in_ok-arg-11.ensures.shape c.option-4.ensures.local
     ∙ ap₂ with_rule (c.in_ok-arg-10.ensures.shape c.option-3.ensures.local
     ∙ ap₂ with_rule (c.in_ok-arg-9.ensures.shape c.option-2.ensures.local
@@ -25,4 +26,5 @@ returns c =
     ∙ ap₂ with_rule bare c.flag.ensures.rule) c.flag-2.ensures.rule) c.with_default.ensures.rule)
     c.with_default-2.ensures.rule) c.with_default-3.ensures.rule) c.with_default-4.ensures.rule)
     c.flag-3.ensures.rule) c.option.ensures.rule) c.option-2.ensures.rule)
-    c.option-3.ensures.rule) c.option-4.ensures.rule) c.operand.ensures.rule
+    c.option-3.ensures.rule) c.option-4.ensures.rule) c.option-5.ensures.rule)
+    c.operand.ensures.rule

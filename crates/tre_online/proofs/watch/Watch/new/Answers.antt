@@ -3,16 +3,15 @@ use Rattle.tre_online.proofs.watch.Watch.new.Goals as goal
 
 pub returns-clause-stands : goal.returns-clause-stands
 returns-clause-stands c = record {
-  each = rw c.from_vec.ensures.items
-      (stand_new c.args.patterns.now c.in_ok-sessions.sessions.items c.in_ok-sessions.ensures);
-  together = rw c.from_vec.ensures.items
-      (together_new c.args.patterns.now c.in_ok-sessions.sessions.items c.in_ok-sessions.ensures);
+  each = stand_new c.args.patterns.now c.in_ok-sessions.sessions.items c.in_ok-sessions.ensures;
+  together = together_new c.args.patterns.now c.in_ok-sessions.sessions.items
+      c.in_ok-sessions.ensures;
 }
 
 pub returns-clause-ended : goal.returns-clause-ended
-returns-clause-ended c = rw c.from_vec.ensures.items
-    (ended_new c.args.patterns.now c.in_ok-sessions.sessions.items c.in_ok-sessions.ensures)
+returns-clause-ended c =
+    ended_new c.args.patterns.now c.in_ok-sessions.sessions.items c.in_ok-sessions.ensures
 
 pub returns-clause-trees : goal.returns-clause-trees
-returns-clause-trees c = rw c.from_vec.ensures.items
-    (trees_new c.args.patterns.now c.in_ok-sessions.sessions.items c.in_ok-sessions.ensures)
+returns-clause-trees c =
+    trees_new c.args.patterns.now c.in_ok-sessions.sessions.items c.in_ok-sessions.ensures

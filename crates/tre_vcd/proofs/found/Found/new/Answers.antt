@@ -1,6 +1,8 @@
-use Rattle.std.proofs.Common.{◌∙◌, map, false, refl, sym, ap, subst}
+use Rattle.std.proofs.Common.{◌≡◌, ◌∙◌, ◌||◌, ◌&&◌, not, Bool, List, [], ◌∷◌, map, true, false, refl, sym, ap, ap₂, subst, if◌then◌else◌}
 use Rattle.std.proofs.lemmas.List.{length-map}
 use Rattle.std.proofs.lemmas.Simd.{splat_is_map}
+use Rattle.tre_define.specs.Signals.{SignalDefined}
+use Rattle.tre_vcd.specs.Offers.{has_first, has_other, is_compared}
 use Rattle.tre_vcd.specs.Sorted.{AreSorted}
 use Rattle.tre_vcd.specs.VcdReading.{of_changes}
 use Rattle.tre_vcd.specs.declared.needed.Needed.{Needed}
@@ -23,6 +25,25 @@ returns-clause-knows c =
           needed.events.keys)) c.deref-2.ensures;
     }
 
+first-none : (own : List SignalDefined) → map (λ one. false) own ≡ map (has_first []) own
+first-none [] = refl
+first-none (one ∷ own) =
+    ap₂ (λ x xs. x ∷ xs) (same (is_compared one)) (first-none own)
+  where
+    same : (test : Bool) → false ≡ (if test then false else false)
+    same true = refl
+    same false = refl
+
+other-none : (own : List SignalDefined)
+    → map (λ one. not (is_compared one)) own ≡ map (has_other []) own
+other-none [] = refl
+other-none (one ∷ own) =
+    ap₂ (λ x xs. x ∷ xs) (same (is_compared one)) (other-none own)
+  where
+    same : (test : Bool) → not test ≡ (not test || (test && false))
+    same true = refl
+    same false = refl
+
 pub returns-clause-offers : goal.returns-clause-offers
 returns-clause-offers c =
     let needed = c.in_ok-needed.needed.value in
@@ -32,7 +53,11 @@ returns-clause-offers c =
       same = refl;
       tests = c.in_ok-tests.ensures.0 ∙ splat_is_map c.defined_names.result.now _ false refl
           ∙ ap (map (λ one. false)) (c.defined_names.ensures.value
-          ∙ ap (λ (n : Needed). n.tests.items) first);
+          ∙ ap (λ (n : Needed). n.tests.items) first)
+          ∙ first-none needed.tests.items;
+      others = c.in_ok-others.ensures ∙ ap (map (λ one. not (is_compared one)))
+          (c.defined_names-2.ensures.value ∙ ap (λ (n : Needed). n.tests.items) c.deref-5.ensures)
+          ∙ other-none needed.tests.items;
       changes = c.in_ok-tests.ensures.1 ∙ splat_is_map c.defined_events.result.now _ false refl
           ∙ ap (map (λ one. false)) (c.defined_events.ensures.value
           ∙ ap (λ (n : Needed). n.changes.items) second);

@@ -8,9 +8,9 @@ pub returns : goal.returns
 returns c = λ names event_names past known.
     on_ok_weaker c.enter.result (λ are. knows-later names event_names c.args.self.now past
     (scope c.args.name.now) c.args.self.now.is_defined c.args.self.now.in_dump c.enter.new.self
-    known.defined known.dump refl (record {
+    c.args.self.now.tick known.defined known.dump refl (record {
       identifiers = λ test name. refl;
       values = λ identifier. refl;
       events = λ identifier. refl;
-    }) (λ e. e) known.brief are known)
+    }) (λ e. e) known.brief are known.tick known)
     (c.enter.ensures (scopes_at past) known.scopes)

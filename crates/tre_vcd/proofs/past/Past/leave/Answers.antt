@@ -7,8 +7,8 @@ pub returns : goal.returns
 returns c = λ names event_names past known.
     let kept = c.args.self.now in
     knows-later names event_names kept past upscope kept.is_defined kept.in_dump c.leave.new.self
-    known.defined known.dump refl (record {
+    kept.tick known.defined known.dump refl (record {
       identifiers = λ test name. refl;
       values = λ identifier. refl;
       events = λ identifier. refl;
-    }) (λ e. e) known.brief (c.leave.ensures (scopes_at past) known.scopes) known
+    }) (λ e. e) known.brief (c.leave.ensures (scopes_at past) known.scopes) known.tick known

@@ -4,8 +4,8 @@ use Rattle.tre_vcd.specs.Signals.{bit_told, test_at, test_told}
 use Rattle.tre_vcd.proofs.Testing.{tests-changed}
 use Rattle.tre_vcd.proofs.tests.Tests.change.Goals as goal
 
-pub returns : goal.returns
-returns c = λ all names past form ended knows.
+pub returns-clause-knows : goal.returns-clause-knows
+returns-clause-knows c = λ all names past form ended knows.
     let kept = c.args.self.now in
     let identifier = c.args.identifier.now in
     let letters = c.args.letters.now in

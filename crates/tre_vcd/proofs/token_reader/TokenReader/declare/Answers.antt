@@ -93,8 +93,10 @@ returns-else-is_event-clause-knows c = λ past word tokens holds.
 
 pub returns-then-is_signal-clause-same_terms : goal.returns-then-is_signal-clause-same_terms
 returns-then-is_signal-clause-same_terms c = same-terms c.args.self.now.scale.exponent
+    c.args.self.now.scale.unit
     (ap (λ needed. needs needed.value) c.declare_proposition.ensures.same_names) refl
 
 pub returns-then-is_event-clause-same_terms : goal.returns-then-is_event-clause-same_terms
 returns-then-is_event-clause-same_terms c = same-terms c.args.self.now.scale.exponent
+    c.args.self.now.scale.unit
     (ap (λ needed. needs needed.value) c.declare_event.ensures.same_names) refl

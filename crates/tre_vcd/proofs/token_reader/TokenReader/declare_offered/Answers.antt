@@ -64,5 +64,6 @@ returns-clause-needed c = λ past knows. c.declare_offered.ensures.knows past kn
 
 pub returns-clause-same_terms : goal.returns-clause-same_terms
 returns-clause-same_terms c = same-terms c.args.self.now.scale.exponent
+    c.args.self.now.scale.unit
     (ap (λ needed. needs needed.value) c.declare_offered.ensures.same_names)
     (ap (λ own. own.items) c.declare.ensures.kept)

@@ -1,13 +1,14 @@
-use Rattle.std.proofs.Common.{◌∷◌, refl, sym, ap, ◌∙◌, subst}
+use Rattle.std.proofs.Common.{◌≡◌, ◌∷◌, map, take, refl, sym, ap, ◌∙◌, subst}
 use Rattle.tre_parts.specs.Walk.{TellsPart}
 use Rattle.tre_vcd.specs.Sections.{Holds, asked_of_reader}
-use Rattle.tre_vcd.specs.VcdReading.{upscope, definitions, nothing}
-use Rattle.tre_vcd.specs.declared.command.Command.TheVariants.{Scope, Upscope, Var, EndDefinitions}
+use Rattle.tre_vcd.specs.VcdReading.{upscope, timescale, definitions, nothing}
+use Rattle.tre_vcd.specs.Timescale.{tick_of}
+use Rattle.tre_vcd.specs.declared.command.Command.TheVariants.{Scope, Upscope, Var, Timescale, EndDefinitions}
 use Rattle.tre_vcd.specs.Offers.{KnowsOffers}
 use Rattle.tre_vcd.proofs.Needing.{needed-same}
 use Rattle.tre_vcd.proofs.Standing.{reads-no_var, stays}
 use Rattle.tre_vcd.proofs.Staying.{offers-stay, past-stays}
-use Rattle.tre_vcd.proofs.Tokens.{section-ended}
+use Rattle.tre_vcd.proofs.Tokens.{section-ended, tick-kept}
 use Rattle.tre_vcd.proofs.token_reader.TokenReader.end_section.Goals as goal
 
 pub returns-in-Scope-clause-tells : goal.returns-in-Scope-clause-tells
@@ -35,6 +36,21 @@ returns-in-Upscope-clause-tells c = λ past word tokens holds is. record {
       holds.knows);
 }
 
+pub returns-in-Timescale-clause-tells : goal.returns-in-Timescale-clause-tells
+returns-in-Timescale-clause-tells c = λ past word tokens holds is.
+    let reader = c.args.self.now in
+    let kept : map (λ token. token.items) c.deref.result.now ≡ take 6 tokens =
+    ap (map (λ token. token.items)) c.deref.ensures.value ∙ holds.tokens in
+    record {
+      state = record { past = timescale tokens ∷ past; inside = nothing };
+      says = section-ended past word tokens Timescale (sym c.in-Timescale.is ∙ is);
+      is_held = c.close-in-Timescale.ensures.holds (timescale tokens ∷ past)
+          (past-stays reader past (timescale tokens ∷ past) c.measure.new.self
+          (λ test own. refl) (stays (timescale tokens) past tt)
+          (c.measure.ensures reader.names reader.events past tokens holds.knows.past
+          (ap tick_of kept ∙ tick-kept tokens)) holds.knows);
+    }
+
 pub returns-in-EndDefinitions-clause-tells : goal.returns-in-EndDefinitions-clause-tells
 returns-in-EndDefinitions-clause-tells c = λ past word tokens holds is.
     let reader = c.args.self.now in
@@ -45,7 +61,8 @@ returns-in-EndDefinitions-clause-tells c = λ past word tokens holds is.
         past = c.define.ensures reader.events past holds.knows.past;
         needed = needed-same past (definitions ∷ past) reader.needed (λ test name. refl)
             holds.knows.needed;
-        signals = c.sift.ensures.knows reader.names reader.events past holds.knows.signals;
+        signals = c.sift.ensures.knows reader.names reader.events past holds.suits
+            holds.knows.signals;
         offers =
             subst (λ all. KnowsOffers all (definitions ∷ past) reader.needed)
             (ap (λ all. all.items) (sym c.sift.ensures.kept))

@@ -1,4 +1,4 @@
-use Rattle.std.proofs.Common.{[], ◌∙◌, refl, ap, map, subst, sym}
+use Rattle.std.proofs.Common.{[], ◌∙◌, refl, ap, ap₂, map, subst, sym}
 use Rattle.tre_vcd.specs.Kept.{vocabulary_of}
 use Rattle.tre_vcd.specs.Offers.{KnowsOffers}
 use Rattle.tre_vcd.proofs.Longest.{both-below}
@@ -31,7 +31,7 @@ returns-clause-begins c =
 
 pub returns-clause-terms : goal.returns-clause-terms
 returns-clause-terms c =
-    ap (λ scale. terms_of scale (vocabulary_of c.in_ok-found.found)
-    c.in_ok-signals.signals.definitions.items) c.new-3.ensures
-    ∙ same-terms c.args.scale c.in_ok-found.ensures.needs
+    ap₂ (λ scale unit. terms_of scale unit (vocabulary_of c.in_ok-found.found)
+    c.in_ok-signals.signals.definitions.items) c.new-3.ensures.exponent c.new-3.ensures.unit
+    ∙ same-terms c.args.scale c.args.unit c.in_ok-found.ensures.needs
     (c.in_ok-signals.ensures.kept ∙ c.definitions.ensures ∙ c.in_ok-found.ensures.definitions)

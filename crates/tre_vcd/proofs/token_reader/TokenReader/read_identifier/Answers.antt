@@ -1,6 +1,6 @@
 use Rattle.std.proofs.Common.{◌≡◌, ◌∷◌, refl, sym, subst, ◌∙◌}
 use Rattle.tre_vcd.specs.VcdReading.{wide, change, nothing}
-use Rattle.tre_vcd.specs.Signals.{KnowsSignals}
+use Rattle.tre_vcd.specs.Defined.{KnowsSignals}
 use Rattle.tre_vcd.specs.declared.inside.Inside.TheVariants.{Nothing}
 use Rattle.tre_vcd.proofs.Staying.{knows-kept}
 use Rattle.tre_vcd.proofs.Changing.{past-changed}
