@@ -24,7 +24,7 @@ use Rattle.tre_parse.specs.Unkept.{NoneEmptyBefore}
 use Rattle.tre_parse.proofs.Empties.{interval_from, stands, stands_empty, stands_read, read_stands, none_before_one, none_before_more, none_empty}
 use Rattle.tre_parse.proofs.Fixpoint.{left}
 use Rattle.tre_parse.proofs.Judging.{short, good_bytes, past_numbers, past_brackets, past_syntax, past_intervals, past_names, past_size}
-use Rattle.tre_parse.proofs.Whole.{read_whole, IsCut, fault_at, spelt_read}
+use Rattle.tre_parse.proofs.Whole.{read_whole, IsCut, no_tree, fault_at, spelt_read}
 
 -- A fact, or that it is none.
 abbrev Decided : Type 0 → Type 0
@@ -166,8 +166,10 @@ lasting_or words bad tree spells below (inr none) =
 cut_as : (words : TextTokens) (bad : Option ℕ) → NoneBelow 4 (read_by words bad)
     → IsCut (read_whole words.tokens) → First words bad
 cut_as words bad below h =
-    let place = length words.tokens - length (left (read_whole words.tokens)) in
-    (refused (Syntax (offset_of words place)), ((place, fault_at words.tokens h, refl), below))
+    let place = length words.tokens - length (left (read_whole words.tokens)) in (
+      refused (Syntax (offset_of words place)),
+      ((no_tree words.tokens h, (place, fault_at words.tokens h, refl)), below),
+    )
 
 read_as : (words : TextTokens) (bad : Option ℕ) → NoneBelow 4 (read_by words bad)
     → (made : Reading PatternTree) → read_whole words.tokens ≡ made → First words bad

@@ -17,7 +17,7 @@ use Rattle.tre_parse.specs.Grammar.{expr, Spells}
 use Rattle.tre_parse.specs.Reader.{got}
 use Rattle.tre_parse.specs.Reading.{ReadingGoes, Stops}
 use Rattle.tre_parse.proofs.Fixpoint.{left}
-use Rattle.tre_parse.proofs.Whole.{read_whole, IsCut, fault_at, spelt_once, spelt_read}
+use Rattle.tre_parse.proofs.Whole.{read_whole, IsCut, no_tree, fault_at, spelt_once, spelt_read}
 use Rattle.tre_parse.specs.declared.cursor.Stop.{Stop}
 use Rattle.tre_parse.specs.declared.cursor.Stop.TheVariants.{Syntax as Stuck, Memory as Lacking}
 use Rattle.tre_parse.specs.Tokens.{RawTokenAt}
@@ -92,7 +92,7 @@ pub past_syntax : (read : Read) → NoneBelow 4 read → (tree : PatternTree)
 past_syntax read below tree spells = next 4 read below wrong
   where
     wrong : (fault : ParseFault) → rank fault ≡ 4 → HasCause read fault → ⊥
-    wrong (Mistaken at) e is = is.1.none tree spells
+    wrong (Mistaken at) e is = is.0 tree spells
     wrong fault e is = omega (arith, e)
 
 pub past_intervals : (read : Read) → NoneBelow 5 read → NoneEmpty read.words → NoneBelow 6 read
@@ -133,7 +133,7 @@ cut_outcome words fault rest below h same f =
     let place = length words.tokens - length (left (read_whole words.tokens)) in
     let is = ap (λ ts. Mistaken (offset_of words (length words.tokens - length ts))) same ∙ sym f in
     subst (λ one. ComesFirst (read_by words None) (refused one)) is
-    ((place, fault_at words.tokens h, refl), below)
+    ((no_tree words.tokens h, (place, fault_at words.tokens h, refl)), below)
 
 pub stop_outcome : (words : TextTokens) (stopped : Stop) (fault : ParseFault) (rest : List Token)
     → NoneBelow 4 (read_by words None) → Stops (read_whole words.tokens) stopped rest

@@ -7,7 +7,7 @@ use Rattle.tre_parse.specs.declared.fault.ParseFault.{ParseFault}
 use Rattle.tre_parse.specs.declared.fault.ParseFault.TheVariants.{TooLong, BadByte, Number as TooBig, TooDeep, Syntax, EmptyInterval, TooManyNames, TooLarge, Memory}
 use Rattle.tre_parse.specs.Outcome.{Read, IsFirst, At, HasCause, rank, Outcome, spelt, refused, ComesFirst, IsOutcome}
 use Rattle.tre_parse.specs.ScannedOutcome.{read_of}
-use Rattle.tre_parse.proofs.Whole.{spelt_once, fault_once}
+use Rattle.tre_parse.proofs.Whole.{spelt_once}
 use Rattle.tre_parse.proofs.Agreement.{scanned_outcome}
 
 -- There is one first place.
@@ -36,7 +36,7 @@ cause_once read (TooBig i) (TooBig j) h k e =
 cause_once read (TooDeep i) (TooDeep j) h k e =
     ap (λ at. TooDeep at) (at_once read _ i j (place_once _) h k)
 cause_once read (Syntax i) (Syntax j) h k e =
-    ap (λ at. Syntax at) (at_once read _ i j (fault_once read.words) h k)
+    ap (λ at. Syntax at) (at_once read _ i j (place_once _) h.1 k.1)
 cause_once read (EmptyInterval i) (EmptyInterval j) h k e =
     ap (λ at. EmptyInterval at) (at_once read _ i j (place_once _) h k)
 cause_once read (TooManyNames i) (TooManyNames j) h k e =

@@ -11,7 +11,7 @@ use Rattle.tre_parse.specs.TokenWords.{word_of, words_for}
 use Rattle.tre_parse.specs.Grammar.{Words, expr, Spells}
 use Rattle.tre_parse.specs.Begins.{Begins}
 use Rattle.tre_parse.specs.Front.{front}
-use Rattle.tre_parse.specs.Outcome.{BeginsExpression, IsSyntaxFaultAt}
+use Rattle.tre_parse.specs.Outcome.{BeginsExpression, IsFirst}
 use Rattle.tre_parse.specs.Reader.{Reading, got, stop, expression_by, of_pattern, read_pattern}
 use Rattle.tre_parse.proofs.TokenWords.{tokens_as, all_back, together}
 use Rattle.std.proofs.lemmas.List.{map-append, length-map}
@@ -55,8 +55,7 @@ take_one_more xs y ys = ap (λ n. take n (xs ++ y ∷ ys)) (sym (length-append x
 
 -- What begins the rule begins an expression.
 begins_one : (xs : Words) → Begins expr xs → BeginsExpression xs
-begins_one xs h = let c = completes expr xs h in
-    record { more = c.rest; tree = c.tree; spells = c.spells }
+begins_one xs h = let c = completes expr xs h in (c.rest, c.tree, c.spells)
 
 -- Fewer tokens than those that begin an expression begin one.
 record Cut (m n : ℕ) (ts : Words) : Type 0 where
@@ -74,13 +73,11 @@ fewer_begin : (m n : ℕ) (ts : Words) → m ≤ n → BeginsExpression (take n 
     → BeginsExpression (take m ts)
 fewer_begin m n ts le h =
     let c = cut m n ts le in
-    let P = λ (us : Words). Spells expr us h.tree in
-    record {
-      more = c.rest ++ h.more;
-      tree = h.tree;
-      spells = subst P (ap (λ us. us ++ h.more) c.whole ∙ append_assoc (take m ts) c.rest h.more)
-          h.spells;
-    }
+    let P = λ (us : Words). Spells expr us h.1 in (
+      c.rest ++ h.0,
+      h.1,
+      subst P (ap (λ us. us ++ h.0) c.whole ∙ append_assoc (take m ts) c.rest h.0) h.2,
+    )
 
 -- A reading that is not a whole expression: it stops, or leaves tokens.
 abbrev pub IsCut : Reading PatternTree → Type 0
@@ -116,55 +113,43 @@ wrong_rest tokens taken (t ∷ rest) o e alike h =
     ∙ ap (λ k. take (k + 1) (words_for taken ++ word_of t ∷ words_for rest)) (sym n)
     ∙ take_one_more (words_for taken) (word_of t) (words_for rest)
     ∙ sym (map-append word_of taken (t ∷ []))) h in
-    let more = tokens_as c.more in
-    absurd (cut_before o t more c.tree (sym (alike (t ∷ more) refl)
+    let more = tokens_as c.0 in
+    absurd (cut_before o t more c.1 (sym (alike (t ∷ more) refl)
     ∙ ap (λ ts. read_whole ts) (sym (append_assoc taken (t ∷ []) more)
-    ∙ together (taken ++ t ∷ []) c.more)
-    ∙ pattern_whole expr (words_for (taken ++ t ∷ []) ++ c.more) c.tree c.spells))
+    ∙ together (taken ++ t ∷ []) c.0)
+    ∙ pattern_whole expr (words_for (taken ++ t ∷ []) ++ c.0) c.1 c.2))
 
--- Where reading comes to no whole expression, the fault is at the tokens that it leaves.
+-- The words begin no expression with the one at the place, or the place is their end.
+abbrev pub IsStuckAt : Words → ℕ → Type 0
+IsStuckAt words place = BeginsExpression (take (place + 1) words) → place ≡ length words
+
+-- Where reading comes to no whole expression, the tokens spell none.
+pub no_tree : (tokens : List Token) → IsCut (read_whole tokens) → (tree : PatternTree)
+    → Spells expr (words_for tokens) tree → ⊥
+no_tree tokens h tree k = not_whole (read_whole tokens) tree h (read_spelt tokens tree k)
+
+-- They go wrong at those that reading leaves.
 pub fault_at : (tokens : List Token) → IsCut (read_whole tokens)
-    → IsSyntaxFaultAt (words_for tokens) (length tokens - length (left (read_whole tokens)))
+    → IsFirst (IsStuckAt (words_for tokens)) (length tokens - length (left (read_whole tokens)))
 fault_at tokens h =
     let s = task_says (of_pattern (expression_by Alternation)) tokens in
     let rest = left (read_whole tokens) in
+    let words = words_for tokens in
     let count = length-append s.taken rest in
-    let n = ap length s.split in
-    let here : length s.taken ≡ length tokens - length rest = omega (arith, count, n) in
-    let P = λ (k : ℕ). IsSyntaxFaultAt (words_for tokens) k in
-    let Q = λ (ws : Words). BeginsExpression ws in
-    let taken : words_for s.taken ≡ take (length s.taken) (words_for tokens) =
+    let size = ap length s.split in
+    let all = length-map tokens word_of in
+    let here : length s.taken ≡ length tokens - length rest = omega (arith, count, size) in
+    let taken : words_for s.taken ≡ take (length s.taken) words =
     sym (ap (λ ts. take (length s.taken) (words_for ts)) s.split
     ∙ ap (take (length s.taken)) (map-append word_of s.taken rest)
     ∙ ap (λ k. take k (words_for s.taken ++ words_for rest)) (sym (length-map s.taken word_of))
     ∙ take-append_seam (words_for s.taken) (words_for rest)) in
-    subst P here
-    (record {
-      none = λ e k. not_whole (read_whole tokens) e h (read_spelt tokens e k);
-      begins = subst Q taken
-          (begins_one (words_for s.taken)
-          (front_begun (words_for s.taken) (read_whole tokens) s.says));
-      wrong = wrong_rest tokens s.taken rest (read_whole tokens) s.split s.alike;
-    })
-
--- There is one such place.
-pub fault_once : (tokens : Words) (i j : ℕ) → IsSyntaxFaultAt tokens i
-    → IsSyntaxFaultAt tokens j → i ≡ j
-fault_once tokens i j f g =
-    let left = before_none tokens i j f g in
-    let right = before_none tokens j i g f in
-    omega (arith, left, right)
-  where
-    -- No token is left at the place, and all of them are no more than those before it.
-    past_end : (ts : Words) (n : ℕ) → IsSyntaxFaultAt ts n → length ts < n → ⊥
-    past_end ts n h lt =
-        let P = λ (us : Words). BeginsExpression us in
-        let same = take_all n ts (omega arith) ∙ sym (take_all (n + 1) ts (omega arith)) in
-        let all = h.wrong (subst P same h.begins) in
-        omega (arith, all, lt)
-
-    before_none : (ts : Words) (m n : ℕ) → IsSyntaxFaultAt ts m → IsSyntaxFaultAt ts n → m < n
-        → ⊥
-    before_none ts m n h k lt =
-        let all = h.wrong (fewer_begin (m + 1) n ts (omega arith) k.begins) in
-        past_end ts n k (omega (arith, all, lt))
+    let begins = subst (λ (ws : Words). BeginsExpression ws) taken
+    (begins_one (words_for s.taken)
+    (front_begun (words_for s.taken) (read_whole tokens) s.says)) in
+    subst (IsFirst (IsStuckAt words)) here (
+      wrong_rest tokens s.taken rest (read_whole tokens) s.split s.alike,
+      λ n less stuck.
+          let end = stuck (fewer_begin (n + 1) (length s.taken) words (omega (arith, less)) begins) in
+          omega (arith, end, less, all, size, count),
+    )

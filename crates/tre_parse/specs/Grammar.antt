@@ -10,12 +10,19 @@ use Rattle.tre_parse.specs.Words.{Word, name, event_name, number, sign}
 abbrev pub Words : Type 0
 Words = List (Word ℕ)
 
--- The rules that spell a state, the loosest first. The last is for what stands behind `!`, inside a
--- state or as a literal.
+-- The rules that spell a state and an expression, the loosest first. The last of a state is for what
+-- stands behind `!`, inside a state or as a literal.
 pub data StateRule : Type 0 where
   state : StateRule
   conj : StateRule
   unary : Bool → StateRule
+
+pub data Rule : Type 0 where
+  expr : Rule
+  meet : Rule
+  seq : Rule
+  post : Rule
+  primary : Rule
 
 pub data SpellsState : StateRule → Words → StateTree → Type 0 where
   -- unary: any number of `!`, then a name, `true` or a state in braces, or inside in parentheses
@@ -27,16 +34,13 @@ pub data SpellsState : StateRule → Words → StateTree → Type 0 where
       SpellsState (unary false) (sign (codes "{") ∷ xs ++ sign (codes "}") ∷ []) s
   parens : (xs : Words) (s : StateTree) → SpellsState state xs s →
       SpellsState (unary true) (sign (codes "(") ∷ xs ++ sign (codes ")") ∷ []) s
-  -- state: conj, then any number of `||` conj
+  -- state: conj, then any number of `||` conj; conj: unary inside, then any number of `&&` unary
   state_conj : (xs : Words) (s : StateTree) → SpellsState conj xs s → SpellsState state xs s
   state_bars : (xs ys : Words) (s t : StateTree) → SpellsState state xs s →
       SpellsState conj ys t → SpellsState state (xs ++ sign (codes "||") ∷ ys) (disjunction s t)
-  -- conj: unary inside, then any number of `&&` unary
-  conj_unary : (xs : Words) (s : StateTree) → SpellsState (unary true) xs s →
-      SpellsState conj xs s
-  conj_ampersands : (xs ys : Words) (s t : StateTree) → SpellsState conj xs s →
-      SpellsState (unary true) ys t →
-      SpellsState conj (xs ++ sign (codes "&&") ∷ ys) (conjunction s t)
+  conj_unary : (xs : Words) (s : StateTree) → SpellsState (unary true) xs s → SpellsState conj xs s
+  conj_ampersands : (xs ys : Words) (s t : StateTree) → SpellsState conj xs s → SpellsState
+      (unary true) ys t → SpellsState conj (xs ++ sign (codes "&&") ∷ ys) (conjunction s t)
 
 -- The words spell the interval: with square brackets where its ends are in it.
 pub data SpellsInterval : Words → IntervalEnds → Type 0 where
@@ -49,24 +53,14 @@ pub data SpellsInterval : Words → IntervalEnds → Type 0 where
       ∷ sign (codes ",") ∷ sign (codes "inf") ∷ sign (codes ")") ∷ [])
       (record { low = low; low_weak = low_weak; high = None; high_weak = false })
 
--- The rules that spell an expression, the loosest first.
-pub data Rule : Type 0 where
-  expr : Rule
-  meet : Rule
-  seq : Rule
-  post : Rule
-  primary : Rule
-
 pub data Spells : Rule → Words → PatternTree → Type 0 where
-  -- expr: meet, then any number of `|` meet
+  -- expr: meet, then any number of `|` meet; meet: seq, then `&` seq; seq: post, then `;` post
   expr_meet : (xs : Words) (e : PatternTree) → Spells meet xs e → Spells expr xs e
   expr_bar : (xs ys : Words) (e f : PatternTree) → Spells expr xs e → Spells meet ys f →
       Spells expr (xs ++ sign (codes "|") ∷ ys) (alternation e f)
-  -- meet: seq, then any number of `&` seq
   meet_seq : (xs : Words) (e : PatternTree) → Spells seq xs e → Spells meet xs e
   meet_ampersand : (xs ys : Words) (e f : PatternTree) → Spells meet xs e → Spells seq ys f →
       Spells meet (xs ++ sign (codes "&") ∷ ys) (intersection e f)
-  -- seq: post, then any number of `;` post
   seq_post : (xs : Words) (e : PatternTree) → Spells post xs e → Spells seq xs e
   seq_semicolon : (xs ys : Words) (e f : PatternTree) → Spells seq xs e → Spells post ys f →
       Spells seq (xs ++ sign (codes ";") ∷ ys) (sequence e f)
@@ -81,8 +75,7 @@ pub data Spells : Rule → Words → PatternTree → Type 0 where
       Spells post (xs ++ sign (codes "?") ∷ []) (alternation e (atom empty))
   post_percent : (xs ys : Words) (e : PatternTree) (ends : IntervalEnds) → Spells post xs e →
       SpellsInterval ys ends → Spells post (xs ++ sign (codes "%") ∷ ys) (restriction e ends)
-  -- primary: `eps`, an expression in parentheses, an edge of a state in parentheses, an event by
-  -- its name in parentheses, or a literal
+  -- primary: the empty stretch, parentheses, edges, an event by its name, literals
   primary_eps : Spells primary (sign (codes "eps") ∷ []) (atom empty)
   primary_parens : (xs : Words) (e : PatternTree) → Spells expr xs e →
       Spells primary (sign (codes "(") ∷ xs ++ sign (codes ")") ∷ []) e

@@ -63,17 +63,9 @@ open_after depth word =
 abbrev pub IsDeepAt : Words → ℕ → Type 0
 IsDeepAt words place = DEPTH_MAX < fold open_after 0 (take (place + 1) words)
 
-pub record BeginsExpression (words : Words) : Type 0 where
-  pub more : Words
-  pub tree : PatternTree
-  pub spells : Spells expr (words ++ more) tree
-
--- The words are no expression, and this is the place where that is seen: those before it begin an
--- expression, and with one more they don't, or there is no more.
-pub record IsSyntaxFaultAt (words : Words) (place : ℕ) : Type 0 where
-  pub none : (tree : PatternTree) → Spells expr words tree → ⊥
-  pub begins : BeginsExpression (take place words)
-  pub wrong : BeginsExpression (take (place + 1) words) → place ≡ length words
+-- Some more words behind these make an expression.
+abbrev pub BeginsExpression : Words → Type 0
+BeginsExpression words = (more : Words) × (tree : PatternTree) × Spells expr (words ++ more) tree
 
 -- An interval that no duration is in stands at a place of the words, right after a `%`.
 pub record HasEmptyAt (words : Words) (place : ℕ) : Type 0 where
@@ -93,12 +85,16 @@ IsFirst Is place = Is place × ((n : ℕ) → n < place → Is n → ⊥)
 abbrev pub At : Read → (ℕ → Type 0) → ℕ → Type 0
 At read Is at = (place : ℕ) × Is place × (at ≡ slice_index_or read.offsets place read.size)
 
+-- Words that are no expression go wrong at the first with which they begin none, or at the end.
 abbrev pub HasCause : Read → ParseFault → Type 0
 HasCause read TooLong = TEXT_MAX < read.size
 HasCause read (BadByte at) = read.bad ≡ Some at
 HasCause read (TooBig at) = At read (λ place. position is_big read.words ≡ Some place) at
 HasCause read (TooDeep at) = At read (IsFirst (IsDeepAt read.words)) at
-HasCause read (Syntax at) = At read (IsSyntaxFaultAt read.words) at
+HasCause read (Syntax at) =
+    ((tree : PatternTree) → Spells expr read.words tree → ⊥)
+    × At read (IsFirst (λ place. BeginsExpression (take (place + 1) read.words)
+    → place ≡ length read.words)) at
 HasCause read (EmptyInterval at) = At read (IsFirst (HasEmptyAt read.words)) at
 HasCause read (TooManyNames at) = At read (λ place. position is_past read.words ≡ Some place) at
 HasCause read (TooLarge nodes) =

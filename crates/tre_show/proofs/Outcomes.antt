@@ -94,7 +94,7 @@ module _ (read : Read) (tree : PatternTree) (names : Vocabulary)
   refused_back (BadByte at) is = absurd (cc)
   refused_back (TooBig at) is = let some = is.1 in absurd (cc)
   refused_back (TooDeep at) is = inr (inr (at, refl))
-  refused_back (Syntax at) is = absurd (is.1.none tree spells)
+  refused_back (Syntax at) is = absurd (is.0 tree spells)
   refused_back (EmptyInterval at) is = absurd (lasting is.0 is.1.0)
   refused_back (TooManyNames at) is = let some = is.1 in absurd (cc)
   refused_back (TooLarge nodes) is =
