@@ -6,8 +6,12 @@ use Rattle.std.proofs.lemmas.Bool.Decides.{nat_tests}
 use Rattle.tre_parse.specs.declared.limits.TheConstants.{DEPTH_MAX}
 use Rattle.tre_parse.specs.Words.{Word}
 use Rattle.tre_parse.specs.Grammar.{Words}
-use Rattle.tre_parse.specs.Outcome.{open_after, IsDeepAt, IsFirst}
+use Rattle.tre_parse.specs.Outcome.{open_after, IsFirst}
 use Rattle.tre_parse.specs.Limits.{deep_place}
+
+-- Behind the words up to this place more than DEPTH_MAX brackets are open.
+abbrev pub IsDeepAt : Words → ℕ → Type 0
+IsDeepAt words place = DEPTH_MAX < fold open_after 0 (take (place + 1) words)
 
 -- So many words further, counted from a depth.
 record DeepFrom (depth : ℕ) (words : Words) (k : ℕ) : Type 0 where

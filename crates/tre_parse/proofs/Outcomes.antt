@@ -45,6 +45,7 @@ cause_once read (TooLarge n) (TooLarge m) h k e =
     ap (λ nodes. TooLarge nodes) (h.3 ∙ ap (λ tree. min (node_count tree) COUNT_MAX)
     (spelt_once read.words h.0 k.0 h.1 k.1) ∙ sym k.3)
 cause_once read Memory other h k e = absurd h
+cause_once read one Memory h k e = absurd k
 cause_once read one other h k e = absurd (omega (arith, e))
 
 pub first_once : (read : Read) (o q : Outcome) → ComesFirst read o → ComesFirst read q → o ≡ q

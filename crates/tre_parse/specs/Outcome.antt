@@ -59,10 +59,6 @@ open_after depth word =
     if list_any (λ byte. is_sign (byte ∷ []) word) (codes "([{") then depth + 1
     else (if list_any (λ byte. is_sign (byte ∷ []) word) (codes ")]}") then depth - 1 else depth)
 
--- Behind the words up to this place more than DEPTH_MAX brackets are open.
-abbrev pub IsDeepAt : Words → ℕ → Type 0
-IsDeepAt words place = DEPTH_MAX < fold open_after 0 (take (place + 1) words)
-
 -- Some more words behind these make an expression.
 abbrev pub BeginsExpression : Words → Type 0
 BeginsExpression words = (more : Words) × (tree : PatternTree) × Spells expr (words ++ more) tree
@@ -90,7 +86,8 @@ abbrev pub HasCause : Read → ParseFault → Type 0
 HasCause read TooLong = TEXT_MAX < read.size
 HasCause read (BadByte at) = read.bad ≡ Some at
 HasCause read (TooBig at) = At read (λ place. position is_big read.words ≡ Some place) at
-HasCause read (TooDeep at) = At read (IsFirst (IsDeepAt read.words)) at
+HasCause read (TooDeep at) =
+    At read (IsFirst (λ place. DEPTH_MAX < fold open_after 0 (take (place + 1) read.words))) at
 HasCause read (Syntax at) =
     ((tree : PatternTree) → Spells expr read.words tree → ⊥)
     × At read (IsFirst (λ place. BeginsExpression (take (place + 1) read.words)
@@ -102,7 +99,7 @@ HasCause read (TooLarge nodes) =
     × (nodes ≡ min (node_count tree) COUNT_MAX)
 HasCause read Memory = ⊥
 
--- The order in which refusals come. Want of memory has no cause in a text.
+-- The order in which refusals come.
 abbrev pub rank : ParseFault → ℕ
 rank TooLong = 0
 rank (BadByte at) = 1
@@ -111,8 +108,7 @@ rank (TooDeep at) = 3
 rank (Syntax at) = 4
 rank (EmptyInterval at) = 5
 rank (TooManyNames at) = 6
-rank (TooLarge nodes) = 7
-rank Memory = 8
+rank _ = 7
 
 -- The first refusal that has a cause, or where none has, what the words spell.
 abbrev pub ComesFirst : Read → Outcome → Type 0
