@@ -326,6 +326,18 @@ uncompared past (Some paired) value identifier none knows =
       side-unread past _ paired.other identifier texts.1 knows.0.other,
     ) refl
 
+-- a name that reads values of the identifier compares two signals
+read-compared : (all : List SignalDefined) (names : List (List ℕ)) (sieve : List ℕ)
+    (kept : Pairs) (past : List Statement) (identifier : List ℕ)
+    → KnowsPairs all names sieve kept past → (k : ℕ)
+    → reads_at (slice_get kept.list.items k) identifier ≡ true → (has : Bool)
+    → has_at (map (λ paired. only_compared paired.definition) kept.list.items) k ≡ has
+    → has ≡ true
+read-compared all names sieve kept past identifier knows k is true e = refl
+read-compared all names sieve kept past identifier knows k is false e =
+    absurd (false≢true (sym (uncompared past (slice_get kept.list.items k) _ identifier
+    (sym (only-at kept.list.items k) ∙ e) (knows.each k)) ∙ is))
+
 -- A name whose number is left out, or that compares nothing, reads no value of the identifier.
 pub pairs-unread : (all : List SignalDefined) (names : List (List ℕ)) (sieve : List ℕ)
     (kept : Pairs) (past : List Statement) (identifier : List ℕ) (numbers : ℕ)
@@ -341,17 +353,9 @@ pairs-unread all names sieve kept past identifier numbers ended may knows k clea
     by true is =
         let numbered : bit_at numbers k ≡ 1 = may k (knows.sifted ended k identifier is) in
         let has : has_at (map (λ paired. only_compared paired.definition) kept.list.items) k ≡ true =
-        compared (has_at _ k) refl in
+        read-compared all names sieve kept past identifier knows k is _ refl in
         let own : bit_at kept.compared k ≡ 1 = knows.compared k ∙ ap bit_of has in
         absurd (clear (bit_at_and numbers kept.compared k ∙ ap₂ min numbered own))
-      where
-        compared : (has : Bool)
-            → has_at (map (λ paired. only_compared paired.definition) kept.list.items) k ≡ has
-            → has ≡ true
-        compared true e = refl
-        compared false e =
-            absurd (false≢true (sym (uncompared past (slice_get kept.list.items k) _ identifier
-            (sym (only-at kept.list.items k) ∙ e) (knows.each k)) ∙ is))
 
 -- no name reads an identifier that has no number
 pub pairs-unsieved : (all : List SignalDefined) (names : List (List ℕ)) (sieve : List ℕ)
@@ -385,17 +389,23 @@ pairs-before all names sieve now kept past before knows = record {
 -- no name reads an identifier of whose numbers none is that of a comparison
 pub pairs-passed : (all : List SignalDefined) (names : List (List ℕ)) (sieve : List ℕ)
     (kept : Pairs) (past : List Statement) (form : Form) (identifier letters : List ℕ)
-    (numbers : ℕ) → is_defined past ≡ true
-    → ((k : ℕ) → MayBe sieve identifier k → bit_at numbers k ≡ 1)
-    → bit_and numbers kept.compared ≡ 0 → KnowsPairs all names sieve kept past
+    → is_defined past ≡ true
+    → ((k : ℕ) → MayBe sieve identifier k → bit_at kept.compared k ≡ 1 → ⊥)
+    → KnowsPairs all names sieve kept past
     → KnowsPairs all names sieve kept (change form identifier letters ∷ past)
-pairs-passed all names sieve kept past form identifier letters numbers ended may none knows =
+pairs-passed all names sieve kept past form identifier letters ended apart knows =
     pairs-changed all names sieve kept past form identifier letters kept.list kept.values ended
     (record { definitions = refl; reads = λ k other. refl })
     (λ k. paired-untold past form identifier letters _ _
-    (pairs-unread all names sieve kept past identifier numbers ended may knows k
-    (λ set. absurd (omega (arith, set, ap (λ n. bit_at n k) none, bit_at-zero k))))
-    (knows.each k)) knows
+    (unread k (reads_at (slice_get kept.list.items k) identifier) refl) (knows.each k)) knows
+  where
+    unread : (k : ℕ) (reads : Bool)
+        → reads_at (slice_get kept.list.items k) identifier ≡ reads → reads ≡ false
+    unread k false is = refl
+    unread k true is =
+        let has : has_at (map (λ paired. only_compared paired.definition) kept.list.items) k ≡ true =
+        read-compared all names sieve kept past identifier knows k is _ refl in
+        absurd (apart k (knows.sifted ended k identifier is) (knows.compared k ∙ ap bit_of has))
 
 pub paired-moved : (past : List Statement) (old new : Option Paired) (was now : ℕ)
     → (new ≡ old) × (now ≡ was) → KnowsPairAt past old was → KnowsPairAt past new now

@@ -189,18 +189,6 @@ impl Pairs {
         sift_each(&self.list, sieve);
     }
 
-    // Whether one of these numbers is that of a name that compares two signals.
-    pub fn may_read(&self, numbers: u64) -> bool
-        ensures { result ≡ false → (all : List SignalDefined) (names : List (List ℕ))
-            (sieve : List ℕ) (past : List Statement) (form : Form)
-            (identifier letters : List ℕ) → is_defined past ≡ true →
-            ((k : ℕ) → MayBe sieve identifier k → bit_at numbers k ≡ 1) →
-            KnowsPairs all names sieve self.now past →
-            KnowsPairs all names sieve self.now (change form identifier letters ∷ past) }
-    {
-        numbers & self.compared != 0
-    }
-
     // An identifier, which may have these numbers, has a value of these letters.
     pub fn change(
         &mut self,

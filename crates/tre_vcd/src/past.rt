@@ -1,5 +1,5 @@
 // What the reader keeps of the statements that it has read.
-ghost use Rattle.std.specs.Prelude.{◌≡◌, ◌==◌, ◌&&◌, not, length, map, ◌∷◌, ℕ, List, [], true, false, OnOk};
+ghost use Rattle.std.specs.Prelude.{◌≡◌, ◌≢◌, ◌==◌, ◌&&◌, not, length, map, ◌∷◌, ℕ, List, [], true, false, OnOk};
 ghost use Rattle.tre_vcd.specs.Timescale.{tick_of};
 ghost use Rattle.tre_vcd.specs.VcdReading.{Statement, scope, upscope, var, timescale, tick_at, definitions, time, change, scalar, wide, dump, dump_end, is_defined, in_dump, scopes_at, is_signal, is_event};
 ghost use Rattle.tre_vcd.specs.Kept.{KnowsOfPast, ends_true, tick_kept, Declares, DeclaresNone, valuation_behind, events_at};
@@ -148,6 +148,18 @@ impl Past {
             self.time = ticks;
             self.happened = 0;
         }
+    }
+
+    // Another time is reached.
+    #[inline(always)]
+    pub fn reach_next(&mut self, ticks: u64)
+        ensures knows { (names event_names : List (List ℕ)) (past : List Statement) →
+            ticks ≢ self.old.time → KnowsOfPast names event_names self.old past →
+            KnowsOfPast names event_names self.new (time ticks ∷ past) }
+        ensures defined { self.new.is_defined ≡ self.old.is_defined }
+    {
+        self.time = ticks;
+        self.happened = 0;
     }
 
     // An identifier changes to letters that end with this value, as a vector.

@@ -44,12 +44,27 @@ impl Scale {
     {
         match &self.unit {
             None => read_digits(ticks, self.exponent),
+            Some(_) => self.time_apart(past, ticks),
+        }
+    }
+
+    // The same, apart from the code of its callers.
+    #[inline(never)]
+    pub fn time_apart(&self, past: &Past, ticks: &[u8]) -> Option<u64>
+        ensures digits { IfSome result (λ _. is_numeral ticks.now ≡ true) }
+        ensures value { IfSome result (λ units. option_map (λ exact. min exact (2 ^ 64 - 1))
+            (units_by self.now.exponent self.now.unit (tick_kept past.now)
+            (digits_value 10 ticks.now)) ≡ Some units) }
+        ensures none { IfNone result (is_numeral ticks.now ≡ true → units_by self.now.exponent
+            self.now.unit (tick_kept past.now) (digits_value 10 ticks.now) ≡ None) }
+    {
+        match &self.unit {
+            None => read_digits(ticks, self.exponent),
             Some(unit) => self.time_in(*unit, past, ticks),
         }
     }
 
     // The same in this unit.
-    #[inline(never)]
     fn time_in(&self, unit: TimeUnit, past: &Past, ticks: &[u8]) -> Option<u64>
         ensures digits { IfSome result (λ _. is_numeral ticks.now ≡ true) }
         ensures value { IfSome result (λ units. option_map (λ exact. min exact (2 ^ 64 - 1))
@@ -83,9 +98,19 @@ fn shift(digits: &[u8], more: u32, less: u32) -> Option<u64>
         return quotient(digits, (less - more) as usize);
     }
     match read_numeral(digits) {
-        Some(number) => Some(number.saturating_mul(10u64.saturating_pow(more - less))),
+        Some(number) => Some(times_power(number, more - less)),
         None => None,
     }
+}
+
+// The number times so many tens; past 2^64 - 1 it stays there.
+fn times_power(number: u64, exponent: u32) -> u64
+    ensures { result ≡ min (number * min (10 ^ exponent) (2 ^ 64 - 1)) (2 ^ 64 - 1) }
+{
+    if exponent == 0 {
+        return number;
+    }
+    number.saturating_mul(10u64.saturating_pow(exponent))
 }
 
 // The number of these digits, of which so many at the end must be zeros that are left out.

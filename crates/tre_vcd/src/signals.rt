@@ -111,11 +111,7 @@ impl Signals {
         if self.changes.may_read(identifier) {
             return false;
         }
-        if self.pairs.may_read(self.tests.sieve.numbers(identifier)) {
-            return false;
-        }
-        self.tests.change(identifier, letters);
-        true
+        self.tests.change(identifier, letters, self.pairs.compared)
     }
 
     // An identifier has a value of these letters.
@@ -128,7 +124,7 @@ impl Signals {
         ensures kept { self.new.definitions ≡ self.old.definitions }
     {
         let numbers = self.tests.sieve.numbers(identifier);
-        self.tests.change(identifier, letters);
+        self.tests.change(identifier, letters, 0);
         self.pairs.change(numbers, identifier, letters)?;
         self.changes.change(identifier, letters)
     }

@@ -208,7 +208,7 @@ impl TokenReader {
         let segment = self.segment_until(ticks);
         match segments.push(segment) {
             Ok(()) => {
-                self.past.reach(ticks);
+                self.past.reach_next(ticks);
                 self.signals.changes.reach();
                 Taken::Whole
             }

@@ -8,6 +8,7 @@ ghost use Rattle.tre_state.specs.Sieve.{MayBe};
 ghost use Rattle.tre_trace.specs.Reading.{bits_of};
 ghost use Rattle.tre_vcd.specs.VcdReading.{Form, Statement, var, change, definitions, is_defined, scopes_at, offer_in, Asked, tested_at};
 ghost use Rattle.tre_vcd.specs.Kept.{IsQuiet, valuation_behind};
+ghost use Rattle.tre_vcd.specs.Taken.{behind_if};
 ghost use Rattle.tre_vcd.specs.Signals.{offer_kept, test_kept, test_read, test_told, test_at, bit_told, AreDefined, AreTested, KnowsTests};
 
 use crate::definitions::copy_if;
@@ -166,16 +167,24 @@ impl Tests {
         self.sieve.may_be(identifier)
     }
 
-    // An identifier has a value of these letters.
-    pub fn change(&mut self, identifier: &[u8], letters: &[u8])
+    // An identifier has a value of these letters, of which they are told unless one of the numbers
+    // that it may have is among others. This says whether they were.
+    pub fn change(&mut self, identifier: &[u8], letters: &[u8], others: u64) -> bool
         ensures knows { (all : List SignalDefined) (names : List (List ℕ))
             (past : List Statement) (form : Form) → is_defined past ≡ true →
-            KnowsTests all names self.old past →
-            KnowsTests all names self.new (change form identifier.now letters.now ∷ past) }
+            KnowsTests all names self.old past → KnowsTests all names self.new
+            (behind_if result (change form identifier.now letters.now) past) }
         ensures same { self.new.sieve ≡ self.old.sieve }
+        ensures apart { result ≡ true → (k : ℕ) → MayBe self.old.sieve identifier.now k →
+            bit_at others k ≡ 1 → ⊥ }
+        ensures all { others ≡ 0 → result ≡ true }
     {
         let numbers = self.sieve.numbers(identifier);
+        if numbers & others != 0 {
+            return false;
+        }
         tell(&self.list, &mut self.values, numbers, identifier, letters);
+        true
     }
 
     // These values, with those of the names that are defined in their places.

@@ -1,4 +1,4 @@
-use Rattle.std.proofs.Common.{◌-◌, sym, ap, ◌∙◌, ◌*◌, ◌^◌, min, Some, arith}
+use Rattle.std.proofs.Common.{sym, ap, ◌∙◌, Some, arith}
 use Rattle.tre_vcd.proofs.Scaling.{less-digits, more-digits}
 use Rattle.tre_vcd.proofs.scale.shift.Goals as goal
 
@@ -9,7 +9,6 @@ returns-then-more-less c =
 
 pub returns-in-Some : goal.returns-in-Some
 returns-in-Some c =
-    ap Some (c.saturating_mul.ensures
-    ∙ ap (λ n. min (c.in-Some.number * n) (2 ^ 64 - 1)) c.saturating_pow.ensures)
+    ap Some c.times_power.ensures
     ∙ more-digits c.args.more c.args.less c.args.digits.now c.in-Some.number
     (omega (arith, c.if-more-less.false)) c.in-Some.ensures.digits c.in-Some.ensures.value

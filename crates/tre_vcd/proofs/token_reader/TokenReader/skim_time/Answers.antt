@@ -46,9 +46,10 @@ returns-in-Ok-clause-taken c = λ past letters holds defined.
       goes_on = time-later (terms_kept reader) past digits ticks
           c.in-Some.ensures.digits value c.if-ticks-gt-TIME_MAX.false
           (omega (arith, holds.knows.past.time, c.if-ticks-self.false)) apart
-          (holds-later reader past ticks c.reach-in-Ok.new.self c.reach-in-Ok-2.new.self
-          (c.reach-in-Ok.ensures.knows reader.names reader.events past holds.knows.past)
-          (c.reach-in-Ok-2.ensures _ reader.events past ticks apart holds.knows.signals.changes)
+          (holds-later reader past ticks c.reach_next.new.self c.reach-in-Ok.new.self
+          (c.reach_next.ensures.knows reader.names reader.events past c.if-ticks-self-2.false
+          holds.knows.past)
+          (c.reach-in-Ok.ensures _ reader.events past ticks apart holds.knows.signals.changes)
           holds);
     }
 
