@@ -29,7 +29,7 @@ impl TokenReader {
         ensures same_terms { terms_kept self.new ≡ terms_kept self.old }
         ensures same_names { asked_of_reader self.new ≡ asked_of_reader self.old }
     {
-        let Some(ticks) = self.scale.time_apart(&self.past, digits) else {
+        let Some(ticks) = self.scale.time(&self.past, digits) else {
             return Said::Wrong(time_fault(digits));
         };
         if ticks < self.past.time {

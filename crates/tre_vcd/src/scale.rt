@@ -5,6 +5,7 @@ ghost use Rattle.std.specs.Option.{option_map};
 ghost use Rattle.std.specs.Str.Parse.{digits_value};
 ghost use Rattle.tre_decimal.specs.declared.TheConstants.{SCALE_MAX};
 ghost use Rattle.tre_decimal.specs.Decimal.{is_numeral, is_zero};
+ghost use Rattle.tre_pairs.specs.declared.TheConstants.{TIME_MAX};
 ghost use Rattle.tre_trace.specs.declared.fault.TraceKind.TheVariants.{BadToken, TooFine};
 ghost use Rattle.tre_vcd.specs.Kept.{shifted_digits, tick_kept};
 ghost use Rattle.tre_vcd.specs.Timescale.{shifted, units_by};
@@ -31,26 +32,30 @@ impl Scale {
         Scale { exponent, unit }
     }
 
-    // The time in units that so many ticks are; past 2^64 - 1 it stays there. None where there is
-    // no digit, or another byte, and where it is no whole number of units.
+    // The time in units that so many ticks are, where it is one of a trace, and else a later one.
     #[inline(always)]
-    pub fn time(&self, past: &Past, ticks: &[u8]) -> Option<u64>
-        ensures digits { IfSome result (λ _. is_numeral ticks.now ≡ true) }
-        ensures value { IfSome result (λ units. option_map (λ exact. min exact (2 ^ 64 - 1))
+    pub fn time_or_late(&self, past: &Past, ticks: &[u8]) -> u64
+        ensures digits { result ≤ TIME_MAX → is_numeral ticks.now ≡ true }
+        ensures value { result ≤ TIME_MAX → option_map (λ exact. min exact (2 ^ 64 - 1))
             (units_by self.now.exponent self.now.unit (tick_kept past.now)
-            (digits_value 10 ticks.now)) ≡ Some units) }
-        ensures none { IfNone result (is_numeral ticks.now ≡ true → units_by self.now.exponent
-            self.now.unit (tick_kept past.now) (digits_value 10 ticks.now) ≡ None) }
+            (digits_value 10 ticks.now)) ≡ Some result }
     {
         match &self.unit {
-            None => read_digits(ticks, self.exponent),
-            Some(_) => self.time_apart(past, ticks),
+            None => match read_digits(ticks, self.exponent) {
+                Some(units) => units,
+                None => u64::MAX,
+            },
+            Some(_) => match self.time(past, ticks) {
+                Some(units) => units,
+                None => u64::MAX,
+            },
         }
     }
 
-    // The same, apart from the code of its callers.
+    // The time in units that so many ticks are; past 2^64 - 1 it stays there. None where there is
+    // no digit, or another byte, and where it is no whole number of units.
     #[inline(never)]
-    pub fn time_apart(&self, past: &Past, ticks: &[u8]) -> Option<u64>
+    pub fn time(&self, past: &Past, ticks: &[u8]) -> Option<u64>
         ensures digits { IfSome result (λ _. is_numeral ticks.now ≡ true) }
         ensures value { IfSome result (λ units. option_map (λ exact. min exact (2 ^ 64 - 1))
             (units_by self.now.exponent self.now.unit (tick_kept past.now)

@@ -195,9 +195,7 @@ impl TokenReader {
         ensures same_terms { terms_kept self.new ≡ terms_kept self.old }
         ensures same_names { asked_of_reader self.new ≡ asked_of_reader self.old }
     {
-        let Some(ticks) = self.scale.time(&self.past, digits) else {
-            return Taken::Not;
-        };
+        let ticks = self.scale.time_or_late(&self.past, digits);
         if ticks < self.past.time || ticks > TIME_MAX {
             return Taken::Not;
         }
