@@ -21,6 +21,8 @@ SEGMENTS = 30000
 MEGABYTES = 2
 MIX = "(p;q) & (true % [1,6]) | <:req:> % [1,4]"
 COMPARED = "low = top.u0.s1 == 0x5a"    # a vector of vcd.VECTORS
+NUMBERS = "one = tb.write == 1; other = tb.read == 1"
+FULL = "full = tb.write == tb.read"
 SCOPE = "s" * 80
 PATTERNS = [
     "p",
@@ -104,6 +106,28 @@ def dump_rows(folder):
     return rows[:1] + [every] + rows[1:] + [compared]
 
 
+def pointers(place):
+    """Two numbers of 32 bits at a time, which are alike at every sixteenth."""
+    write = place * 0x9E3779B1 % 2**32
+    read = write if place % 16 == 0 else place * 0x85EBCA77 % 2**32
+    return "#%d\nb%s !\nb%s %%\n" % (5 * place, format(write, "b"), format(read, "b"))
+
+
+def pointer_rows(folder):
+    """A dump of two signals of 32 bits, each compared with a number, or with the other."""
+    path = os.path.join(folder, "pointers")
+    write_file(path, pointers, MEGABYTES)
+    with open(path) as file:
+        changes = file.read()
+    with open(path, "w") as file:
+        file.write("$scope module tb $end\n$var wire 32 ! write $end\n"
+                   "$var wire 32 % read $end\n$upscope $end\n$enddefinitions $end\n" + changes)
+    return [("a dump of two signals of 32 bits, each compared with a number",
+             ["--format", "vcd", "--define", NUMBERS, "{one && other}"], path),
+            ("the same, compared with one another",
+             ["--format", "vcd", "--define", FULL, "full"], path)]
+
+
 def declared(place):
     """A declaration: every other one has a range at the end of its name."""
     return "$var wire 8 %s v%d%s $end\n" % (vcd.identifier(place), place,
@@ -129,7 +153,8 @@ def declaration_rows(folder):
 def reading(programs, folder):
     """A row for each form of a trace, and how many of its names the pattern asks for."""
     print_head(["2 MB of", "millions of instructions"] + ["ratio"] * (len(programs) - 1))
-    rows = lines_rows(folder) + dump_rows(folder) + list(declaration_rows(folder))
+    rows = (lines_rows(folder) + dump_rows(folder) + pointer_rows(folder)
+            + list(declaration_rows(folder)))
     for label, options, given in rows:
         print_row([label] + cells(programs, options, given)[1])
 

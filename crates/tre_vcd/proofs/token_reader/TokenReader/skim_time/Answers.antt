@@ -22,7 +22,8 @@ returns-then-ticks-self-2-clause-taken c = λ past letters holds defined.
       stretches = [];
       added = sym (append-nil _);
       goes_on = time-again (terms_kept reader) past digits c.time_or_late-ticks.result
-          (c.time_or_late-ticks.ensures.digits c.if-ticks-gt-TIME_MAX.false) value c.if-ticks-gt-TIME_MAX.false same
+          (c.time_or_late-ticks.ensures.digits c.if-ticks-gt-TIME_MAX.false) value
+          c.if-ticks-gt-TIME_MAX.false same
           (holds-again reader past c.time_or_late-ticks.result c.reach.new.self same
           (c.reach.ensures.knows reader.names reader.events past holds.knows.past) holds);
     }
@@ -44,7 +45,8 @@ returns-in-Ok-clause-taken c = λ past letters holds defined.
           ∙ ap (λ segment. c.args.segments.now.items ++ segment ∷ [])
           (c.segment_until-segment.ensures past holds.knows);
       goes_on = time-later (terms_kept reader) past digits ticks
-          (c.time_or_late-ticks.ensures.digits c.if-ticks-gt-TIME_MAX.false) value c.if-ticks-gt-TIME_MAX.false
+          (c.time_or_late-ticks.ensures.digits c.if-ticks-gt-TIME_MAX.false) value
+          c.if-ticks-gt-TIME_MAX.false
           (omega (arith, holds.knows.past.time, c.if-ticks-self.false)) apart
           (holds-later reader past ticks c.reach_next.new.self c.reach-in-Ok.new.self
           (c.reach_next.ensures.knows reader.names reader.events past c.if-ticks-self-2.false
