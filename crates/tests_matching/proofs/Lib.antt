@@ -1,2 +1,0 @@
--- residuals that can be read with any piece, form by form
-pub mod Ready

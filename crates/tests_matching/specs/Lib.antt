@@ -1,2 +1,1 @@
--- What the functions inside promise each other: IsReady, ComesBehind.
-pub mod Ready
+-- No definitions.

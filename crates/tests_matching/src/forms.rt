@@ -1,9 +1,7 @@
 // Residuals in single operators, read with random pieces: they tell the matches that begin at one
 // time, piece by piece.
 ghost use Rattle.std.specs.Prelude.{ℕ, IfOk};
-ghost use Rattle.tests_matching.specs.Ready.{IsReady};
-ghost use Rattle.tre_edges.specs.Piece.{end_of_piece};
-ghost use Rattle.tre_residual.specs.Residual.{residual_tree};
+ghost use Rattle.tre_residual.specs.Residual.{residual_tree, IsWellAt};
 ghost use Rattle.tre_state.specs.declared.names.TheConstants.{NAMES_MAX};
 ghost use Rattle.tre_syntax.specs.Expr.{tree_of};
 ghost use Rattle.tre_syntax.specs.PatternTree.{NumbersBelow};
@@ -14,18 +12,17 @@ use crate::reading::tell_on;
 use std::alloc::{AllocError, Global};
 use std::test::Fail;
 use tre_edges::Piece;
-use tre_mark::moments;
 use tre_residual::Residual;
 use tre_state::NAMES_MAX;
 use tre_syntax::{Expr, Pattern};
-use tre_zone::Interval;
+use tre_zone::{Interval, Zone};
 use tre_zoneset::ZoneSet;
 
 // A match of the expression that begins at the time, in single operators: only an atom or a
 // repetition is one form with its expression. `now` has that one moment.
 fn forms(alloc: Global, expr: &Expr, now: &ZoneSet, time: u64) -> Result<Residual, AllocError>
     requires { NumbersBelow NAMES_MAX (tree_of expr.now) }
-    ensures { IfOk result (λ whole. IsReady time (residual_tree whole)) }
+    ensures { IfOk result (λ whole. IsWellAt time (residual_tree whole)) }
 {
     match expr {
         Expr::Seq(left, right) => {
@@ -54,7 +51,7 @@ fn forms(alloc: Global, expr: &Expr, now: &ZoneSet, time: u64) -> Result<Residua
 
 fn joined(alloc: Global, zones: &ZoneSet, expr: &Expr) -> Result<Residual, AllocError>
     requires { NumbersBelow NAMES_MAX (tree_of expr.now) }
-    ensures { IfOk result (λ whole. (time : ℕ) → IsReady time (residual_tree whole)) }
+    ensures { IfOk result (λ whole. (time : ℕ) → IsWellAt time (residual_tree whole)) }
 {
     let zones = zones.try_clone()?;
     let expr = expr.try_clone(alloc)?;
@@ -63,8 +60,8 @@ fn joined(alloc: Global, zones: &ZoneSet, expr: &Expr) -> Result<Residual, Alloc
 
 fn followed_by(alloc: Global, first: Residual, expr: &Expr) -> Result<Residual, AllocError>
     requires { NumbersBelow NAMES_MAX (tree_of expr.now) }
-    ensures { IfOk result (λ whole. (time : ℕ) → IsReady time (residual_tree first) →
-        IsReady time (residual_tree whole)) }
+    ensures { IfOk result (λ whole. (time : ℕ) → IsWellAt time (residual_tree first) →
+        IsWellAt time (residual_tree whole)) }
 {
     let expr = expr.try_clone(alloc)?;
     Residual::post(alloc, first, expr)
@@ -76,8 +73,8 @@ fn both_after(
     one: Residual,
     other: Residual,
 ) -> Result<Residual, AllocError>
-    ensures { IfOk result (λ whole. (time : ℕ) → IsReady time (residual_tree one) →
-        IsReady time (residual_tree other) → IsReady time (residual_tree whole)) }
+    ensures { IfOk result (λ whole. (time : ℕ) → IsWellAt time (residual_tree one) →
+        IsWellAt time (residual_tree other) → IsWellAt time (residual_tree whole)) }
 {
     let both = Residual::both(alloc, one, other)?;
     Residual::pre(alloc, zones, both)
@@ -89,8 +86,8 @@ fn lasting_after(
     inner: Residual,
     interval: Interval,
 ) -> Result<Residual, AllocError>
-    ensures { IfOk result (λ whole. (time : ℕ) → IsReady time (residual_tree inner) →
-        IsReady time (residual_tree whole)) }
+    ensures { IfOk result (λ whole. (time : ℕ) → IsWellAt time (residual_tree inner) →
+        IsWellAt time (residual_tree whole)) }
 {
     let lasting = Residual::dur(alloc, inner, interval)?;
     Residual::pre(alloc, zones, lasting)
@@ -123,7 +120,8 @@ fn tell_behind(
     requires { NumbersBelow NAMES_MAX (tree_of expr.now) }
 {
     let end = piece.begin + piece.segment.len;
-    let now = moments(alloc, end, end)?;
+    let mut now = ZoneSet::new(alloc);
+    now.push_apart(Zone::instants(end, end))?;
     tell_forms(alloc, expr, &now, piece, rows, told)
 }
 

@@ -1,6 +1,6 @@
 // Pieces of a trace, one behind another, and what of them is told.
-ghost use Rattle.std.specs.Prelude.{◌≤◌, IfSome};
-ghost use Rattle.tests_matching.specs.Ready.{ComesBehind};
+ghost use Rattle.std.specs.Prelude.{◌≡◌, ◌≤◌, IfSome};
+ghost use Rattle.tre_edges.specs.Piece.{end_of_piece};
 
 use std::alloc::{AllocError, Global};
 use std::test::Fail;
@@ -41,7 +41,7 @@ pub(crate) fn first_piece(row: Row) -> Piece {
 
 /// The piece behind another, where that doesn't end too late.
 pub(crate) fn next_piece(last: &Piece, row: Row) -> Option<Piece>
-    ensures { IfSome result (λ piece. ComesBehind last.now piece) }
+    ensures { IfSome result (λ piece. piece.begin ≡ end_of_piece last.now) }
 {
     let begin = last.begin + last.segment.len;
     if begin > BEGIN_MAX {

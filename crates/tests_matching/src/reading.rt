@@ -1,8 +1,6 @@
 // What residuals tell of pieces, one after another.
-ghost use Rattle.std.specs.Prelude.{Some, []};
 ghost use Rattle.tre_edges.specs.Piece.{end_of_piece};
-ghost use Rattle.tre_mark.specs.Marked.{since};
-ghost use Rattle.tre_residual.specs.Residual.{residual_tree, IsWellAt, CanGoOn};
+ghost use Rattle.tre_residual.specs.Residual.{residual_tree, IsWellAt};
 ghost use Rattle.tre_state.specs.declared.names.TheConstants.{NAMES_MAX};
 ghost use Rattle.tre_syntax.specs.Expr.{tree_of};
 ghost use Rattle.tre_syntax.specs.PatternTree.{NumbersBelow};
@@ -45,9 +43,7 @@ pub(crate) fn tell_on(
     events: Option<u64>,
     told: &mut ZoneSet,
 ) -> Result<(), AllocError>
-    requires well { IsWellAt (end_of_piece last.now) (residual_tree begun.now) }
-    requires takes { CanGoOn (since (end_of_piece last.now) (Some last.now.segment.val) [])
-        (residual_tree begun.now) }
+    requires { IsWellAt (end_of_piece last.now) (residual_tree begun.now) }
 {
     let Some((row, later)) = rows.split_first() else {
         return tell_end(alloc, begun, last, events, told);

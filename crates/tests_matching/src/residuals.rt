@@ -103,7 +103,7 @@ fn holds(residual: &Residual, a: u64, b: u64) -> bool {
         Residual::Both(one, other) => holds(one, a, b) && holds(other, a, b),
         Residual::Dur(inner, interval) => holds(inner, a, b)
             && interval.holds(b.saturating_sub(a), 1),
-        Residual::Mark(_, _) => true,
+        Residual::Mark(_) => true,
     }
 }
 

@@ -7,7 +7,7 @@ use Rattle.tre_pairs.proofs.Chains.{Composed-at}
 use Rattle.tre_pairs.proofs.Laws.{Agree}
 use Rattle.tre_pairs.proofs.Scaling.{moved}
 use Rattle.tre_pairs.proofs.Shortening.{Agree-trans}
-use Rattle.tre_zone.specs.Held.{Held, IsSetOf}
+use Rattle.tre_zone.specs.Held.{Held}
 use Rattle.tre_zone.specs.Interval.{IntervalEnds, LastsWithin}
 use Rattle.tre_zone.specs.Zone.{EndsAt}
 use Rattle.tre_zone.specs.ZoneList.{SetHolds, HoldExactly}
@@ -16,9 +16,7 @@ use Rattle.tre_zone.proofs.ZoneListLemmas.{SetHolds-empty}
 use Rattle.tre_syntax.specs.Meaning.{MatchesRest}
 use Rattle.tre_syntax.specs.PatternTree.{PatternTree}
 use Rattle.tre_syntax.proofs.Ends.{matches_at_end}
-use Rattle.tre_mark.specs.MarkTree.{MarkTree}
-use Rattle.tre_mark.specs.Marked.{Marked}
-use Rattle.tre_residual.specs.Residual.{ResidualTree, nothing, here, joined, preceded, followed, either, both, lasting, marked, Means, IsWellAt, IsComposition}
+use Rattle.tre_residual.specs.Residual.{ResidualTree, nothing, here, joined, preceded, followed, either, both, lasting, Means, IsWellAt, IsComposition}
 use Rattle.tre_residual.proofs.Crossings.{ends_around, ends_within}
 use Rattle.tre_residual.proofs.Meanings.{Scales-Means, IsOrdered-Means}
 use Rattle.tre_derive.specs.Closing.{ClosesTo, HeldAtEnd, end_at}
@@ -60,13 +58,19 @@ module _ (time events : ℕ) where
     };
   }
 
-  pub close_marked : (mark : MarkTree) (tree : PatternTree) (told : List ZoneBounds)
-      → ((before : Option ℕ) → IsSetOf told (Marked (end_at time events before) mark tree))
-      → Closes (marked mark tree) told
-  close_marked mark tree told tells = record {
-    tells = λ before. held_exactly told (Last (marked mark tree) before)
-        (record { at = (tells before).pairs });
-  }
+  -- ---- when pairs end
+
+  -- Each pair begins by the end of the trace, and ends then.
+  abbrev pub EndsThere : ResidualTree → Type 0
+  EndsThere residual = (before : Option ℕ) (a b n : ℕ) → 0 < n → Last residual before a b n
+      → (a ≤ time * n) × (b ≡ time * n)
+
+  pub well_ends : (inner : ResidualTree) → IsWellAt time inner → EndsThere inner
+  well_ends inner well before a b n some h =
+      let around = ends_around (end_at time events before) inner well.well a b n some h in
+      let from = around.1 in
+      let to = ends_within (end_at time events before) inner well.well a b n some h in
+      (around.0, omega (arith, from, to))
 
   -- ---- a match at the end
 
@@ -106,9 +110,9 @@ module _ (time events : ℕ) where
     }
 
     -- Each pair of a residual ends at the end of the trace, so a match behind it lasts no time.
-    pub close_followed : (inner : ResidualTree) → IsWellAt time inner → Closes inner zones
+    pub close_followed : (inner : ResidualTree) → EndsThere inner → Closes inner zones
         → Closes (followed inner tree) told
-    close_followed inner well closes = record {
+    close_followed inner ends closes = record {
       tells = λ before. record {
         exact = λ a b n some le.
             let rest = end_at time events before in
@@ -118,9 +122,7 @@ module _ (time events : ℕ) where
               (λ h.
                   let x = kept.0 h in
                   let y = one.0 x.held in
-                  let from : time * n ≤ b = (ends_around rest inner well.well a b n some y).1 in
-                  let to : b ≤ time * n = ends_within rest inner well.well a b n some y in
-                  let end : b ≡ time * n = omega (arith, from, to) in
+                  let end = (ends before a b n some y).1 in
                   Composed-at (Means inner rest) (MatchesRest tree rest) a b b n y
                   ((law b b n some).1 (record { begin = end; end = end }, x.at_end))),
               (λ h.

@@ -122,3 +122,47 @@ pub held_composed : (one other whole : List ZoneBounds) (R S : Pairs)
 held_composed one other whole R S composed r s =
     Agree-trans (Held whole) (Composed (Held one) (Held other)) (Composed R S)
     (record { at = composed.pairs }) (Agree-Composed (Held one) R (Held other) S r s)
+
+-- A set that holds one relation exactly holds another that agrees with it.
+pub exact_as : (zones : List ZoneBounds) (R S : Pairs) → HoldExactly zones R → Agree R S
+    → HoldExactly zones S
+exact_as zones R S held same = record {
+  exact = λ a b n some le.
+      let one = held.exact a b n some le in
+      let two = same.at a b n some in
+      ((λ h. two.0 (one.0 h)), (λ h. one.1 (two.1 h)));
+}
+
+-- A set of the pairs of some zones.
+pub same_set : (set zones : List ZoneBounds) → HoldExactly set (SetHolds zones)
+    → Agree (Held set) (Held zones)
+same_set set zones held = record {
+  at = λ a b n some. (
+    (λ h. record { rising = h.rising; held = (held.exact a b n some h.rising).0 h.held }),
+    (λ h. record { rising = h.rising; held = (held.exact a b n some h.rising).1 h.held }),
+  );
+}
+
+-- The same of the first zones.
+pub composition_of : (led set zones inner : List ZoneBounds) → HoldExactly set (SetHolds zones)
+    → IsComposition led set inner → IsComposition led zones inner
+composition_of led set zones inner held composed = record {
+  pairs = (held_composed set inner led (Held zones) (Held inner) composed
+      (same_set set zones held) (Agree-self (Held inner))).at;
+}
+
+-- The pairs of some zones, and of a relation that a set holds.
+pub either_exact : (told set zones behind : List ZoneBounds) (R : Pairs)
+    → HoldExactly set (SetHolds zones) → HoldExactly behind R
+    → HoldExactly told (Either (SetHolds set) (SetHolds behind))
+    → HoldExactly told (Either (Held zones) R)
+either_exact told set zones behind R one other held = record {
+  exact = λ a b n some le.
+      let f = one.exact a b n some le in
+      let g = other.exact a b n some le in
+      let both = held.exact a b n some le in (
+        (λ h. ⊎_elim (λ x. inl (record { rising = le; held = f.0 x })) (λ x. inr (g.0 x))
+            (both.0 h)),
+        (λ h. both.1 (⊎_elim (λ x. inl (f.1 x.held)) (λ x. inr (g.1 x)) h)),
+      );
+}

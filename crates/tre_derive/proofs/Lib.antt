@@ -9,3 +9,5 @@ pub mod Passing
 pub mod StepsOfForms
 -- and what a residual stands for at the end of a trace, form by form
 pub mod ClosingForms
+-- and of a pattern under way
+pub mod EndingNodes

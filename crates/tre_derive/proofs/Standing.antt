@@ -12,8 +12,7 @@ use Rattle.tre_syntax.specs.PatternTree.{PatternTree, NumbersBelow}
 use Rattle.tre_edges.specs.Piece.{end_of_piece, cut_behind}
 use Rattle.tre_edges.specs.declared.piece.Piece.{Piece}
 use Rattle.tre_zone.specs.Held.{Held}
-use Rattle.tre_advance.proofs.Opening.{after_piece}
-use Rattle.tre_residual.specs.Residual.{ResidualTree, nothing, preceded, followed, either, both, lasting, Means, IsWell, CanTake, Builds}
+use Rattle.tre_residual.specs.Residual.{ResidualTree, nothing, preceded, followed, either, both, lasting, Means, IsWell, Builds}
 use Rattle.tre_derive.specs.Derivative.{StandsBehind}
 use Rattle.tre_derive.proofs.Held.{Agree-self}
 
@@ -32,12 +31,10 @@ module _ (piece : Piece) where
   -- Of its pairs, and of what it is made of.
   pub stands_of : (F : Timeline → Pairs) (residual : ResidualTree)
       → ((v : Timeline) → AreLong v.segments → Agree (Behind residual v) (F v))
-      → IsWell (end_of_piece piece) residual → CanTake (after_piece piece) residual
-      → StandsBehind piece F residual
-  stands_of F residual same well takes = record {
+      → IsWell (end_of_piece piece) residual → StandsBehind piece F residual
+  stands_of F residual same well = record {
     exact = λ v a b n long some. (same v long).at a b n some;
     well = record { well = well };
-    takes = record { takes = takes };
   }
 
   -- The same pairs by another name.
@@ -50,7 +47,6 @@ module _ (piece : Piece) where
         let two = (same v long).at a b n some in
         ((λ h. two.0 (one.0 h)), (λ h. one.1 (two.1 h)));
     well = stands.well;
-    takes = stands.takes;
   }
 
   -- What is built as a form stands for the pairs of the form.
@@ -62,11 +58,10 @@ module _ (piece : Piece) where
         let two = stands.exact v a b n long some in
         ((λ h. two.0 (one.0 h)), (λ h. one.1 (two.1 h)));
     well = built.well (end_of_piece piece) stands.well;
-    takes = built.takes (after_piece piece) stands.takes;
   }
 
   pub stands_nothing : StandsBehind piece (λ v a b n. ⊥) nothing
-  stands_nothing = stands_of (λ v a b n. ⊥) nothing (λ v long. Agree-self (λ a b n. ⊥)) tt tt
+  stands_nothing = stands_of (λ v a b n. ⊥) nothing (λ v long. Agree-self (λ a b n. ⊥)) tt
 
   pub stands_preceded : (F : Timeline → Pairs) (zones : List ZoneBounds)
       (residual : ResidualTree) → StandsBehind piece F residual
@@ -75,7 +70,7 @@ module _ (piece : Piece) where
       stands_of (λ v. Composed (Held zones) (F v)) (preceded zones residual)
       (λ v long. Agree-Composed (Held zones) (Held zones) (Behind residual v) (F v)
       (Agree-self (Held zones)) (stands_at F residual stands v long))
-      stands.well.well stands.takes.takes
+      stands.well.well
 
   pub stands_followed : (F : Timeline → Pairs) (residual : ResidualTree) (tree : PatternTree)
       → NumbersBelow NAMES_MAX tree → StandsBehind piece F residual
@@ -88,7 +83,7 @@ module _ (piece : Piece) where
       (MatchesBehind tree (cut_behind piece v)) (MatchesBehind tree (cut_behind piece v))
       (stands_at F residual stands v long)
       (Agree-self (MatchesBehind tree (cut_behind piece v))))
-      (stands.well.well, numbers) stands.takes.takes
+      (stands.well.well, numbers)
 
   pub stands_either : (F G : Timeline → Pairs) (one other : ResidualTree)
       → StandsBehind piece F one → StandsBehind piece G other
@@ -97,7 +92,7 @@ module _ (piece : Piece) where
       stands_of (λ v. Either (F v) (G v)) (either one other)
       (λ v long. Agree-Either (Behind one v) (F v) (Behind other v) (G v)
       (stands_at F one f v long) (stands_at G other g v long))
-      (f.well.well, g.well.well) (f.takes.takes, g.takes.takes)
+      (f.well.well, g.well.well)
 
   pub stands_both : (F G : Timeline → Pairs) (one other : ResidualTree)
       → StandsBehind piece F one → StandsBehind piece G other
@@ -106,7 +101,7 @@ module _ (piece : Piece) where
       stands_of (λ v. Both (F v) (G v)) (both one other)
       (λ v long. Agree-Both (Behind one v) (F v) (Behind other v) (G v)
       (stands_at F one f v long) (stands_at G other g v long))
-      (f.well.well, g.well.well) (f.takes.takes, g.takes.takes)
+      (f.well.well, g.well.well)
 
   pub stands_lasting : (F : Timeline → Pairs) (residual : ResidualTree) (ends : IntervalEnds)
       → StandsBehind piece F residual
@@ -115,4 +110,4 @@ module _ (piece : Piece) where
       stands_of (λ v. Lasting (LastsWithin ends) (F v)) (lasting residual ends)
       (λ v long. Agree-Lasting (LastsWithin ends) (Behind residual v) (F v)
       (stands_at F residual stands v long))
-      stands.well.well stands.takes.takes
+      stands.well.well

@@ -1,36 +1,35 @@
 -- What a step makes of each form of a residual, from what it makes of its parts.
-use Rattle.std.proofs.Common.{◌≡◌, ℕ, ◌*◌, ◌<◌, ◌≤◌, List, [], sym, inl, inr, ⊎_elim, subst, arith}
+use Rattle.std.proofs.Common.{◌≡◌, ℕ, ◌*◌, ◌<◌, ◌≤◌, List, [], None, sym, inl, inr, ⊎_elim, subst, arith}
 use Rattle.std.proofs.lemmas.Bool.{cases_lt}
 use Rattle.std.proofs.Math.Nat.{mul-pos, mul-lt-mul_of_pos_right}
+use Rattle.tre_pairs.specs.Before.{Before}
 use Rattle.tre_pairs.specs.Cuts.{Crossing}
 use Rattle.tre_pairs.specs.Pairs.{Pairs, Composed, Either, Both, Lasting}
 use Rattle.tre_pairs.proofs.Agreement.{Agree-Composed, Agree-Either, Agree-Both, Agree-Lasting}
 use Rattle.tre_pairs.proofs.CutLaws.{IsCut}
 use Rattle.tre_pairs.proofs.Laws.{IsOrdered, Implies, ImpliesBefore, Agree}
-use Rattle.tre_pairs.proofs.Order.{IsOrdered-Composed}
 use Rattle.tre_pairs.proofs.Shortening.{Agree-trans}
 use Rattle.tre_pairs.proofs.Ticks.{le_up, le_down, ge_down}
 use Rattle.tre_zone.specs.Interval.{IntervalEnds, LastsWithin}
 use Rattle.tre_zone.specs.ZoneList.{SetHolds, HoldExactly}
 use Rattle.tre_zone.specs.declared.zone_bounds.ZoneBounds.{ZoneBounds}
-use Rattle.tre_zone.proofs.HeldSets.{IsOrdered-Held}
 use Rattle.tre_zone.proofs.ZoneListLemmas.{SetHolds-empty}
 use Rattle.tre_state.specs.declared.names.TheConstants.{NAMES_MAX}
 use Rattle.tre_trace.specs.Trace.{Timeline}
-use Rattle.tre_syntax.specs.Cut.{uncut, MatchesBehind, MatchesAcross}
+use Rattle.tre_syntax.specs.Cut.{uncut, MatchesBehind}
 use Rattle.tre_syntax.specs.Meaning.{MatchesRest}
 use Rattle.tre_syntax.specs.PatternTree.{PatternTree, NumbersBelow}
 use Rattle.tre_syntax.proofs.CutMeaning.{IsOrdered-rest, IsCut-Matches}
 use Rattle.tre_edges.specs.Piece.{rest_of_piece, end_of_piece, cut_behind}
 use Rattle.tre_edges.specs.declared.piece.Piece.{Piece}
 use Rattle.tre_zone.specs.Held.{Held, EndAt}
-use Rattle.tre_mark.specs.Marked.{EndBetween}
+use Rattle.tre_forms.specs.Begun.{EndsFrom}
 use Rattle.tre_residual.specs.Residual.{ResidualTree, nothing, here, preceded, followed, either, both, lasting, Means, IsWell, Builds, IsComposition}
-use Rattle.tre_residual.proofs.Crossings.{ends_around, ends_within}
+use Rattle.tre_residual.proofs.Crossings.{ends_around}
 use Rattle.tre_residual.proofs.Growth.{Means-grow, Means-early}
 use Rattle.tre_residual.proofs.Meanings.{IsOrdered-Means}
 use Rattle.tre_derive.specs.Derivative.{EndingFrom, StepsTo, BeginsBehindPairs, ComesBehind}
-use Rattle.tre_derive.proofs.Held.{Agree-self, Agree-held, held_exactly, held_either, held_both, held_lasting, held_composed}
+use Rattle.tre_derive.proofs.Held.{Agree-self, Agree-held, exact_as, held_exactly, held_either, held_both, held_lasting, held_composed}
 use Rattle.tre_derive.proofs.Standing.{stands_for, stands_built, stands_nothing, stands_preceded, stands_followed, stands_either, stands_both, stands_lasting}
 
 -- ---- the pairs that end at a time or later
@@ -106,12 +105,12 @@ ending_lasting time D R = record {
   );
 }
 
--- One after the other, to the cut or behind it: the first ends there or behind it and the second
--- is behind it, or the first ends before it, or at it, and the second crosses.
+-- One after the other, to the cut or behind it: the first ends there or behind it and the second is
+-- behind it, or the first ends before it, and both cross.
 module _ (cut : ℕ) (M U W X Y : Pairs) (grow : Implies U M) (early : ImpliesBefore cut M U)
-    (parts : IsCut cut W X Y) (ordered : IsOrdered W) where
-  ending_followed : Agree (Either (Composed (EndingFrom cut M) Y) (Composed U (Crossing cut W)))
-      (EndingFrom cut (Composed M W))
+    (parts : IsCut cut W X Y) (ordered : IsOrdered M) (rising : IsOrdered W) where
+  ending_followed : Agree (Either (Composed (EndingFrom cut M) Y)
+      (Crossing cut (Composed (Before cut U) W))) (EndingFrom cut (Composed M W))
   ending_followed = record {
     at = λ a b n some. (
       (λ h. ⊎_elim
@@ -119,7 +118,7 @@ module _ (cut : ℕ) (M U W X Y : Pairs) (grow : Implies U M) (early : ImpliesBe
           let k = x.factor in
           let right = parts.behind.at x.midpoint (k * b) (k * n) x.right in
           let from = x.left.end in
-          let le = ordered.le x.midpoint (k * b) (k * n) right in
+          let le = rising.le x.midpoint (k * b) (k * n) right in
           record {
             related = record {
               factor = k;
@@ -132,13 +131,14 @@ module _ (cut : ℕ) (M U W X Y : Pairs) (grow : Implies U M) (early : ImpliesBe
           })
           (λ x. record {
             related = record {
-              factor = x.factor;
-              positive = x.positive;
-              midpoint = x.midpoint;
-              left = grow.at (x.factor * a) x.midpoint (x.factor * n) x.left;
-              right = x.right.related;
+              factor = x.related.factor;
+              positive = x.related.positive;
+              midpoint = x.related.midpoint;
+              left = grow.at (x.related.factor * a) x.related.midpoint (x.related.factor * n)
+                  x.related.left.related;
+              right = x.related.right;
             };
-            end = le_down x.factor cut b n x.positive x.right.end;
+            end = x.end;
           })
           h),
       (λ h.
@@ -146,16 +146,21 @@ module _ (cut : ℕ) (M U W X Y : Pairs) (grow : Implies U M) (early : ImpliesBe
           let m = h.related.midpoint in
           let finer : 0 < k * n = mul-pos h.related.positive some in
           ⊎_elim
-          (λ before. inr (record {
-            factor = k;
-            positive = h.related.positive;
-            midpoint = m;
-            left = early.at (k * a) m (k * n) before h.related.left;
-            right = record {
-              related = h.related.right;
-              begin = omega (arith, before);
-              end = le_up k cut b n h.end;
+          (λ before.
+          let le = ordered.le (k * a) m (k * n) h.related.left in
+          inr (record {
+            related = record {
+              factor = k;
+              positive = h.related.positive;
+              midpoint = m;
+              left = record {
+                related = early.at (k * a) m (k * n) before h.related.left;
+                early = before;
+              };
+              right = h.related.right;
             };
+            begin = ge_down k cut a n h.related.positive (omega (arith, le, before));
+            end = h.end;
           }))
           (λ from. inl (record {
             factor = k;
@@ -167,6 +172,26 @@ module _ (cut : ℕ) (M U W X Y : Pairs) (grow : Implies U M) (early : ImpliesBe
           (cases_lt m (cut * (k * n)))),
     );
   }
+
+-- The same pairs, and then the same.
+crossing_alike : (cut : ℕ) (R S W : Pairs) → Agree R S
+    → Agree (Crossing cut (Composed (Before cut R) W)) (Crossing cut (Composed (Before cut S) W))
+crossing_alike cut R S W same =
+    let before : Agree (Before cut R) (Before cut S) = record {
+      at = λ a b n some.
+          let both = same.at a b n some in (
+            (λ h. record { related = both.0 h.related; early = h.early }),
+            (λ h. record { related = both.1 h.related; early = h.early }),
+          );
+    } in
+    let all = Agree-Composed (Before cut R) (Before cut S) W W before (Agree-self W) in
+    record {
+      at = λ a b n some.
+          let both = all.at a b n some in (
+            (λ h. record { related = both.0 h.related; begin = h.begin; end = h.end }),
+            (λ h. record { related = both.1 h.related; begin = h.begin; end = h.end }),
+          );
+    }
 
 module _ (piece : Piece) where
   abbrev time : ℕ
@@ -230,54 +255,14 @@ module _ (piece : Piece) where
         (stands_nothing piece);
   }
 
-  -- ---- what is told of a residual ends in the piece
+  -- ---- what is told of a residual ends as the piece begins or later
 
-  pub told_between : (residual : ResidualTree) (told : List ZoneBounds) (rest : ResidualTree)
+  pub told_from : (residual : ResidualTree) (told : List ZoneBounds) (rest : ResidualTree)
       → IsWell piece.begin residual → StepsTo residual piece told rest
-      → EndBetween piece.begin time told
-  told_between residual told rest well steps = record {
-    begin = λ a b n some h. (ends_around (rest_of_piece piece) residual well a b n some
+      → EndsFrom None piece.begin (Held told)
+  told_from residual told rest well steps = record {
+    from = λ a b n some last h. (ends_around (rest_of_piece piece) residual well a b n some
         ((steps.tells.exact a b n some h.rising).0 h.held)).1;
-    end = λ a b n some h. ends_within (rest_of_piece piece) residual well a b n some
-        ((steps.tells.exact a b n some h.rising).0 h.held);
-  }
-
-  -- What begins behind pairs that end in the piece crosses its end behind them.
-  crossing_behind : (zones : List ZoneBounds) (R : Pairs) → EndBetween piece.begin time zones
-      → Agree (Crossing time (Composed (Held zones) R)) (Composed (Held zones) (Crossing time R))
-  crossing_behind zones R between = record {
-    at = λ a b n some. (
-      (λ h.
-          let k = h.related.factor in
-          let m = h.related.midpoint in
-          record {
-            factor = k;
-            positive = h.related.positive;
-            midpoint = m;
-            left = h.related.left;
-            right = record {
-              related = h.related.right;
-              begin = between.end (k * a) m (k * n) (mul-pos h.related.positive some)
-                  h.related.left;
-              end = le_up k time b n h.end;
-            };
-          }),
-      (λ h.
-          let k = h.factor in
-          let rising = h.left.rising in
-          let begin = h.right.begin in
-          record {
-            related = record {
-              factor = k;
-              positive = h.positive;
-              midpoint = h.midpoint;
-              left = h.left;
-              right = h.right.related;
-            };
-            begin = ge_down k time a n h.positive (omega (arith, rising, begin));
-            end = le_down k time b n h.positive h.right.end;
-          }),
-    );
   }
 
   -- ---- a set before a residual
@@ -301,39 +286,32 @@ module _ (piece : Piece) where
     -- ---- a match behind a residual
 
     pub step_followed : (tree : PatternTree) (told : List ZoneBounds) (begun rest : ResidualTree)
-        → NumbersBelow NAMES_MAX tree → EndBetween piece.begin time told'
-        → BeginsBehindPairs tree told' piece told begun → ComesBehind rest' tree begun rest
-        → StepsTo (followed inner tree) piece told rest
-    step_followed tree told begun rest numbers between begins comes =
+        → NumbersBelow NAMES_MAX tree → BeginsBehindPairs tree told' piece told begun
+        → ComesBehind rest' tree begun rest → StepsTo (followed inner tree) piece told rest
+    step_followed tree told begun rest numbers begins comes =
         let within = MatchesRest tree (rest_of_piece piece) in
-        let Across : Timeline → Pairs = λ v. MatchesAcross tree (cut_behind piece v) in
+        let W : Timeline → Pairs = λ v. MatchesRest tree (uncut (cut_behind piece v)) in
         let F : Timeline → Pairs =
         λ v. Composed (Left inner v) (MatchesBehind tree (cut_behind piece v)) in
-        let G : Timeline → Pairs =
-        λ v. Crossing time (Composed (Held told') (MatchesRest tree (uncut (cut_behind piece v)))) in
+        let G : Timeline → Pairs = λ v. Crossing time (Composed (Before time (Held told')) (W v)) in
         let same = told_agree inner told' rest' steps in
         record {
-          tells = held_exactly told (Told (followed inner tree))
-              (Agree-trans (Held told) (Composed (Held told') within) (Told (followed inner tree))
-              (Agree-held told (Composed (Held told') within)
-              (IsOrdered-Composed (Held told') within (IsOrdered-Held told')
-              (IsOrdered-rest tree (rest_of_piece piece))) begins.tells)
-              (Agree-Composed (Held told') (Told inner) within within same (Agree-self within)));
+          tells = exact_as told (Composed (Held told') within) (Told (followed inner tree))
+              begins.tells
+              (Agree-Composed (Held told') (Told inner) within within same (Agree-self within));
           leaves = stands_for piece (λ v. Either (F v) (G v)) (Left (followed inner tree)) rest
               (λ v long. Agree-trans (Either (F v) (G v))
-              (Either (F v) (Composed (Told inner) (Across v))) (Left (followed inner tree) v)
-              (Agree-Either (F v) (F v) (G v) (Composed (Told inner) (Across v))
+              (Either (F v) (Crossing time (Composed (Before time (Told inner)) (W v))))
+              (Left (followed inner tree) v)
+              (Agree-Either (F v) (F v) (G v)
+              (Crossing time (Composed (Before time (Told inner)) (W v)))
               (Agree-self (F v))
-              (Agree-trans (G v) (Composed (Held told') (Across v))
-              (Composed (Told inner) (Across v))
-              (crossing_behind told' (MatchesRest tree (uncut (cut_behind piece v))) between)
-              (Agree-Composed (Held told') (Told inner) (Across v) (Across v) same
-              (Agree-self (Across v)))))
-              (ending_followed time (Whole inner v) (Told inner)
-              (MatchesRest tree (uncut (cut_behind piece v))) within
+              (crossing_alike time (Held told') (Told inner) (W v) same))
+              (ending_followed time (Whole inner v) (Told inner) (W v) within
               (MatchesBehind tree (cut_behind piece v))
               (Means-grow (cut_behind piece v) inner) (Means-early (cut_behind piece v) inner)
               (IsCut-Matches (cut_behind piece v) (piece.long, tt) tree)
+              (IsOrdered-Means (uncut (cut_behind piece v)) inner)
               (IsOrdered-rest tree (uncut (cut_behind piece v)))))
               (stands_built piece (λ v. Either (F v) (G v)) (either comes.behind begun) rest
               (stands_either piece F G comes.behind begun

@@ -8,6 +8,7 @@ ghost use Rattle.tre_zone.specs.ZoneList.{HoldExactly};
 ghost use Rattle.tre_residual.specs.Residual.{residual_tree, IsWellAt};
 ghost use Rattle.tre_derive.specs.Closing.{ClosesTo, HeldAtEnd};
 
+use crate::ending::close_node;
 use crate::sets::of_either;
 use std::alloc::{AllocError, Global};
 use tre_offline::matches_at_end;
@@ -61,7 +62,7 @@ pub fn close(
             let inner = close(alloc, inner, time, events)?;
             inner.within(interval)
         }
-        Residual::Mark(mark, expr) => tre_advance::close(alloc, mark, expr, time, events),
+        Residual::Mark(node) => close_node(alloc, node, time, events),
     }
 }
 

@@ -1,21 +1,18 @@
 // What a step makes of each form of a residual, from what it makes of its parts.
-ghost use Rattle.std.specs.Prelude.{IfOk};
+ghost use Rattle.std.specs.Prelude.{None, IfOk};
+ghost use Rattle.tre_zone.specs.Held.{Held};
 ghost use Rattle.tre_syntax.specs.Expr.{tree_of};
 ghost use Rattle.tre_syntax.specs.PatternTree.{NumbersBelow};
-ghost use Rattle.tre_edges.specs.Piece.{end_of_piece};
 ghost use Rattle.tre_edges.specs.declared.piece.Piece.{Piece};
-ghost use Rattle.tre_mark.specs.MarkTree.{mark_of};
-ghost use Rattle.tre_mark.specs.Marked.{CanTakeIn, EndBetween, IsWellAt};
-ghost use Rattle.tre_advance.specs.Advance.{before_piece};
-ghost use Rattle.tre_residual.specs.Residual.{ResidualTree, joined, preceded, followed, either, both, lasting, marked, residual_tree, Builds};
+ghost use Rattle.tre_forms.specs.Begun.{EndsFrom};
+ghost use Rattle.tre_residual.specs.Residual.{ResidualTree, joined, preceded, followed, either, both, lasting, residual_tree, Builds};
 ghost use Rattle.tre_derive.specs.Derivative.{StepsTo, ComesBehind};
 
-use crate::going::{begin_behind, go_alone};
+use crate::going::begin_behind;
 use crate::sets::of_either;
 use crate::stepped::Stepped;
 use std::alloc::{AllocError, Global};
 use tre_edges::Piece;
-use tre_mark::Mark;
 use tre_residual::{Residual, composed};
 use tre_state::NAMES_MAX;
 use tre_syntax::{Expr, beside};
@@ -35,21 +32,7 @@ pub fn begin_now(
         (residual_tree whole.rest)) }
 {
     let begun = begun.ending_at(piece.begin)?;
-    let mark = Mark::start(alloc, expr, &begun, piece.begin)?;
-    go_alone(alloc, mark, expr, piece)
-}
-
-/// What the mark stands for.
-pub fn go_on(alloc: Global, mark: &Mark, expr: &Expr, piece: &Piece) -> Result<Stepped, AllocError>
-    requires numbers { NumbersBelow NAMES_MAX (tree_of expr.now) }
-    requires well { IsWellAt piece.now.begin (mark_of mark.now) (tree_of expr.now) }
-    requires takes { CanTakeIn (before_piece piece.now) (mark_of mark.now) (tree_of expr.now) }
-    ensures { IfOk result (λ whole.
-        StepsTo (marked (mark_of mark.now) (tree_of expr.now)) piece.now whole.told
-        (residual_tree whole.rest)) }
-{
-    let copy = mark.try_clone(alloc)?;
-    go_alone(alloc, copy, expr, piece)
+    begin_behind(alloc, begun.zones(), false, expr, piece)
 }
 
 /// A pair of the set, and then one of the residual.
@@ -63,8 +46,8 @@ pub fn precede(alloc: Global, zones: &ZoneSet, inner: Stepped) -> Result<Stepped
     Stepped::of(told, rest)
 }
 
-/// A pair of the residual, and then a match of the expression. Those that are told end in the
-/// piece, and what follows them begins there; what follows the others begins behind it.
+/// A pair of the residual, and then a match of the expression. What follows those that end before
+/// the piece does begins in it; what follows the others begins behind it.
 pub fn follow(
     alloc: Global,
     inner: Stepped,
@@ -72,13 +55,13 @@ pub fn follow(
     piece: &Piece,
 ) -> Result<Stepped, AllocError>
     requires numbers { NumbersBelow NAMES_MAX (tree_of expr.now) }
-    requires ends { EndBetween piece.now.begin (end_of_piece piece.now) inner.told }
+    requires from { EndsFrom None piece.now.begin (Held inner.told) }
     ensures { IfOk result (λ whole. (residual : ResidualTree)
         → StepsTo residual piece.now inner.told (residual_tree inner.rest)
         → StepsTo (followed residual (tree_of expr.now)) piece.now whole.told
         (residual_tree whole.rest)) }
 {
-    let begun = begin_behind(alloc, inner.told.zones(), expr, piece);
+    let begun = begin_behind(alloc, inner.told.zones(), false, expr, piece);
     let (begun, rest) = beside(begun, inner.rest)?;
     let rest = behind(alloc, rest, expr, begun.rest);
     Stepped::of(Ok(begun.told), rest)

@@ -1,107 +1,132 @@
-// A mark goes over a piece: what it tells as a set, and what is left as a residual.
-ghost use Rattle.std.specs.Prelude.{IfOk};
+// A pattern under way goes over a piece: what it tells as a set, and what is left as a residual.
+ghost use Rattle.std.specs.Prelude.{◌≡◌, None, true, IfOk, OnOk};
+ghost use Rattle.tre_pairs.specs.Pairs.{Composed, Either};
+ghost use Rattle.tre_pairs.proofs.Laws.{IsInstant};
+ghost use Rattle.tre_zone.specs.Held.{Held};
+ghost use Rattle.tre_zone.specs.ZoneList.{HoldExactly};
 ghost use Rattle.tre_syntax.specs.Expr.{tree_of};
 ghost use Rattle.tre_syntax.specs.PatternTree.{NumbersBelow};
-ghost use Rattle.tre_edges.specs.Piece.{end_of_piece};
-ghost use Rattle.tre_mark.specs.MarkTree.{mark_of};
-ghost use Rattle.tre_mark.specs.Marked.{CanTakeIn, EndBetween, IsWellAt};
-ghost use Rattle.tre_advance.specs.Advance.{before_piece};
-ghost use Rattle.tre_residual.specs.Residual.{marked, residual_tree, Builds};
-ghost use Rattle.tre_derive.specs.Derivative.{TellsAsSet, GoesOverTo, BeginsBehindPairs, StepsTo};
+ghost use Rattle.tre_forms.specs.Begun.{EndsFrom};
+ghost use Rattle.tre_node.specs.HasEntered.{MayEnter};
+ghost use Rattle.tre_node.specs.NodeTree.{around_of};
+ghost use Rattle.tre_residual.specs.Residual.{IsRoot, marked, residual_tree};
+ghost use Rattle.tre_derive.specs.Derivative.{Advances, TellsAsSet, GoesOverTo, BeginsBehindPairs, StepsTo};
 
+use crate::sets::{of_either, set_of};
 use crate::stepped::Stepped;
 use std::alloc::{AllocError, Global};
-use tre_advance::advance;
 use tre_edges::Piece;
-use tre_mark::Mark;
-use tre_residual::Residual;
+use tre_node::{Around, Node, enter, look, make};
+use tre_residual::{Residual, composed};
 use tre_state::NAMES_MAX;
 use tre_syntax::{Expr, beside};
 use tre_zone::Zone;
 use tre_zoneset::ZoneSet;
 
-/// A pair of the zones, each of which ends in the piece, and then a match of the expression.
+/// A pair of the zones, none of which ends before the piece begins, and then a match of the
+/// expression. What is left has those that end before the piece does. Where the zones are `whole`,
+/// all of their pairs are moments.
 pub fn begin_behind(
     alloc: Global,
     zones: &[Zone],
+    whole: bool,
     expr: &Expr,
     piece: &Piece,
 ) -> Result<Stepped, AllocError>
     requires numbers { NumbersBelow NAMES_MAX (tree_of expr.now) }
-    requires ends { EndBetween piece.now.begin (end_of_piece piece.now) zones.now }
+    requires from { EndsFrom None piece.now.begin (Held zones.now) }
+    requires moments { whole ≡ true → IsInstant (Held zones.now) }
     ensures { IfOk result (λ begun.
         BeginsBehindPairs (tree_of expr.now) zones.now piece.now begun.told (residual_tree
         begun.rest)) }
 {
-    let mark = Mark::empty(alloc, expr)?;
-    go_over(alloc, mark, expr, zones, piece)
+    let node = make(alloc, expr, None, whole)?;
+    go_over(alloc, node, zones, piece)
 }
 
-/// What the mark stands for, where nothing more begins.
-pub fn go_alone(
-    alloc: Global,
-    mark: Mark,
-    expr: &Expr,
-    piece: &Piece,
-) -> Result<Stepped, AllocError>
-    requires numbers { NumbersBelow NAMES_MAX (tree_of expr.now) }
-    requires well { IsWellAt piece.now.begin (mark_of mark) (tree_of expr.now) }
-    requires takes { CanTakeIn (before_piece piece.now) (mark_of mark) (tree_of expr.now) }
+/// What the pattern under way stands for, where nothing more begins.
+pub fn go_on(alloc: Global, node: &Node, piece: &Piece) -> Result<Stepped, AllocError>
+    requires { IsRoot piece.now.begin node.now }
     ensures { IfOk result (λ whole.
-        StepsTo (marked (mark_of mark) (tree_of expr.now)) piece.now whole.told
-        (residual_tree whole.rest)) }
+        StepsTo (marked node.now) piece.now whole.told (residual_tree whole.rest)) }
 {
-    go_over(alloc, mark, expr, &[], piece)
+    let copy = node.try_clone(alloc)?;
+    go_over(alloc, copy, &[], piece)
 }
 
-// The mark goes over the piece, and the pairs of the zones enter on the way.
+// The pattern goes over the piece, and the pairs of the zones enter on the way.
 fn go_over(
     alloc: Global,
-    mut mark: Mark,
-    expr: &Expr,
+    mut node: Node,
     entering: &[Zone],
     piece: &Piece,
 ) -> Result<Stepped, AllocError>
-    requires numbers { NumbersBelow NAMES_MAX (tree_of expr.now) }
-    requires well { IsWellAt piece.now.begin (mark_of mark) (tree_of expr.now) }
-    requires takes { CanTakeIn (before_piece piece.now) (mark_of mark) (tree_of expr.now) }
-    requires enter { EndBetween piece.now.begin (end_of_piece piece.now) entering.now }
+    requires root { IsRoot piece.now.begin node }
+    requires enter { MayEnter piece.now.begin (around_of node) (Held entering.now) }
     ensures { IfOk result (λ whole.
-        GoesOverTo (mark_of mark) (tree_of expr.now) entering.now piece.now whole.told
-        (residual_tree whole.rest)) }
+        GoesOverTo node entering.now piece.now whole.told (residual_tree whole.rest)) }
 {
-    let told = told_by(alloc, &mut mark, expr, entering, piece);
-    let (told, mark) = beside(told, mark)?;
-    let rest = as_residual(alloc, mark, expr);
+    let told = told_by(alloc, &mut node, entering, piece);
+    let (told, node) = beside(told, node)?;
+    let rest = Residual::mark(alloc, node);
     Stepped::of(Ok(told), rest)
 }
 
-// What the mark tells as it goes over the piece.
+/// A pattern under way at the begin of the piece goes over it, and the pairs of the zones enter on
+/// the way. What it tells comes behind what was told: the pairs that had begun and end in the
+/// piece, and what a pair that enters begins and ends in it. What a pair begins that ends just as
+/// the piece does is not among what is left: that pair has to enter the next piece.
+///
+/// Where memory runs out, the pattern is of no use.
+pub fn advance(
+    alloc: Global,
+    node: &mut Node,
+    entering: &[Zone],
+    piece: &Piece,
+    told: &mut Vec<Zone>,
+) -> Result<(), AllocError>
+    requires root { IsRoot piece.now.begin node.old }
+    requires enter { MayEnter piece.now.begin (around_of node.old) (Held entering.now) }
+    ensures { OnOk result
+        (Advances node.old entering.now piece.now told.old.items told.new.items node.new) }
+{
+    let found = told_by(alloc, node, entering, piece)?;
+    told.extend_from_slice(found.zones())?;
+    Ok(())
+}
+
+// What the pattern tells as it goes over the piece.
 fn told_by(
     alloc: Global,
-    mark: &mut Mark,
-    expr: &Expr,
+    node: &mut Node,
     entering: &[Zone],
     piece: &Piece,
 ) -> Result<ZoneSet, AllocError>
-    requires numbers { NumbersBelow NAMES_MAX (tree_of expr.now) }
-    requires well { IsWellAt piece.now.begin (mark_of mark.old) (tree_of expr.now) }
-    requires enter { EndBetween piece.now.begin (end_of_piece piece.now) entering.now }
-    ensures { IfOk result (λ told.
-        TellsAsSet (mark_of mark.old) (tree_of expr.now) entering.now piece.now told
-        (mark_of mark.new)) }
+    requires { IsRoot piece.now.begin node.old }
+    ensures { IfOk result (λ told. TellsAsSet node.old entering.now piece.now told node.new) }
 {
-    let mut told = Vec::new(alloc);
-    advance(alloc, mark, expr, entering, piece, &mut told)?;
-    ZoneSet::of_zones(alloc, told)
+    look(alloc, node, piece)?;
+    let told = told_around(alloc, node.around(), entering)?;
+    enter(alloc, node, entering, piece)?;
+    Ok(told)
 }
 
-// What the mark stands for.
-fn as_residual(alloc: Global, mark: Mark, expr: &Expr) -> Result<Residual, AllocError>
-    ensures { IfOk result (λ whole.
-        Builds (residual_tree whole) (marked (mark_of mark) (tree_of expr.now))) }
+// What had begun and has ended, and what entered and has a match inside.
+fn told_around(alloc: Global, around: &Around, entering: &[Zone]) -> Result<ZoneSet, AllocError>
+    ensures { IfOk result (λ told. HoldExactly told (Either (Held around.now.ended.items)
+        (Composed (Held entering.now) (Held around.now.inside.items)))) }
 {
-    let copy = expr.try_clone(alloc);
-    let (copy, mark) = beside(copy, mark)?;
-    Residual::mark(alloc, mark, copy)
+    let ended = set_of(alloc, &around.ended)?;
+    let behind = found_behind(alloc, entering, &around.inside)?;
+    of_either(ended, &behind)
+}
+
+// The pairs of the first zones, each followed by one of the second.
+fn found_behind(alloc: Global, first: &[Zone], second: &[Zone]) -> Result<ZoneSet, AllocError>
+    ensures { IfOk result (λ found.
+        HoldExactly found (Composed (Held first.now) (Held second.now))) }
+{
+    let first = set_of(alloc, first)?;
+    let second = set_of(alloc, second)?;
+    composed(alloc, &first, &second)
 }

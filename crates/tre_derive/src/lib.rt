@@ -3,10 +3,12 @@
 //! [`fresh`] gives the matches that begin in a piece and end as it ends or later. [`step`] reads a
 //! piece with a residual: it tells the pairs that are known with the piece read, and gives what is
 //! left of the residual. Both are exact for every trace that may come behind the piece. [`close`]
-//! tells what a residual stands for where the trace has ended.
+//! tells what a residual stands for where the trace has ended. [`advance`] reads a piece with a
+//! pattern under way alone, in place, while pairs enter.
 //!
-//! What begins in a piece goes on as a mark, which `advance` of tre_advance takes over it: this is
-//! done once for all expressions. A residual's other forms are followed through here.
+//! What begins in a piece goes on as a node of tre_node, which `look` and `enter` take over the
+//! next ones: this is done once for all expressions. A residual's other forms are followed through
+//! here.
 //!
 //! ```
 //! let begun = fresh(alloc, &expr, &piece)?;
@@ -17,11 +19,13 @@
 
 pub use beginning::fresh;
 pub use closing::close;
+pub use going::advance;
 pub use stepped::Stepped;
 pub use stepping::step;
 
 mod beginning;
 mod closing;
+mod ending;
 mod forms;
 mod going;
 mod sets;

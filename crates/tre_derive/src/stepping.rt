@@ -1,10 +1,10 @@
 // What a piece makes of a residual.
 ghost use Rattle.std.specs.Prelude.{IfOk};
-ghost use Rattle.tre_advance.specs.Advance.{before_piece};
-ghost use Rattle.tre_residual.specs.Residual.{residual_tree, IsWellAt, CanGoOn};
+ghost use Rattle.tre_residual.specs.Residual.{residual_tree, IsWellAt};
 ghost use Rattle.tre_derive.specs.Derivative.{StepsTo};
 
-use crate::forms::{begin_now, choose, follow, go_on, meet, precede, restrict};
+use crate::forms::{begin_now, choose, follow, meet, precede, restrict};
+use crate::going::go_on;
 use crate::stepped::Stepped;
 use std::alloc::{AllocError, Global};
 use tre_edges::Piece;
@@ -14,16 +14,13 @@ use tre_zoneset::ZoneSet;
 
 /// Reads the piece, which begins at the time at which the residual is one: tells the pairs of the
 /// residual that are known then, with no edge at the end of the piece, and gives what is left of it
-/// at that end. A pair that ends there may be told and be left too. Each mark in the residual has
-/// to be one that can take in what begins later: a residual that `fresh` or a step leaves has no
-/// other, where the piece is the next one.
+/// at that end. A pair that ends there may be told and be left too.
 ///
 /// It goes as deep as the residual does. The idea is that of derivatives: Ulus, Ferrère, Asarin and
 /// Maler, *Online Timed Pattern Matching using Derivatives*, TACAS 2016; the rules are this
 /// project's.
 pub fn step(alloc: Global, residual: &Residual, piece: &Piece) -> Result<Stepped, AllocError>
-    requires well { IsWellAt piece.now.begin (residual_tree residual.now) }
-    requires takes { CanGoOn (before_piece piece.now) (residual_tree residual.now) }
+    requires { IsWellAt piece.now.begin (residual_tree residual.now) }
     ensures { IfOk result (λ stepped.
         StepsTo (residual_tree residual.now) piece.now stepped.told
         (residual_tree stepped.rest)) }
@@ -62,6 +59,6 @@ pub fn step(alloc: Global, residual: &Residual, piece: &Piece) -> Result<Stepped
             let inner = step(alloc, inner, piece)?;
             restrict(alloc, inner, interval)
         }
-        Residual::Mark(mark, expr) => go_on(alloc, mark, expr, piece),
+        Residual::Mark(node) => go_on(alloc, node, piece),
     }
 }

@@ -337,4 +337,9 @@ pub sides_named : {piece : Piece} {entering entering' : List ZoneBounds}
     → entering ≡ entering' → HaveBothEntered piece entering left left' right right'
     → HaveBothEntered piece entering' named left' named' right'
 sides_named {piece} {entering} {entering'} {left} {named} {left'} {right} {named'} {right'} l r same h =
-    record { left = part_named l same h.left; right = part_named r same h.right }
+    record {
+      left = part_named l same h.left;
+      right = part_named r same h.right;
+      left_known = h.left_known;
+      right_known = h.right_known;
+    }

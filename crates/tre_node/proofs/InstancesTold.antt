@@ -32,14 +32,15 @@ use Rattle.tre_node.proofs.FoundSets.{holds_alone}
 use Rattle.tre_node.proofs.Looks.{part_idle, part_told, tells_with}
 
 -- All moments of every trace.
-pub all_moments : (piece : Piece) → AreAllMoments (end_of_piece piece) (instants_of 0 TIME_MAX ∷ [])
-all_moments piece =
+pub moments_until : (time : ℕ) → time ≤ TIME_MAX
+    → AreAllMoments time (instants_of 0 TIME_MAX ∷ [])
+moments_until time limit =
     let all = instants_of 0 TIME_MAX in
     record {
       same = λ a b n some h.
           ((instants-holds 0 TIME_MAX a b n some).0 ((holds_alone (all ∷ []) all refl a b n).1 h.held)).same;
       there = λ a n some le.
-          let up = mul-le-mul_right n piece.in_time in
+          let up = mul-le-mul_right n limit in
           record {
             rising = omega arith;
             held = (holds_alone (all ∷ []) all refl a a n).0
@@ -47,6 +48,9 @@ all_moments piece =
                 (record { starts = omega arith; same = refl; ends = omega (arith, le, up) }));
           };
     }
+
+pub begin_in_time : (piece : Piece) → piece.begin ≤ TIME_MAX
+begin_in_time piece = let end = piece.in_time in omega (arith, end)
 
 -- ---- how far an instance reaches
 
@@ -135,7 +139,7 @@ module _ (piece : Piece) (reach : Option ℕ) (interval : IntervalEnds) (around 
   told_by true puts = whole_restriction_told around.longest reach piece 0 (led_by true outer)
       (mark_of_node piece.begin body) (tree_of_node body) interval counts inner.inside.items
       inner.ended.items inner.lives (part_told f made.counts) around'.inside.items
-      around'.ended.items around'.lives (all_moments piece) puts.found puts.told puts.lives
+      around'.ended.items around'.lives (moments_until piece.begin (begin_in_time piece)) puts.found puts.told puts.lives
   told_by false puts = restriction_told around.longest reach piece 0 (led_by false outer)
       (mark_of_node piece.begin body) (tree_of_node body) interval counts inner.inside.items
       inner.ended.items inner.lives (part_told f made.counts) around'.inside.items
@@ -185,7 +189,7 @@ module _ (piece : Piece) (reach : Option ℕ) (around around' : Around) (outer :
       (mark_of_node piece.begin left) (mark_of_node piece.begin right) (tree_of_node left)
       (tree_of_node right) both_count one.inside.items one.ended.items other.inside.items
       other.ended.items one.lives other.lives (part_told f made1.counts) (part_told g made2.counts)
-      around'.inside.items around'.ended.items around'.lives (all_moments piece) puts.found
+      around'.inside.items around'.ended.items around'.lives (moments_until piece.begin (begin_in_time piece)) puts.found
       puts.told puts.lives
   both_told false puts = intersection_told around.longest reach piece 0 (led_by false outer)
       (mark_of_node piece.begin left) (mark_of_node piece.begin right) (tree_of_node left)

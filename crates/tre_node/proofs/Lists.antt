@@ -69,6 +69,9 @@ behind_each old new first second known known' held =
       );
     }
 
+pub exact_same : (zones : List ZoneBounds) → HoldExactly zones (SetHolds zones)
+exact_same zones = record { exact = λ a b n some rising. ((λ h. h), (λ h. h)) }
+
 pub exact_again : (new old : List ZoneBounds) (R : Pairs) → HoldExactly new (SetHolds old)
     → HoldExactly old R → HoldExactly new R
 exact_again new old R same held = record {

@@ -16,7 +16,7 @@ use Rattle.tre_state.specs.declared.state.State.{State}
 use Rattle.tre_trace.specs.Trace.{Timeline}
 use Rattle.tre_syntax.specs.Meaning.{MatchesRest}
 use Rattle.tre_syntax.specs.PatternTree.{Atom, NumbersBelow, PatternTree, empty, literal, rise, fall, event, atom, sequence, alternation, repetition}
-use Rattle.tre_syntax.specs.Rest.{AtomMatches}
+use Rattle.tre_syntax.specs.Rest.{Rest, AtomMatches}
 use Rattle.tre_syntax.proofs.CutMeaning.{IsBounded-rest, IsOrdered-rest}
 use Rattle.tre_edges.specs.Piece.{end_of_piece}
 use Rattle.tre_edges.specs.declared.piece.Piece.{Piece}
@@ -34,16 +34,15 @@ use Rattle.tre_node.proofs.Parts.{looked_tells}
 use Rattle.tre_node.proofs.SetsOf.{set_exact}
 
 -- Of an atom.
-pub instant_inside : (piece : Piece) (x : Atom) (zone : Option ZoneBounds) (around around' : Around)
-    → GivesZone zone (AtomMatches (alone piece) x) → PutsFound zone around around'
-    → IsSetOf around'.inside.items (MatchesRest (atom x) (alone piece))
-instant_inside piece x zone around around' gives puts =
-    set_exact around'.inside.items (MatchesRest (atom x) (alone piece))
-    (IsOrdered-rest (atom x) (alone piece))
+pub instant_inside : (rest : Rest) (x : Atom) (zone : Option ZoneBounds) (around around' : Around)
+    → GivesZone zone (AtomMatches rest x) → PutsFound zone around around'
+    → IsSetOf around'.inside.items (MatchesRest (atom x) rest)
+instant_inside rest x zone around around' gives puts =
+    set_exact around'.inside.items (MatchesRest (atom x) rest) (IsOrdered-rest (atom x) rest)
     (record {
       exact = λ a b n some le.
           let one = puts.found.exact a b n some le in
-          let two = FoundHolds-exact zone (AtomMatches (alone piece) x) gives a b n some le in
+          let two = FoundHolds-exact zone (AtomMatches rest x) gives a b n some le in
           ((λ h. two.0 (one.0 h)), (λ h. one.1 (two.1 h)));
     })
 
@@ -214,7 +213,7 @@ module _ (piece : Piece) (around around' : Around) (zone : Option ZoneBounds)
       → ((next : Timeline) → IsInstant (MatchesRest (atom x) (over piece next)))
       → Tells piece (atom_mark [] []) (atom x) around'
   instant_tells x gives instant = instant_told around'.longest piece x around'.inside.items
-      around'.ended.items around'.lives (instant_inside piece x zone around around' gives puts)
+      around'.ended.items around'.lives (instant_inside (alone piece) x zone around around' gives puts)
       puts.none instant
 
   pub empty_looked : IsNode piece.begin (Eps around)

@@ -69,7 +69,7 @@ least_limit (Some high) (Some more) x y =
     let most = x.limit in
     record { limit = omega (arith, most, y) }
 
-outer_none : (time : ℕ) (reach : Option ℕ) (outer : List ZoneBounds) → outer ≡ []
+pub outer_none : (time : ℕ) (reach : Option ℕ) (outer : List ZoneBounds) → outer ≡ []
     → AreOuter time reach outer
 outer_none time reach outer none = record {
   before = λ a b n some h.

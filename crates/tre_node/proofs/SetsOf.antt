@@ -1,6 +1,6 @@
 -- Sets of ordered pairs, made by the operators.
-use Rattle.std.proofs.Common.{◌≡◌, ℕ, ◌<◌, List, [], subst}
-use Rattle.tre_pairs.specs.Pairs.{Pairs, Composed, Both, Lasting}
+use Rattle.std.proofs.Common.{◌≡◌, ◌⊎◌, ℕ, ◌*◌, List, [], inl, ⊎_elim, sym, subst}
+use Rattle.tre_pairs.specs.Pairs.{Pairs, Composed, Either, Both, Lasting}
 use Rattle.tre_pairs.proofs.Laws.{IsOrdered, Agree}
 use Rattle.tre_zone.specs.Held.{Held, IsSetOf}
 use Rattle.tre_zone.specs.Interval.{IntervalEnds, LastsWithin}
@@ -79,3 +79,48 @@ pub followed_set : (starts any zones : List ZoneBounds) (R : Pairs)
 followed_set starts any zones R whole part =
     set_of (agree_then (set_agrees whole)
     (agree_composed (agree_refl (Held starts)) (set_agrees part)))
+
+-- ---- where there is no zone
+
+pub none_set : {zones : List ZoneBounds} {R : Pairs} → zones ≡ []
+    → ((a b n : ℕ) → R a b n → ⊥) → IsSetOf zones R
+none_set {zones} none never = record {
+  pairs = λ a b n some.
+      ((λ h. absurd (no_pair zones none a b n h)), (λ h. absurd (never a b n h)));
+}
+
+never_composed : (one other : List ZoneBounds) → (one ≡ []) ⊎ (other ≡ [])
+    → (a b n : ℕ) → Composed (Held one) (Held other) a b n → ⊥
+never_composed one other none a b n h = ⊎_elim
+    (λ x. no_pair one x (h.factor * a) h.midpoint (h.factor * n) h.left)
+    (λ x. no_pair other x h.midpoint (h.factor * b) (h.factor * n) h.right) none
+
+pub none_composed : {zones one other : List ZoneBounds} → zones ≡ []
+    → (one ≡ []) ⊎ (other ≡ []) → IsSetOf zones (Composed (Held one) (Held other))
+none_composed {zones} {one} {other} is none = none_set is (never_composed one other none)
+
+pub none_beside : {zones others one other : List ZoneBounds} → zones ≡ others
+    → (one ≡ []) ⊎ (other ≡ [])
+    → IsSetOf zones (Either (Held others) (Composed (Held one) (Held other)))
+none_beside {zones} {others} {one} {other} is none = record {
+  pairs = λ a b n some. (
+    (λ h. inl (subst (λ (list : List ZoneBounds). Held list a b n) is h)),
+    (λ h. ⊎_elim (λ x. subst (λ (list : List ZoneBounds). Held list a b n) (sym is) x)
+        (λ x. absurd (never_composed one other none a b n x)) h),
+  );
+}
+
+pub none_both : {zones one other : List ZoneBounds} → zones ≡ []
+    → (one ≡ []) ⊎ (other ≡ []) → IsSetOf zones (Both (Held one) (Held other))
+none_both {zones} {one} {other} is none = none_set is
+    (λ a b n h. ⊎_elim (λ x. no_pair one x a b n h.left) (λ x. no_pair other x a b n h.right) none)
+
+pub none_lasting : (interval : IntervalEnds) {zones all : List ZoneBounds} → zones ≡ []
+    → all ≡ [] → IsSetOf zones (Lasting (LastsWithin interval) (Held all))
+none_lasting interval {zones} {all} is none =
+    none_set is (λ a b n h. no_pair all none a b n h.related)
+
+pub none_first : {zones one : List ZoneBounds} (R : Pairs) → zones ≡ [] → one ≡ []
+    → IsSetOf zones (Composed (Held one) R)
+none_first {zones} {one} R is none =
+    none_set is (λ a b n h. no_pair one none (h.factor * a) h.midpoint (h.factor * n) h.left)

@@ -19,6 +19,7 @@ use Rattle.tre_pairs.specs.Before.{Before}
 use Rattle.tre_zone.specs.Zone.{instants_of}
 use Rattle.tre_node.specs.IsNode.{IsMade, IsNode, IsStretch, IsInReach}
 use Rattle.tre_node.specs.Looked.{Looked}
+use Rattle.tre_node.specs.Settling.{IsKnown, AreKnown}
 use Rattle.tre_node.specs.NodeTree.{around_of, tree_of_node, mark_of_node}
 
 -- What enters a node: as far as it counts it ends at the time or later, and where only moments
@@ -38,6 +39,17 @@ pub record HasEntered (piece : Piece) (entering : List ZoneBounds) (before after
       → Enters (around_of before).longest piece old (tree_of_node before) (Held entering)
       (mark_of_node (end_of_piece piece) after)
 
+-- The same, where it is known whether something has begun: in the parts, and in the node.
+pub record HasEnteredForm (piece : Piece) (entering : List ZoneBounds) (before after : Node) : Type 0
+  where
+    pub entered : HasEntered piece entering before after
+    pub known : AreKnown after
+
+pub record HasGoneIn (piece : Piece) (entering : List ZoneBounds) (before after : Node) : Type 0
+  where
+    pub entered : HasEntered piece entering before after
+    pub known : IsKnown after
+
 -- The same of both parts of a sequence, which goes on as its parts do.
 pub record HaveEntered (piece : Piece) (entering : List ZoneBounds) (left left' right right' : Node)
     : Type 0 where
@@ -47,6 +59,8 @@ pub record HaveEntered (piece : Piece) (entering : List ZoneBounds) (left left' 
   pub right_made : IsMade (around_of right).longest (around_of right).whole (around_of right')
   pub left_node : IsNode (end_of_piece piece) left → IsNode (end_of_piece piece) left'
   pub right_node : IsNode (end_of_piece piece) right → IsNode (end_of_piece piece) right'
+  pub left_known : IsKnown left'
+  pub right_known : IsKnown right'
   pub goes : (one other : MarkTree) → Looked piece one left → Looked piece other right
       → (around_of left).longest ≡ (around_of right).longest → (around_of right).whole ≡ false
       → MayEnter piece.begin (around_of left) (Held entering)
@@ -60,6 +74,8 @@ pub record HaveBothEntered (piece : Piece) (entering : List ZoneBounds)
     (one one' other other' : Node) : Type 0 where
   pub left : HasEntered piece entering one one'
   pub right : HasEntered piece entering other other'
+  pub left_known : IsKnown one'
+  pub right_known : IsKnown other'
 
 -- The body was entered by what ended and by what entered and has a match inside, or by nothing
 -- where nothing in it goes on behind the piece.
@@ -67,6 +83,7 @@ pub record EntersAgain (piece : Piece) (ended inside entering : List ZoneBounds)
     (body body' : Node) : Type 0 where
   pub fed : List ZoneBounds
   pub entered : HasEntered piece fed body body'
+  pub known : IsKnown body'
   pub is : IsSetOf fed (Either (Held ended) (Composed (Held entering) (Held inside)))
       ⊎ ((fed ≡ []) × ((around_of body).lives ≡ false))
 

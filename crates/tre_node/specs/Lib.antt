@@ -1,8 +1,11 @@
 pub mod NodeTree
 pub mod IsNode
 pub mod Looked
+pub mod Settling
 pub mod HasEntered
 pub mod Telling
 pub mod Moments
 pub mod Stretches
 pub mod Outer
+pub mod Copying
+pub mod Closed

@@ -1,6 +1,6 @@
 // What lists of zones make together, in place of what was found and without zones that others
 // include.
-ghost use Rattle.std.specs.Prelude.{OnOk};
+ghost use Rattle.std.specs.Prelude.{◌≡◌, ◌↔◌, ◌⊎◌, [], IsTrue, OnOk};
 ghost use Rattle.tre_pairs.specs.Pairs.{Composed, Either, Both, Lasting};
 ghost use Rattle.tre_zone.specs.Held.{Held, IsSetOf};
 ghost use Rattle.tre_zone.specs.Interval.{LastsWithin};
@@ -9,7 +9,7 @@ ghost use Rattle.tre_zone.specs.ZoneList.{SetHolds, HoldExactly};
 
 use crate::combining_many::{are_many, compose_many, meet_many};
 use crate::pruning::prune;
-use crate::vectors::{put_behind, put_each};
+use crate::vectors::{is_none, put_behind, put_each};
 use std::alloc::{AllocError, Global};
 use tre_zone::{Interval, Zone};
 use tre_zoneset::gather;
@@ -26,11 +26,29 @@ pub fn unite_anew(
     found.clear();
     put_behind(found, one)?;
     put_behind(found, other)?;
+    if is_one_none(one, other) {
+        return Ok(());
+    }
     prune(alloc, found)
 }
 
 /// The pairs of the first list, each followed by one of the second.
 pub fn compose_anew(
+    alloc: Global,
+    found: &mut Vec<Zone>,
+    first: &[Zone],
+    second: &[Zone],
+) -> Result<(), AllocError>
+    ensures { OnOk result (IsSetOf found.new.items (Composed (Held first.now) (Held second.now))) }
+{
+    if is_one_none(first, second) {
+        found.clear();
+        return Ok(());
+    }
+    compose_some(alloc, found, first, second)
+}
+
+fn compose_some(
     alloc: Global,
     found: &mut Vec<Zone>,
     first: &[Zone],
@@ -46,8 +64,33 @@ pub fn compose_anew(
     prune(alloc, found)
 }
 
+// Whether there is no zone in one of the lists: mostly there is none in either.
+#[inline(always)]
+fn is_one_none(one: &[Zone], other: &[Zone]) -> bool
+    ensures { IsTrue result ↔ ((one.now ≡ []) ⊎ (other.now ≡ [])) }
+{
+    is_none(one) || is_none(other)
+}
+
 /// The same beside others.
 pub fn compose_beside(
+    alloc: Global,
+    found: &mut Vec<Zone>,
+    others: &[Zone],
+    first: &[Zone],
+    second: &[Zone],
+) -> Result<(), AllocError>
+    ensures { OnOk result (IsSetOf found.new.items
+        (Either (Held others.now) (Composed (Held first.now) (Held second.now)))) }
+{
+    if is_one_none(first, second) {
+        found.clear();
+        return put_behind(found, others);
+    }
+    beside_some(alloc, found, others, first, second)
+}
+
+fn beside_some(
     alloc: Global,
     found: &mut Vec<Zone>,
     others: &[Zone],
@@ -65,6 +108,21 @@ pub fn compose_beside(
 
 /// The pairs of both.
 pub fn meet_anew(
+    alloc: Global,
+    found: &mut Vec<Zone>,
+    one: &[Zone],
+    other: &[Zone],
+) -> Result<(), AllocError>
+    ensures { OnOk result (IsSetOf found.new.items (Both (Held one.now) (Held other.now))) }
+{
+    if is_one_none(one, other) {
+        found.clear();
+        return Ok(());
+    }
+    meet_some(alloc, found, one, other)
+}
+
+fn meet_some(
     alloc: Global,
     found: &mut Vec<Zone>,
     one: &[Zone],
@@ -103,6 +161,22 @@ fn gather_meet(found: &mut Vec<Zone>, zone: &Zone, others: &[Zone]) -> Result<()
 
 /// The pairs whose duration is in the interval.
 pub fn restrict_anew(
+    alloc: Global,
+    found: &mut Vec<Zone>,
+    zones: &[Zone],
+    interval: &Interval,
+) -> Result<(), AllocError>
+    ensures { OnOk result
+        (IsSetOf found.new.items (Lasting (LastsWithin interval.now) (Held zones.now))) }
+{
+    if is_none(zones) {
+        found.clear();
+        return Ok(());
+    }
+    restrict_some(alloc, found, zones, interval)
+}
+
+fn restrict_some(
     alloc: Global,
     found: &mut Vec<Zone>,
     zones: &[Zone],

@@ -3,8 +3,9 @@ ghost use Rattle.std.specs.Prelude.{OnOk};
 ghost use Rattle.tre_pairs.specs.Pairs.{Composed, Either};
 ghost use Rattle.tre_zone.specs.Held.{Held, IsSetOf};
 ghost use Rattle.tre_edges.specs.Piece.{end_of_piece};
-ghost use Rattle.tre_node.specs.HasEntered.{HasEntered, HaveEntered, HaveBothEntered, EntersAgain, EntersBegun, LeadsIn};
+ghost use Rattle.tre_node.specs.HasEntered.{HasEntered, HasEnteredForm, HasGoneIn, HaveEntered, HaveBothEntered, EntersAgain, EntersBegun, LeadsIn};
 
+use crate::forgetting::settle;
 use crate::joining::lead_on;
 use crate::node::{Node, Stretch};
 use crate::stretches::add_begins;
@@ -31,7 +32,6 @@ fn feed(
 
 /// Pairs enter that end in the piece: those that end with it enter the next again, and are of no
 /// account here.
-#[cycle(enter)]
 pub fn enter(
     alloc: Global,
     node: &mut Node,
@@ -39,6 +39,28 @@ pub fn enter(
     piece: &Piece,
 ) -> Result<(), AllocError>
     ensures { OnOk result (HasEntered piece.now entering.now node.old node.new) }
+{
+    go_in(alloc, node, entering, piece)
+}
+
+// The same. Whether something has begun is known then, and what can't count any more is forgotten.
+#[cycle(enter)]
+fn go_in(alloc: Global, node: &mut Node, entering: &[Zone], piece: &Piece) -> Result<(), AllocError>
+    ensures { OnOk result (HasGoneIn piece.now entering.now node.old node.new) }
+{
+    enter_form(alloc, node, entering, piece)?;
+    settle(node);
+    Ok(())
+}
+
+#[cycle(enter)]
+fn enter_form(
+    alloc: Global,
+    node: &mut Node,
+    entering: &[Zone],
+    piece: &Piece,
+) -> Result<(), AllocError>
+    ensures { OnOk result (HasEnteredForm piece.now entering.now node.old node.new) }
 {
     match node {
         Node::Eps(_) => Ok(()),
@@ -87,7 +109,7 @@ pub fn enter(
         } => {
             around.busy = true;
             if around.whole {
-                return enter(alloc, body, entering, piece);
+                return go_in(alloc, body, entering, piece);
             }
             lead_in(
                 alloc,
@@ -99,7 +121,7 @@ pub fn enter(
                 entering,
                 piece,
             )?;
-            enter(alloc, body, &around.mid, piece)
+            go_in(alloc, body, &around.mid, piece)
         }
         Node::Meet {
             around,
@@ -189,8 +211,8 @@ fn enter_parts(
         let told = left.around();
         feed(&told.ended, &told.inside, entering, mid)?;
     }
-    enter(alloc, right, mid, piece)?;
-    enter(alloc, left, entering, piece)
+    go_in(alloc, right, mid, piece)?;
+    go_in(alloc, left, entering, piece)
 }
 
 /// The same enters both.
@@ -205,8 +227,8 @@ fn enter_both(
     ensures { OnOk result (HaveBothEntered piece.now entering.now left.old left.new right.old
         right.new) }
 {
-    enter(alloc, left, entering, piece)?;
-    enter(alloc, right, entering, piece)
+    go_in(alloc, left, entering, piece)?;
+    go_in(alloc, right, entering, piece)
 }
 
 /// The body is entered by what the repetition tells.
@@ -227,5 +249,5 @@ fn enter_again(
     if body.around().lives {
         feed(ended, inside, entering, mid)?;
     }
-    enter(alloc, body, mid, piece)
+    go_in(alloc, body, mid, piece)
 }

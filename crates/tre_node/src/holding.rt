@@ -4,7 +4,11 @@ ghost use Rattle.tre_state.specs.State.{tree_of};
 ghost use Rattle.tre_state.specs.StateTree.{NumbersBelow};
 ghost use Rattle.tre_state.specs.declared.names.TheConstants.{NAMES_MAX};
 ghost use Rattle.tre_zone.specs.Bound.{IsKeyWithin};
+ghost use Rattle.tre_pairs.specs.Pairs.{Composed};
+ghost use Rattle.tre_zone.specs.Held.{Held, IsSetOf};
 ghost use Rattle.tre_zone.specs.Longest.{IsLongest};
+ghost use Rattle.tre_zone.specs.Zone.{IsOnward};
+ghost use Rattle.tre_edges.specs.Piece.{end_of_piece};
 ghost use Rattle.tre_pairs.specs.declared.TheConstants.{TIME_MAX};
 ghost use Rattle.tre_node.specs.IsNode.{IsStretch};
 ghost use Rattle.tre_node.specs.NodeTree.{begun_at, stretch_zone};
@@ -49,18 +53,50 @@ fn hold_on(around: &mut Around, begun: &mut Vec<Stretch>, piece: &Piece) -> Resu
     around.lives = true;
     around.inside.clear();
     around.inside.push(Zone::span(piece.begin, end))?;
-    around.mid.clear();
-    put_begun(&mut around.mid, begun, piece.begin)?;
-    known(&around.mid);
-    around.ended.clear();
-    gather_behind(
-        &mut around.ended,
-        &around.mid,
-        &Zone::onward(piece.begin, end),
-    )?;
+    put_onward(&mut around.ended, &mut around.mid, begun, piece)?;
     cut_begun(begun, around.longest, end);
     around.busy = has_begun(begun);
     Ok(())
+}
+
+// The pairs that begin in the stretches and end in the piece, in place of what was found.
+#[inline(always)]
+fn put_onward(
+    found: &mut Vec<Zone>,
+    aux: &mut Vec<Zone>,
+    begun: &[Stretch],
+    piece: &Piece,
+) -> Result<(), AllocError>
+    requires begun { All (IsStretch piece.now.begin) begun.now }
+    ensures { OnOk result (IsSetOf found.new.items (Composed (Held (begun_at piece.now.begin begun.now))
+        (IsOnward piece.now.begin (end_of_piece piece.now)))) }
+{
+    if has_begun(begun) {
+        return put_some_onward(found, aux, begun, piece);
+    }
+    found.clear();
+    Ok(())
+}
+
+fn put_some_onward(
+    found: &mut Vec<Zone>,
+    aux: &mut Vec<Zone>,
+    begun: &[Stretch],
+    piece: &Piece,
+) -> Result<(), AllocError>
+    requires begun { All (IsStretch piece.now.begin) begun.now }
+    ensures { OnOk result (IsSetOf found.new.items (Composed (Held (begun_at piece.now.begin begun.now))
+        (IsOnward piece.now.begin (end_of_piece piece.now)))) }
+{
+    found.clear();
+    aux.clear();
+    put_begun(aux, begun, piece.begin)?;
+    known(aux);
+    gather_behind(
+        found,
+        aux,
+        &Zone::onward(piece.begin, piece.begin + piece.segment.len),
+    )
 }
 
 // The first stretches go, while all of their pairs last longer by the time than what counts.
@@ -114,15 +150,16 @@ fn is_no_looser(one: &Bound, other: &Bound) -> bool
     one.key() <= other.key()
 }
 
+/// Whether something has begun.
 #[inline(always)]
-fn has_begun(begun: &[Stretch]) -> bool
+pub fn has_begun(begun: &[Stretch]) -> bool
     ensures { result ≡ false → begun.now ≡ [] }
 {
     !begun.is_empty()
 }
 
-// All that had begun ends.
-fn end_begun(around: &mut Around, begun: &mut Vec<Stretch>, time: u64) -> Result<(), AllocError>
+/// All that had begun ends.
+pub fn end_begun(around: &mut Around, begun: &mut Vec<Stretch>, time: u64) -> Result<(), AllocError>
     requires limit { time ≤ TIME_MAX }
     requires begun { All (IsStretch time) begun.old.items }
     ensures { OnOk result (EndsBegun time around.old around.new begun.old.items begun.new.items) }
@@ -131,14 +168,17 @@ fn end_begun(around: &mut Around, begun: &mut Vec<Stretch>, time: u64) -> Result
     around.busy = false;
     around.inside.clear();
     around.ended.clear();
+    if begun.is_empty() {
+        return Ok(());
+    }
     put_begun(&mut around.ended, begun, time)?;
     begun.clear();
     Ok(())
 }
 
-// Adds the pairs that begin in the stretches and end at the time, a zone for each.
+/// Adds the pairs that begin in the stretches and end at the time, a zone for each.
 #[inline(always)]
-fn put_begun(found: &mut Vec<Zone>, begun: &[Stretch], time: u64) -> Result<(), AllocError>
+pub fn put_begun(found: &mut Vec<Zone>, begun: &[Stretch], time: u64) -> Result<(), AllocError>
     requires limit { time ≤ TIME_MAX }
     requires begun { All (IsStretch time) begun.now }
     ensures { OnOk result (found.new.items ≡ found.old.items ++ begun_at time begun.now) }

@@ -152,6 +152,9 @@ fn ends_from(zone: &Zone, time: u64) -> bool
 pub fn keep_in_reach(outer: &mut Vec<Zone>, reach: Option<u64>, time: u64)
     ensures { KeepsInReach reach time outer.old.items outer.new.items }
 {
+    if outer.is_empty() {
+        return;
+    }
     outer.retain(|zone| is_in_reach(zone, reach, time));
 }
 

@@ -14,9 +14,12 @@
 #![tactic(auto)]
 
 mod chains;
+mod closing;
 mod combining;
 mod combining_many;
+mod copying;
 mod entering;
+mod forgetting;
 mod holding;
 mod joining;
 mod looking;
@@ -29,7 +32,9 @@ mod stretches;
 mod telling;
 mod vectors;
 
+pub use closing::close;
 pub use entering::enter;
+pub use holding::put_begun;
 pub use looking::look;
-pub use making::make;
+pub use making::{idle, make};
 pub use node::{Around, Node, Stretch};

@@ -117,7 +117,13 @@ fn look_repetition(
     ensures { OnOk result (RepetitionLooks piece.now around.old around.new body.old body.new) }
 {
     look(alloc, body, piece)?;
-    tell_repetition(alloc, around, body, piece)?;
+    tell_repetition(
+        alloc,
+        around,
+        body,
+        piece.begin,
+        piece.begin + piece.segment.len,
+    )?;
     Ok(())
 }
 

@@ -1,10 +1,10 @@
 // Patterns of which nothing has begun.
-ghost use Rattle.std.specs.Prelude.{◌≡◌, true, false, IfOk};
+ghost use Rattle.std.specs.Prelude.{◌≡◌, None, true, false, IfOk};
 ghost use Rattle.tre_zone.specs.Longest.{IsLongest};
 ghost use Rattle.tre_state.specs.State as states;
 ghost use Rattle.tre_state.specs.declared.names.TheConstants.{NAMES_MAX};
 ghost use Rattle.tre_syntax.specs.Expr.{tree_of};
-ghost use Rattle.tre_syntax.specs.PatternTree.{NumbersBelow, PatternTree, literal, rise, fall, atom, sequence, alternation, intersection, repetition, restriction};
+ghost use Rattle.tre_syntax.specs.PatternTree.{NumbersBelow, PatternTree, empty, literal, rise, fall, atom, sequence, alternation, intersection, repetition, restriction};
 ghost use Rattle.tre_node.specs.IsNode.{IsMade, IsNew, least_of};
 
 use crate::node::{Around, Node};
@@ -60,6 +60,13 @@ pub fn make(
             )
         }
     }
+}
+
+/// That of `eps`, which only moments enter. It takes no memory.
+pub fn idle(alloc: Global) -> Node
+    ensures { IsNew (atom empty) None true result }
+{
+    Node::Eps(around(alloc, None, true))
 }
 
 // Around a node of which nothing has begun. It takes no memory.

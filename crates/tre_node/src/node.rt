@@ -1,6 +1,7 @@
 // A pattern under way.
-ghost use Rattle.std.specs.Prelude.{◌≡◌};
-ghost use Rattle.tre_node.specs.NodeTree.{around_of};
+ghost use Rattle.std.specs.Prelude.{◌≡◌, ◌-◌, ◌^◌, min};
+ghost use Rattle.tre_mark.specs.Nodes.{form_count};
+ghost use Rattle.tre_node.specs.NodeTree.{around_of, tree_of_node};
 
 use tre_state::State;
 use tre_zone::{Bound, Interval, Zone};
@@ -98,6 +99,32 @@ impl Node {
             Node::Meet { around, .. } => around,
             Node::Star { around, .. } => around,
             Node::Within { around, .. } => around,
+        }
+    }
+    /// How many nodes there are, or `u64::MAX` where there are more. It takes no memory.
+    pub fn nodes(&self) -> u64
+        ensures { result ≡ min (form_count (tree_of_node self.now)) (2 ^ 64 - 1) }
+    {
+        match self {
+            Node::Eps(_) => 1,
+            Node::Lit { .. } => 1,
+            Node::Rise(_, _) => 1,
+            Node::Fall(_, _) => 1,
+            Node::Event(_, _) => 1,
+            Node::Seq { left, right, .. } => left
+                .nodes()
+                .saturating_add(right.nodes())
+                .saturating_add(1),
+            Node::Alt { left, right, .. } => left
+                .nodes()
+                .saturating_add(right.nodes())
+                .saturating_add(1),
+            Node::Meet { left, right, .. } => left
+                .nodes()
+                .saturating_add(right.nodes())
+                .saturating_add(1),
+            Node::Star { body, .. } => body.nodes().saturating_add(1),
+            Node::Within { body, .. } => body.nodes().saturating_add(1),
         }
     }
 }

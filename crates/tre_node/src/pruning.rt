@@ -16,6 +16,15 @@ const FEW: usize = 24;
 pub fn prune(alloc: Global, zones: &mut Vec<Zone>) -> Result<(), AllocError>
     ensures { OnOk result (HoldExactly zones.new.items (SetHolds zones.old.items)) }
 {
+    if zones.len() < 2 {
+        return Ok(());
+    }
+    prune_more(alloc, zones)
+}
+
+fn prune_more(alloc: Global, zones: &mut Vec<Zone>) -> Result<(), AllocError>
+    ensures { OnOk result (HoldExactly zones.new.items (SetHolds zones.old.items)) }
+{
     if FEW < zones.len() {
         return prune_many(alloc, zones);
     }

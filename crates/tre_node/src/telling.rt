@@ -1,19 +1,19 @@
 // What a node tells, of what its parts tell.
-ghost use Rattle.std.specs.Prelude.{◌≡◌, ◌↔◌, [], ◌⊎◌, false, IsTrue, OnOk};
+ghost use Rattle.std.specs.Prelude.{◌≡◌, ◌≤◌, ◌↔◌, [], ◌⊎◌, false, IsTrue, OnOk};
 ghost use Rattle.tre_pairs.specs.Pairs.{Composed, Either, Both, Lasting, Chain};
 ghost use Rattle.tre_zone.specs.Held.{Held};
 ghost use Rattle.tre_zone.specs.Interval.{LastsWithin};
 ghost use Rattle.tre_zone.specs.Zone.{IsInstantBetween};
 ghost use Rattle.tre_mark.specs.Marked.{EndBetween};
-ghost use Rattle.tre_edges.specs.Piece.{end_of_piece};
+ghost use Rattle.tre_pairs.specs.declared.TheConstants.{TIME_MAX};
 ghost use Rattle.tre_node.specs.NodeTree.{around_of};
 ghost use Rattle.tre_node.specs.Telling.{Puts, PutsBehind, PutsFound};
 
 use crate::chains::chain_anew;
 use crate::combining::{compose_anew, compose_beside, meet_anew, restrict_anew, unite_anew};
 use crate::node::{Around, Node};
+use crate::vectors::is_none;
 use std::alloc::{AllocError, Global};
-use tre_edges::Piece;
 use tre_zone::{Interval, Zone};
 use tre_zoneset::gather;
 
@@ -71,18 +71,20 @@ pub fn tell_alternation(
     Ok(())
 }
 
-/// Of a repetition. The moments of the piece are among what is inside.
+/// Of a repetition. The moments between the two times are among what is inside.
 pub fn tell_repetition(
     alloc: Global,
     around: &mut Around,
     body: &Node,
-    piece: &Piece,
+    from: u64,
+    to: u64,
 ) -> Result<(), AllocError>
-    requires { EndBetween piece.now.begin (end_of_piece piece.now)
-        (around_of body.now).inside.items }
+    requires rising { from ≤ to }
+    requires limit { to ≤ TIME_MAX }
+    requires between { EndBetween from to (around_of body.now).inside.items }
     ensures { OnOk result (Puts
         (Chain (Held (around_of body.now).inside.items)
-        (IsInstantBetween piece.now.begin (end_of_piece piece.now)))
+        (IsInstantBetween from to))
         (Composed (Held (around_of body.now).ended.items) (Held around.new.inside.items))
         ((around_of body.now).lives ≡ false) ((around_of body.now).busy ≡ false)
         around.old around.new) }
@@ -90,7 +92,7 @@ pub fn tell_repetition(
     let inner = body.around();
     around.lives = inner.lives;
     around.busy = inner.busy;
-    chain_anew(alloc, &mut around.inside, &inner.inside, piece)?;
+    chain_anew(alloc, &mut around.inside, &inner.inside, from, to)?;
     compose_anew(alloc, &mut around.ended, &inner.ended, &around.inside)?;
     Ok(())
 }
@@ -196,13 +198,6 @@ fn lives_behind(one: &Around, other: &Around) -> bool
         × ((other.now.lives ≡ false) ⊎ (one.now.inside.items ≡ [])) }
 {
     one.lives || other.lives && !is_none(&one.inside)
-}
-
-#[inline(always)]
-fn is_none(zones: &[Zone]) -> bool
-    ensures { IsTrue result ↔ (zones.now ≡ []) }
-{
-    zones.is_empty()
 }
 
 #[inline(always)]

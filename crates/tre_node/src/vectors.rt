@@ -1,5 +1,5 @@
 // Small operations on lists of zones, in vectors that stay.
-ghost use Rattle.std.specs.Prelude.{◌≡◌, ◌++◌, OnOk};
+ghost use Rattle.std.specs.Prelude.{◌≡◌, ◌↔◌, ◌++◌, [], IsTrue, OnOk};
 ghost use Rattle.tre_pairs.specs.Pairs.{Composed, Either};
 ghost use Rattle.tre_zone.specs.Held.{Held, IsSetOf};
 ghost use Rattle.tre_zone.specs.Zone.{ZoneHolds};
@@ -17,6 +17,14 @@ pub fn known(zones: &[Zone])
     for zone in zones {
         let _bounds = zone.bounds();
     }
+}
+
+/// Whether there is no zone: mostly there is none.
+#[inline(always)]
+pub fn is_none(zones: &[Zone]) -> bool
+    ensures { IsTrue result ↔ (zones.now ≡ []) }
+{
+    zones.is_empty()
 }
 
 /// Puts the zones behind those that were found: mostly they are few.

@@ -1,16 +1,24 @@
 -- What the functions inside a session promise each other.
-use Rattle.std.specs.Prelude.{◌≡◌, ℕ, Some, List}
+use Rattle.std.specs.Prelude.{◌≡◌, ℕ, ◌++◌, Option, Some, None, true, List}
+use Rattle.tre_pairs.specs.Pairs.{Either}
 use Rattle.tre_edges.specs.Piece.{end_of_piece}
 use Rattle.tre_edges.specs.declared.piece.Piece.{Piece}
+use Rattle.tre_syntax.specs.Meaning.{MatchesRest}
 use Rattle.tre_syntax.specs.PatternTree.{PatternTree}
+use Rattle.tre_syntax.specs.Rest.{Rest}
 use Rattle.tre_trace.specs.declared.segment.Segment.{Segment}
+use Rattle.tre_zone.specs.Held.{Held}
 use Rattle.tre_zone.specs.Zone.{IsInstantBetween}
 use Rattle.tre_zone.specs.ZoneList.{HoldExactly}
 use Rattle.tre_zone.specs.declared.zone_bounds.ZoneBounds.{ZoneBounds}
 use Rattle.tre_zoneset.specs.ZoneSet.{IsZoneSet, Without}
 use Rattle.tre_mark.specs.MarkTree.{MarkTree}
-use Rattle.tre_mark.specs.Marked.{EndBetween}
-use Rattle.tre_advance.specs.Advance.{Advances}
+use Rattle.tre_mark.specs.Marked.{Marked}
+use Rattle.tre_forms.specs.Enters.{Enters, alone}
+use Rattle.tre_node.specs.Closed.{end_rest}
+use Rattle.tre_node.specs.declared.node.Node.{Node}
+use Rattle.tre_node.specs.IsNode.{IsMade, IsNode}
+use Rattle.tre_node.specs.NodeTree.{around_of, mark_of_node, tree_of_node}
 use Rattle.tre_online.specs.Session.{at_of, held_of}
 use Rattle.tre_online.specs.Told.{WasTold}
 use Rattle.tre_online.specs.declared.session.Progress.{Progress}
@@ -19,7 +27,6 @@ use Rattle.tre_online.specs.declared.session.Session.{Session}
 -- The zones are the moments from one time to another, each as a pair.
 pub record AreMoments (from to : ℕ) (zones : List ZoneBounds) : Type 0 where
   pub exact : HoldExactly zones (IsInstantBetween from to)
-  pub between : EndBetween from to zones
 
 -- The piece is the segment where the session's trace ends so far.
 pub record IsPieceFor (session : Session) (segment : Segment) (piece : Piece) : Type 0 where
@@ -27,22 +34,34 @@ pub record IsPieceFor (session : Session) (segment : Segment) (piece : Piece) : 
   pub same : piece.segment ≡ segment
   pub before : piece.before ≡ held_of session
 
--- The mark has gone over the piece, with matches entering at every moment of it, and told what was
--- found.
-pub record FindsInPiece (mark : MarkTree) (tree : PatternTree) (piece : Piece) (found : List
-    ZoneBounds)
-    (rest : MarkTree) : Type 0 where
+-- Told are the matches that begin in the rest, and those that the mark stands for over it.
+pub record TellsOver (rest : Rest) (mark : MarkTree) (tree : PatternTree)
+    (told : List ZoneBounds) : Type 0 where
+  pub exact : HoldExactly told (Either (MatchesRest tree rest) (Marked rest mark tree))
+
+-- The same of the end of the trace, whatever held before.
+pub record TellsAtEnd (time events : ℕ) (mark : MarkTree) (tree : PatternTree)
+    (told : List ZoneBounds) : Type 0 where
+  pub each : (last : Option ℕ) → TellsOver (end_rest time last events) mark tree told
+
+-- The node, which stood for the mark, has gone over the piece, with matches entering at every
+-- moment of it, and told what was found.
+pub record FindsInPiece (mark : MarkTree) (tree : PatternTree) (piece : Piece)
+    (found : List ZoneBounds) (node : Node) : Type 0 where
+  pub set : IsZoneSet found
+  pub tells : TellsOver (alone piece) mark tree found
   pub entering : List ZoneBounds
   pub moments : AreMoments piece.begin (end_of_piece piece) entering
-  pub set : IsZoneSet found
-  pub advances : Advances mark tree entering piece found rest
+  pub leaves : Enters None piece mark tree (Held entering) (mark_of_node (end_of_piece piece) node)
+  pub tree_is : tree_of_node node ≡ tree
+  pub made : IsMade None true (around_of node)
+  pub node_is : IsNode (end_of_piece piece) node
 
 -- What is told is what was found, without what was told earlier.
-pub record ReadsPiece (mark : MarkTree) (tree : PatternTree) (earlier : List ZoneBounds) (piece :
-    Piece)
-    (told : List ZoneBounds) (rest : MarkTree) : Type 0 where
+pub record ReadsPiece (mark : MarkTree) (tree : PatternTree) (earlier : List ZoneBounds)
+    (piece : Piece) (told : List ZoneBounds) (node : Node) : Type 0 where
   pub found : List ZoneBounds
-  pub finds : FindsInPiece mark tree piece found rest
+  pub finds : FindsInPiece mark tree piece found node
   pub without : Without (WasTold earlier) found told
 
 -- The progress is that at the end of the piece, of which this was told.

@@ -1,9 +1,12 @@
 -- Sessions: what one stands for, and what it tells of a segment and of the end.
 use Rattle.std.specs.Prelude.{◌≡◌, ℕ, ◌*◌, ◌<◌, ◌≤◌, ◌↔◌, Option, None, Contains, List, [], ◌∷◌, ◌++◌}
-use Rattle.tre_pairs.specs.Pairs.{Either}
-use Rattle.tre_mark.specs.MarkTree.{MarkTree, mark_of}
-use Rattle.tre_mark.specs.Marked.{since, CanTakeIn, Marked}
-use Rattle.tre_syntax.specs.Cut.{CutRest, last_of, back_of, MatchesAcross}
+use Rattle.tre_pairs.specs.Pairs.{Pairs, Either}
+use Rattle.tre_mark.specs.MarkTree.{MarkTree}
+use Rattle.tre_mark.specs.Marked.{Marked}
+use Rattle.tre_node.specs.declared.node.Node.{Node}
+use Rattle.tre_node.specs.NodeTree.{mark_of_node, tree_of_node}
+use Rattle.tre_syntax.specs.Cut.{CutRest, last_of, back_of}
+use Rattle.tre_syntax.specs.Rest.{prefixed}
 use Rattle.tre_syntax.specs.Meaning.{Matches}
 use Rattle.tre_syntax.specs.Pattern.{pattern_tree}
 use Rattle.tre_syntax.specs.PatternTree.{PatternTree}
@@ -31,32 +34,46 @@ held_of session = session.progress.last
 abbrev pub ended_of : Session → List ZoneBounds
 ended_of session = session.progress.told.items
 
+-- The pattern under way.
+abbrev pub node_of : Session → Node
+node_of session = session.progress.node
+
 -- How far the matches that may go on have come.
 abbrev pub kept_of : Session → MarkTree
-kept_of session = mark_of session.progress.mark
+kept_of session = mark_of_node (at_of session) (node_of session)
 
 -- A trace that is cut where its first segments end.
 abbrev pub cut_after : List Segment → Timeline → CutRest
 cut_after segments next =
     record { start = 0; before = None; front = segments; back = next }
 
--- The mark stands for the matches that the end of the segments cuts, whatever comes next.
+-- R, from before the cut to the cut or behind it.
+pub record Begun (cut : ℕ) (R : Pairs) (a b n : ℕ) : Type 0 where
+  pub related : R a b n
+  pub begin : a < cut * n
+  pub end : cut * n ≤ b
+
+-- The matches of a trace that begin before its first segments end, and end then or later.
+abbrev pub MatchesBegun : PatternTree → List Segment → Timeline → Pairs
+MatchesBegun tree segments next =
+    Begun (end_of 0 segments) (Matches tree (prefixed segments next))
+
+-- The mark stands for the matches that go on where the segments end, whatever comes next.
 pub record AwaitsMatches (mark : MarkTree) (tree : PatternTree) (segments : List Segment) : Type 0
   where
     pub exact : (next : Timeline) (a b n : ℕ) → AreLong next.segments → 0 < n
         → Marked (back_of (cut_after segments next)) mark tree a b n
-        ↔ MatchesAcross tree (cut_after segments next) a b n
+        ↔ MatchesBegun tree segments next a b n
 
 -- The session has read these segments. It keeps when they end, the last valuation and what it told
--- last, which are matches; and its mark means, whatever comes next, the matches that begin no later
--- than they end and end no earlier. What begins later can be taken into it.
+-- last, which are matches; and its mark means, whatever comes next, the matches that begin before
+-- they end and end no earlier.
 pub record StandsFor (session : Session) (segments : List Segment) : Type 0 where
   pub trace : IsTrace segments
   pub at : at_of session ≡ end_of 0 segments
   pub last : held_of session ≡ last_of None segments
+  pub tree : tree_of_node (node_of session) ≡ pattern_tree (pattern_of session)
   pub awaits : AwaitsMatches (kept_of session) (pattern_tree (pattern_of session)) segments
-  pub takes : CanTakeIn (since (at_of session) (held_of session) []) (kept_of session)
-      (pattern_tree (pattern_of session))
   pub ended : (a b n : ℕ) → 0 < n → a ≤ b → SetHolds (ended_of session) a b n
       → Matches (pattern_tree (pattern_of session)) (quiet segments) a b n
   pub unstarted : segments ≡ [] → ended_of session ≡ []

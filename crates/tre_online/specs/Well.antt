@@ -1,41 +1,29 @@
--- That a mark is well, and that zones are apart, can be so in one way only: so a session may keep
--- it.
-use Rattle.std.specs.Prelude.{◌≡◌, All, ℕ, ◌+◌, ◌-◌, ◌*◌, ◌<◌, ◌≤◌, Option, Some, None, MatchOption, List, [], ◌∷◌}
-use Rattle.std.specs.Coded.{Coded-set, ×_prop, Π_prop, →_prop, Unit-prop, le_prop, coded_list}
+-- That a node is one of its pattern, and that zones are apart, can be so in one way only: so a
+-- session may keep it.
+use Rattle.std.specs.Prelude.{◌≡◌, All, ℕ, ◌+◌, ◌*◌, ◌<◌, ◌≤◌, ℤ, pos, ◌≤ℤ◌, Option, Some, None, Bool, true, false, MatchOption, List, [], ◌∷◌}
+use Rattle.std.specs.Coded.{Coded, Coded-set, ×_prop, Π_prop, →_prop, Unit-prop, le_prop, code_by, coded_list, coded_option, coded_ℕ, coded_ℤ, coded_bool, coded×}
 use native.Mathlib.Nat.{ℕ_set}
-use mathlib.Core.Path.{ap}
+use mathlib.Core.Path.{ap, refl}
+use lib.Dec.{T_prop}
+use Rattle.tre_pairs.specs.declared.TheConstants.{TIME_MAX}
+use Rattle.tre_zone.specs.Bound.{sum_of}
 use Rattle.tre_zone.specs.Zone.{Includes}
 use Rattle.tre_zone.specs.ZoneList.{AreApart, IsApartFrom, IsApart}
-use Rattle.tre_zone.specs.Held.{Held, EndAt, EndBy, IsLatest}
-use Rattle.tre_zone.specs.Interval.{IntervalEnds}
-use Rattle.tre_zone.specs.Longest.{LastsUpTo}
-use Rattle.tre_syntax.specs.Pattern.{pattern_tree}
-use Rattle.tre_syntax.specs.PatternTree.{Atom, PatternTree, empty, literal, rise, fall, event, atom, sequence, alternation, intersection, repetition, restriction}
-use Rattle.tre_syntax.specs.declared.pattern.Pattern.{Pattern}
-use Rattle.tre_zone.specs.contracts.zone_bounds.ZoneBounds as zone_bounds
+use Rattle.tre_zone.specs.Held.{Held, EndBy}
+use Rattle.tre_zone.specs.Longest.{IsLongest}
 use Rattle.tre_zone.specs.declared.zone_bounds.ZoneBounds.{ZoneBounds}
-use Rattle.tre_mark.specs.MarkTree.{MarkTree, atom_mark, sequence_mark, alternation_mark, repetition_mark, intersection_none, intersection_one, restriction_none, restriction_one, mark_of}
-use Rattle.tre_mark.specs.Marked.{IsBare, IsEntered, IsLong, LastUpTo, IsRecent, IsShort, IsBegun, IsWell, IsWellAt}
+use Rattle.tre_state.specs.State.{tree_of}
+use Rattle.tre_state.specs.StateTree.{StateTree, NumbersBelow, always, proposition, negation, conjunction, disjunction}
+use Rattle.tre_state.specs.declared.names.TheConstants.{NAMES_MAX}
+use Rattle.tre_syntax.specs.Pattern.{pattern_tree}
+use Rattle.tre_syntax.specs.declared.pattern.Pattern.{Pattern}
+use Rattle.tre_mark.specs.Nodes.{form_count}
+use Rattle.tre_node.specs.declared.node.Around.{Around}
+use Rattle.tre_node.specs.declared.node.Node.{Node, Eps, Lit, Rise, Fall, Event, Seq', Alt', Meet', Star', Within'}
+use Rattle.tre_node.specs.declared.node.Stretch.{Stretch}
+use Rattle.tre_node.specs.IsNode.{AreOuter, IsIdle, IsInReach, IsMade, IsNode, IsSound, IsStretch, least_of}
+use Rattle.tre_node.specs.NodeTree.{around_of, tree_of_node}
 use Rattle.tre_online.specs.declared.session.Progress.{Progress}
-
-zones_set : IsSet (List ZoneBounds)
-zones_set = Coded-set (coded_list zone_bounds.the_row.coded)
-
-IsProp-EndAt : (time : ℕ) (zones : List ZoneBounds) → IsProp (EndAt time zones)
-IsProp-EndAt time zones x y =
-    ap (λ (f : (a b n : ℕ) → 0 < n → Held zones a b n → b ≡ time * n). record { ends = f })
-    (Π_prop (λ a. Π_prop (λ b. Π_prop (λ n. →_prop (→_prop (ℕ_set b (time * n)))))) x.ends y.ends)
-
-IsProp-EndBy : (time : ℕ) (zones : List ZoneBounds) → IsProp (EndBy time zones)
-IsProp-EndBy time zones x y =
-    ap (λ (f : (a b n : ℕ) → 0 < n → Held zones a b n → b ≤ time * n). record { ends = f })
-    (Π_prop (λ a. Π_prop (λ b. Π_prop (λ n. →_prop (→_prop le_prop)))) x.ends y.ends)
-
-IsProp-IsLatest : (time : ℕ) (zones : List ZoneBounds) → IsProp (IsLatest time zones)
-IsProp-IsLatest time zones x y =
-    let ends = IsProp-EndBy time zones x.ends y.ends in
-    let first = Π_prop (λ bound. →_prop le_prop) x.first y.first in
-    λ i. record { ends = ends i; first = first i }
 
 IsProp-never : (A : Type 0) → IsProp (A → ⊥)
 IsProp-never A = →_prop (λ x. absurd x)
@@ -57,104 +45,157 @@ unfolding IsApart
 IsProp-IsApart [] = Unit-prop
 IsProp-IsApart (zone ∷ zones) = ×_prop (IsProp-IsApartFrom zone zones) (IsProp-IsApart zones)
 
-IsProp-IsEntered : (time to : ℕ) (outer : List ZoneBounds) → IsProp (IsEntered time to outer)
-IsProp-IsEntered time to outer x y =
-    let latest = IsProp-IsLatest to outer x.latest y.latest in
-    λ i. record {
-      some = IsProp-never (outer ≡ []) x.some y.some i;
-      past = le_prop x.past y.past i;
-      latest = latest i;
-    }
+option_set : IsSet (Option ℕ)
+option_set = Coded-set (coded_option coded_ℕ)
 
-IsProp-reach : (time to : ℕ) (high : Option ℕ)
-    → IsProp (MatchOption high (Unit {0}) (λ h. time ≤ to + h))
-IsProp-reach time to None = Unit-prop
-IsProp-reach time to (Some high) = le_prop
+bool_set : IsSet Bool
+bool_set = Coded-set coded_bool
 
-IsProp-recent : (time : ℕ) (ends : IntervalEnds) (outer : List ZoneBounds)
-    → IsProp (All (IsRecent time ends) outer)
-IsProp-recent time ends outer = Π_prop (λ k. Π_prop (λ d. →_prop (Π_prop (λ bound.
-    →_prop (IsProp-reach time bound ends.high)))))
+abbrev bounds_of : Stretch → ℤ × ℤ
+bounds_of stretch = (stretch.low, stretch.high)
 
-IsProp-last : (longest : Option ℕ) (d n : ℕ) → IsProp (LastsUpTo longest d n)
-IsProp-last None d n x y =
-    ap (λ (u : Unit {0}). record { within = u }) (Unit-prop x.within y.within)
-IsProp-last (Some high) d n x y =
-    ap (λ (le : d ≤ high * n). record { within = le }) (le_prop x.within y.within)
+abbrev stretch_of : ℤ × ℤ → Stretch
+stretch_of pair = record { low = pair.0; high = pair.1 }
 
-IsProp-LastUpTo : (longest : Option ℕ) (zones : List ZoneBounds)
-    → IsProp (LastUpTo longest zones)
-IsProp-LastUpTo longest zones x y =
-    ap (λ (f : (a b n : ℕ) → 0 < n → Held zones a b n → LastsUpTo longest (b - a) n).
-    record { each = f })
-    (Π_prop (λ a. Π_prop (λ b. Π_prop (λ n.
-    →_prop (→_prop (IsProp-last longest (b - a) n))))) x.each y.each)
+coded_stretch : Coded Stretch
+coded_stretch = code_by (ℤ × ℤ) (coded× coded_ℤ coded_ℤ) bounds_of stretch_of (λ _. refl)
 
-IsProp-none_long : (longest : Option ℕ) (zones : List ZoneBounds)
-    → IsProp (All (λ zone. IsLong longest zone → ⊥) zones)
-IsProp-none_long longest zones = Π_prop (λ k. Π_prop (λ d. →_prop (→_prop (λ x. absurd x))))
+stretches_set : IsSet (List Stretch)
+stretches_set = Coded-set (coded_list coded_stretch)
 
-IsProp-IsShort : (longest : Option ℕ) (mark : MarkTree) → IsProp (IsShort longest mark)
-IsProp-IsShort longest (atom_mark here begun) =
-    ×_prop (IsProp-LastUpTo longest here) (IsProp-LastUpTo longest begun)
-IsProp-IsShort longest (sequence_mark one other) =
-    ×_prop (IsProp-IsShort longest one) (IsProp-IsShort longest other)
-IsProp-IsShort longest (alternation_mark one other) =
-    ×_prop (IsProp-IsShort longest one) (IsProp-IsShort longest other)
-IsProp-IsShort longest (repetition_mark here body) =
-    ×_prop (IsProp-LastUpTo longest here) (IsProp-IsShort longest body)
-IsProp-IsShort longest intersection_none = Unit-prop
-IsProp-IsShort longest (intersection_one to outer one other) = IsProp-none_long longest outer
-IsProp-IsShort longest restriction_none = Unit-prop
-IsProp-IsShort longest (restriction_one to outer body) = IsProp-none_long longest outer
+IsProp-less : (x y : ℤ) → IsProp (x ≤ℤ y)
+IsProp-less x y p q = ap (λ t. record { le = t }) (T_prop _ p.le q.le)
 
-IsProp-IsBegun : (time : ℕ) (begun : List ZoneBounds) (x : Atom) → IsProp (IsBegun time begun x)
-IsProp-IsBegun time begun empty = zones_set begun []
-IsProp-IsBegun time begun (literal state) = IsProp-EndAt time begun
-IsProp-IsBegun time begun (rise state) = zones_set begun []
-IsProp-IsBegun time begun (fall state) = zones_set begun []
-IsProp-IsBegun time begun (event number) = zones_set begun []
+IsProp-IsLongest : (longest : Option ℕ) → IsProp (IsLongest longest)
+IsProp-IsLongest None x y = ap (λ (u : Unit {0}). record { limit = u }) (Unit-prop x.limit y.limit)
+IsProp-IsLongest (Some high) x y =
+    ap (λ (le : high ≤ TIME_MAX). record { limit = le }) (le_prop x.limit y.limit)
 
-IsProp-form : (time : ℕ) (mark : MarkTree) (tree : PatternTree) → IsProp (IsWell time mark tree)
-IsProp-form time (atom_mark here begun) (atom x) =
-    ×_prop (IsProp-EndAt time here) (IsProp-IsBegun time begun x)
-IsProp-form time (sequence_mark one other) (sequence left right) =
-    ×_prop (IsProp-form time one left) (IsProp-form time other right)
-IsProp-form time (alternation_mark one other) (alternation left right) =
-    ×_prop (IsProp-form time one left) (IsProp-form time other right)
-IsProp-form time (repetition_mark here body) (repetition tree) =
-    ×_prop (IsProp-EndAt time here) (IsProp-form time body tree)
-IsProp-form time intersection_none (intersection left right) = Unit-prop
-IsProp-form time (intersection_one to outer one other) (intersection left right) =
-    λ u v.
-    let entered = IsProp-IsEntered time to outer u.0 v.0 in
-    let first = IsProp-form time one left u.1 v.1 in
-    let second = IsProp-form time other right u.2 v.2 in
-    let one_left = IsProp-never (IsBare one) u.3 v.3 in
-    let other_left = IsProp-never (IsBare other) u.4 v.4 in
-    λ i. (entered i, first i, second i, one_left i, other_left i)
-IsProp-form time restriction_none (restriction tree ends) = Unit-prop
-IsProp-form time (restriction_one to outer body) (restriction tree ends) =
-    λ u v.
-    let entered = IsProp-IsEntered time to outer u.0 v.0 in
-    let reach = IsProp-recent time ends outer u.1 v.1 in
-    let first = IsProp-form time body tree u.2 v.2 in
-    let body_left = IsProp-never (IsBare body) u.3 v.3 in
-    let short = IsProp-IsShort ends.high body u.4 v.4 in
-    λ i. (entered i, reach i, first i, body_left i, short i)
-IsProp-form time mark tree = λ x. absurd x
+IsProp-IsMade : (longest : Option ℕ) (whole : Bool) (around : Around)
+    → IsProp (IsMade longest whole around)
+IsProp-IsMade longest whole around x y =
+    let counts = option_set around.longest longest x.counts y.counts in
+    let enters = bool_set around.whole whole x.enters y.enters in
+    λ i. record { counts = counts i; enters = enters i }
 
-IsProp-IsWellAt : (time : ℕ) (mark : MarkTree) (tree : PatternTree)
-    → IsProp (IsWellAt time mark tree)
-IsProp-IsWellAt time mark tree x y =
-    ap (λ (well : IsWell time mark tree). record { well = well })
-    (IsProp-form time mark tree x.well y.well)
+IsProp-NumbersBelow : (state : StateTree) → IsProp (NumbersBelow NAMES_MAX state)
+IsProp-NumbersBelow always = Unit-prop
+IsProp-NumbersBelow (proposition number) = le_prop
+IsProp-NumbersBelow (negation state) = IsProp-NumbersBelow state
+IsProp-NumbersBelow (conjunction left right) =
+    ×_prop (IsProp-NumbersBelow left) (IsProp-NumbersBelow right)
+IsProp-NumbersBelow (disjunction left right) =
+    ×_prop (IsProp-NumbersBelow left) (IsProp-NumbersBelow right)
 
--- The mark is one of the pattern at the time where the trace ends so far.
+IsProp-IsStretch : (time : ℕ) (stretch : Stretch) → IsProp (IsStretch time stretch)
+IsProp-IsStretch time stretch x y =
+    let low = IsProp-less stretch.low (pos 1) x.low y.low in
+    let some = IsProp-less (pos 1) (sum_of stretch.low stretch.high) x.some y.some in
+    let high = IsProp-less stretch.high (pos (2 * time)) x.high y.high in
+    λ i. record { low = low i; some = some i; high = high i }
+
+IsProp-stretches : (time : ℕ) (begun : List Stretch) → IsProp (All (IsStretch time) begun)
+IsProp-stretches time begun = Π_prop (λ k. Π_prop (λ d. →_prop (IsProp-IsStretch time _)))
+
+IsProp-reach : (time bound : ℕ) (reach : Option ℕ)
+    → IsProp (MatchOption reach (Unit {0}) (λ high. time ≤ bound + high))
+IsProp-reach time bound None = Unit-prop
+IsProp-reach time bound (Some high) = le_prop
+
+IsProp-AreOuter : (time : ℕ) (reach : Option ℕ) (outer : List ZoneBounds)
+    → IsProp (AreOuter time reach outer)
+IsProp-AreOuter time reach outer x y =
+    let before : x.before ≡ y.before =
+    Π_prop (λ a. Π_prop (λ b. Π_prop (λ n. →_prop (→_prop le_prop)))) x.before y.before in
+    let recent : x.recent ≡ y.recent =
+    Π_prop (λ k. Π_prop (λ d. →_prop (Π_prop (λ bound. →_prop (IsProp-reach time bound reach)))))
+    x.recent y.recent in
+    λ i. record { before = before i; recent = recent i }
+
+IsProp-IsIdle : (node : Node) → IsProp (IsIdle node)
+IsProp-IsIdle (Eps around) = Unit-prop
+IsProp-IsIdle (Lit around state begun) = stretches_set begun.items []
+IsProp-IsIdle (Rise around state) = Unit-prop
+IsProp-IsIdle (Fall around state) = Unit-prop
+IsProp-IsIdle (Event around number) = Unit-prop
+IsProp-IsIdle (Seq' around x left x' right) = ×_prop (IsProp-IsIdle left) (IsProp-IsIdle right)
+IsProp-IsIdle (Alt' around x left x' right) = ×_prop (IsProp-IsIdle left) (IsProp-IsIdle right)
+IsProp-IsIdle (Meet' around reach outer most x left x' right) =
+    ×_prop (IsProp-IsIdle left) (IsProp-IsIdle right)
+IsProp-IsIdle (Star' around x body) = IsProp-IsIdle body
+IsProp-IsIdle (Within' around reach interval outer most x body) = IsProp-IsIdle body
+
+IsProp-IsSound : (node : Node) → IsProp (IsSound node)
+IsProp-IsSound node x y =
+    let limit = IsProp-IsLongest (around_of node).longest x.limit y.limit in
+    let idle = →_prop (IsProp-IsIdle node) x.idle y.idle in
+    λ i. record { limit = limit i; idle = idle i }
+
+IsProp-IsNode : (time : ℕ) (node : Node) → IsProp (IsNode time node)
+IsProp-IsNode time (Eps around) = IsProp-IsSound (Eps around)
+IsProp-IsNode time (Lit around state begun) = λ u v.
+    let sound = IsProp-IsSound (Lit around state begun) u.0 v.0 in
+    let numbers = IsProp-NumbersBelow (tree_of state) u.1 v.1 in
+    let stretches = IsProp-stretches time begun.items u.2 v.2 in
+    λ i. (sound i, numbers i, stretches i)
+IsProp-IsNode time (Rise around state) =
+    ×_prop (IsProp-IsSound (Rise around state)) (IsProp-NumbersBelow (tree_of state))
+IsProp-IsNode time (Fall around state) =
+    ×_prop (IsProp-IsSound (Fall around state)) (IsProp-NumbersBelow (tree_of state))
+IsProp-IsNode time (Event around number) =
+    ×_prop (IsProp-IsSound (Event around number)) le_prop
+IsProp-IsNode time (Seq' around x left x' right) = λ u v.
+    let sound = IsProp-IsSound (Seq' around x left x' right) u.0 v.0 in
+    let made = ×_prop (IsProp-IsMade around.longest around.whole (around_of left))
+    (IsProp-IsMade around.longest false (around_of right)) u.1 v.1 in
+    let first = IsProp-IsNode time left u.2 v.2 in
+    let second = IsProp-IsNode time right u.3 v.3 in
+    λ i. (sound i, made i, first i, second i)
+IsProp-IsNode time (Alt' around x left x' right) = λ u v.
+    let sound = IsProp-IsSound (Alt' around x left x' right) u.0 v.0 in
+    let made = ×_prop (IsProp-IsMade around.longest around.whole (around_of left))
+    (IsProp-IsMade around.longest around.whole (around_of right)) u.1 v.1 in
+    let first = IsProp-IsNode time left u.2 v.2 in
+    let second = IsProp-IsNode time right u.3 v.3 in
+    λ i. (sound i, made i, first i, second i)
+IsProp-IsNode time (Meet' around reach outer most x left x' right) = λ u v.
+    let sound = IsProp-IsSound (Meet' around reach outer most x left x' right) u.0 v.0 in
+    let counts = option_set reach around.longest u.1 v.1 in
+    let made = ×_prop (IsProp-IsMade reach true (around_of left))
+    (IsProp-IsMade reach true (around_of right)) u.2 v.2 in
+    let led = IsProp-AreOuter time reach outer.items u.3 v.3 in
+    let first = IsProp-IsNode time left u.4 v.4 in
+    let second = IsProp-IsNode time right u.5 v.5 in
+    λ i. (sound i, counts i, made i, led i, first i, second i)
+IsProp-IsNode time (Star' around x body) = λ u v.
+    let sound = IsProp-IsSound (Star' around x body) u.0 v.0 in
+    let made = IsProp-IsMade around.longest false (around_of body) u.1 v.1 in
+    let inner = IsProp-IsNode time body u.2 v.2 in
+    λ i. (sound i, made i, inner i)
+IsProp-IsNode time (Within' around reach interval outer most x body) = λ u v.
+    let sound = IsProp-IsSound (Within' around reach interval outer most x body) u.0 v.0 in
+    let counts = option_set reach (least_of around.longest interval.high) u.1 v.1 in
+    let made = IsProp-IsMade reach true (around_of body) u.2 v.2 in
+    let led = IsProp-AreOuter time reach outer.items u.3 v.3 in
+    let inner = IsProp-IsNode time body u.4 v.4 in
+    λ i. (sound i, counts i, made i, led i, inner i)
+
+-- The node was made for so many forms, and not for a part of a pattern.
+pub record IsRoot (time forms : ℕ) (node : Node) : Type 0 where
+  pub node_is : IsNode time node
+  pub made : IsMade None true (around_of node)
+  pub count : form_count (tree_of_node node) ≡ forms
+
+-- The node is one of the pattern at the time where the trace ends so far.
 abbrev pub IsWellNow : Progress → Pattern → Type 0
-IsWellNow progress pattern = IsWellAt progress.at (mark_of progress.mark) (pattern_tree pattern)
+IsWellNow progress pattern =
+    IsRoot progress.at (form_count (pattern_tree pattern)) progress.node
 
 pub IsProp-IsWellNow : (progress : Progress) (pattern : Pattern)
     → IsProp (IsWellNow progress pattern)
-IsProp-IsWellNow progress pattern =
-    IsProp-IsWellAt progress.at (mark_of progress.mark) (pattern_tree pattern)
+IsProp-IsWellNow progress pattern x y =
+    let node_is = IsProp-IsNode progress.at progress.node x.node_is y.node_is in
+    let made = IsProp-IsMade None true (around_of progress.node) x.made y.made in
+    let count = ℕ_set (form_count (tree_of_node progress.node))
+    (form_count (pattern_tree pattern)) x.count y.count in
+    λ i. record { node_is = node_is i; made = made i; count = count i }

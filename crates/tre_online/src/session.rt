@@ -2,21 +2,19 @@ ghost use Rattle.std.specs.Prelude.{◌≡◌, ◌≤◌, []};
 ghost use Rattle.tre_syntax.specs.Pattern.{pattern_tree};
 ghost use Rattle.tre_syntax.specs.PatternTree.{atom, empty};
 ghost use Rattle.tre_pairs.specs.declared.TheConstants.{TIME_MAX};
-ghost use Rattle.tre_zone.specs.ZoneList.{IsApart};
+ghost use Rattle.tre_zone.specs.ZoneList.{IsApart, SetHolds, HoldExactly};
 ghost use Rattle.tre_online.specs.Well.{IsWellNow, IsProp-IsWellNow, IsProp-IsApart};
 
-use crate::told::{drop_told, keep_apart, known};
+use crate::told::{drop_told, keep_apart, known, put_told};
 use std::alloc::{AllocError, Global};
 use std::mem;
-use tre_advance::{advance, close};
 use tre_edges::Piece;
-use tre_mark::{Mark, Room, moments};
+use tre_node::{Node, close, enter, idle, look, make};
 use tre_pairs::TIME_MAX;
 use tre_state::Names;
 use tre_syntax::{Expr, Pattern};
 use tre_trace::{PushFault, Segment};
 use tre_zone::Zone;
-use tre_zoneset::ZoneSet;
 
 /// The matches of a pattern over a trace that is still coming.
 ///
@@ -40,28 +38,26 @@ pub struct Progress {
     // What was told last, and what was told before that. Both keep their room.
     told: Vec<Zone>,
     earlier: Vec<Zone>,
-    mark: Mark,
+    node: Node,
 }
 
 impl Progress {
-    ghost use Rattle.tre_mark.specs.MarkTree.{mark_of, atom_mark};
+    ghost use Rattle.std.specs.Prelude.{None, true};
+    ghost use Rattle.tre_syntax.specs.PatternTree.{atom, empty};
+    ghost use Rattle.tre_node.specs.IsNode.{IsNew};
 
-    // That of an atom which has not begun.
+    // That of `eps`, of which nothing was read.
     fn none(alloc: Global) -> Progress
         ensures at { result.at ≡ 0 }
         ensures told { result.told.items ≡ [] }
-        ensures mark { mark_of result.mark ≡ atom_mark [] [] }
+        ensures node { IsNew (atom empty) None true result.node }
     {
         Progress {
             at: 0,
             last: None,
             told: Vec::new(alloc),
             earlier: Vec::new(alloc),
-            mark: Mark::Atom {
-                here: Vec::new(alloc),
-                begun: Vec::new(alloc),
-                room: Room::new(alloc),
-            },
+            node: idle(alloc),
         }
     }
 }
@@ -77,18 +73,19 @@ fn empty_pattern(alloc: Global) -> Pattern
 }
 
 impl Session {
-    ghost use Rattle.std.specs.Prelude.{[], ◌∷◌, ◌++◌, List, IfOk, OnOk, OnErr, IfErr};
+    ghost use Rattle.std.specs.Prelude.{[], ◌∷◌, ◌++◌, List, None, true, IfOk, OnOk, OnErr, IfErr};
     ghost use Rattle.tre_edges.specs.declared.piece.Piece.{Piece};
     ghost use Rattle.tre_trace.specs.Trace.{end_of, Fits, IsRefusedFor};
     ghost use Rattle.tre_trace.specs.declared.segment.Segment.{Segment};
-    ghost use Rattle.tre_mark.specs.MarkTree.{mark_of};
-    ghost use Rattle.tre_mark.specs.Marked.{IsWellAt};
+    ghost use Rattle.tre_node.specs.Copying.{IsCopy};
+    ghost use Rattle.tre_node.specs.IsNode.{IsMade, IsNode};
+    ghost use Rattle.tre_node.specs.NodeTree.{around_of, mark_of_node, tree_of_node};
     ghost use Rattle.tre_mark.specs.Nodes.{mark_node_count, form_count, HasNoInstances};
     ghost use Rattle.tre_syntax.specs.PatternTree.{node_count};
     ghost use Rattle.tre_syntax.specs.Pattern.{pattern_tree, names_of};
     ghost use Rattle.tre_zoneset.specs.ZoneSet.{IsZoneSet};
-    ghost use Rattle.tre_online.specs.Session.{pattern_of, at_of, ended_of, kept_of, StandsFor, TellsNew, TellsLast};
-    ghost use Rattle.tre_online.specs.Reading.{AreMoments, IsPieceFor, IsPastPiece, FindsInPiece, ReadsPiece};
+    ghost use Rattle.tre_online.specs.Session.{pattern_of, at_of, ended_of, node_of, kept_of, StandsFor, TellsNew, TellsLast};
+    ghost use Rattle.tre_online.specs.Reading.{IsPieceFor, IsPastPiece, FindsInPiece, ReadsPiece, TellsAtEnd};
 
     /// A session that has read no segment.
     pub fn new(alloc: Global, pattern: Pattern) -> Result<Session, AllocError>
@@ -98,14 +95,13 @@ impl Session {
         ensures names { IfOk result (λ session.
             names_of (pattern_of session) ≡ names_of pattern) }
     {
-        let start = Session::moments(alloc, 0, 0)?;
-        let mark = Mark::start(alloc, pattern.expr(), &start, 0)?;
+        let node = make(alloc, pattern.expr(), None, true)?;
         let progress = Progress {
             at: 0,
             last: None,
             told: Vec::new(alloc),
             earlier: Vec::new(alloc),
-            mark,
+            node,
         };
         Ok(Session {
             alloc,
@@ -137,7 +133,7 @@ impl Session {
             result ≡ form_count (pattern_tree (pattern_of self.now)) }
         ensures bound { result ≤ node_count (pattern_tree (pattern_of self.now)) }
     {
-        self.progress.mark.nodes()
+        self.progress.node.nodes()
     }
 
     /// Reads a segment. What has become a match with it is then [`told`](Session::told): the
@@ -198,7 +194,7 @@ impl Session {
             IfErr result (IsRefusedFor segments segment) }
     {
         let piece = self.piece(segment)?;
-        match Session::read(self.alloc, &self.pattern, &mut self.progress, &piece) {
+        match Session::read(self.alloc, &mut self.progress, &piece) {
             Ok(()) => Ok(()),
             Err(_) => {
                 self.pattern = empty_pattern(self.alloc);
@@ -222,15 +218,6 @@ impl Session {
         let told = self.last_told(events)?;
         self.progress.told = told;
         Ok(())
-    }
-
-    // The moments from one time to another, each as a pair.
-    fn moments(alloc: Global, from: u64, to: u64) -> Result<ZoneSet, AllocError>
-        requires order { from ≤ to }
-        requires limit { to ≤ TIME_MAX }
-        ensures { IfOk result (λ zones. AreMoments from to zones) }
-    {
-        moments(alloc, from, to)
     }
 
     // The segment where the trace ends so far.
@@ -257,82 +244,104 @@ impl Session {
     // A copy of the progress that has gone over the piece.
     fn read_over_copy(&self, piece: &Piece) -> Result<Progress, AllocError>
         requires { IsPieceFor self.now piece.now.segment piece.now }
-        ensures reads { IfOk result (λ next. ReadsPiece (kept_of self.now)
-            (pattern_tree (pattern_of self.now)) (ended_of self.now) piece.now
-            next.told.items (mark_of next.mark)) }
+        ensures reads { IfOk result (λ next. ReadsPiece
+            (mark_of_node piece.now.begin (node_of self.now)) (tree_of_node (node_of self.now))
+            (ended_of self.now) piece.now next.told.items next.node) }
         ensures behind { IfOk result (λ next.
             IsPastPiece piece.now next.told.items next) }
     {
         let mut copy = self.copied()?;
-        Session::read(self.alloc, &self.pattern, &mut copy, piece)?;
+        Session::read(self.alloc, &mut copy, piece)?;
         Ok(copy)
     }
 
-    // The mark and what was told last, once more.
+    // The pattern under way and what was told last, once more.
     fn copied(&self) -> Result<Progress, AllocError>
-        ensures mark { IfOk result (λ copy. mark_of copy.mark ≡ kept_of self.now) }
+        ensures node { IfOk result (λ copy. IsCopy (node_of self.now) copy.node) }
         ensures ended { IfOk result (λ copy. copy.told.items ≡ ended_of self.now) }
     {
         let progress = &self.progress;
-        let mark = progress.mark.try_clone(self.alloc)?;
         let told = progress.told.clone()?;
+        let node = progress.node.try_clone(self.alloc)?;
         Ok(Progress {
             at: progress.at,
             last: progress.last,
             told,
             earlier: Vec::new(self.alloc),
-            mark,
+            node,
         })
     }
 
     // The progress goes over the piece, and keeps what is told of it. Where memory runs out, it
     // isn't known what it is.
     #[inline(always)]
-    fn read(
-        alloc: Global,
-        pattern: &Pattern,
-        progress: &mut Progress,
-        piece: &Piece,
-    ) -> Result<(), AllocError>
-        requires { IsWellAt piece.now.begin (mark_of progress.old.mark) (pattern_tree pattern.now) }
-        ensures reads { OnOk result (ReadsPiece (mark_of progress.old.mark)
-            (pattern_tree pattern.now) progress.old.told.items piece.now progress.new.told.items
-            (mark_of progress.new.mark)) }
+    fn read(alloc: Global, progress: &mut Progress, piece: &Piece) -> Result<(), AllocError>
+        requires node { IsNode piece.now.begin progress.old.node }
+        requires made { IsMade None true (around_of progress.old.node) }
+        ensures reads { OnOk result (ReadsPiece
+            (mark_of_node piece.now.begin progress.old.node) (tree_of_node progress.old.node)
+            progress.old.told.items piece.now progress.new.told.items progress.new.node) }
         ensures behind { OnOk result (IsPastPiece piece.now progress.new.told.items progress.new) }
     {
         mem::swap(&mut progress.told, &mut progress.earlier);
-        Session::find(
-            alloc,
-            pattern,
-            &mut progress.mark,
-            piece,
-            &mut progress.told,
-        )?;
+        Session::find(alloc, &mut progress.node, piece, &mut progress.told)?;
         drop_told(alloc, &mut progress.told, &progress.earlier)?;
         progress.at = piece.begin + piece.segment.len;
         progress.last = Some(piece.segment.val);
         Ok(())
     }
 
-    // Puts what the mark tells of the piece, over which it goes, in place of the zones.
+    // Puts what the node tells of the piece, over which it goes, in place of the zones.
     #[inline(always)]
     fn find(
         alloc: Global,
-        pattern: &Pattern,
-        mark: &mut Mark,
+        node: &mut Node,
         piece: &Piece,
         found: &mut Vec<Zone>,
     ) -> Result<(), AllocError>
-        requires { IsWellAt piece.now.begin (mark_of mark.old) (pattern_tree pattern.now) }
-        ensures { OnOk result (FindsInPiece (mark_of mark.old) (pattern_tree pattern.now)
-            piece.now found.new.items (mark_of mark.new)) }
+        requires node { IsNode piece.now.begin node.old }
+        requires made { IsMade None true (around_of node.old) }
+        ensures { OnOk result (FindsInPiece (mark_of_node piece.now.begin node.old)
+            (tree_of_node node.old) piece.now found.new.items node.new) }
     {
+        look(alloc, node, piece)?;
+        Session::tell(alloc, node, found)?;
         let end = piece.begin + piece.segment.len;
         let entering = [Zone::instants(piece.begin, end)];
-        found.clear();
-        advance(alloc, mark, pattern.expr(), &entering, piece, found)?;
-        keep_apart(alloc, found)?;
-        Ok(())
+        enter(alloc, node, &entering, piece)
+    }
+
+    // Puts what the node tells in place of the zones.
+    #[inline(always)]
+    fn tell(alloc: Global, node: &Node, told: &mut Vec<Zone>) -> Result<(), AllocError>
+        ensures same { OnOk result (HoldExactly told.new.items (SetHolds
+            ((around_of node.now).ended.items ++ (around_of node.now).inside.items))) }
+        ensures set { OnOk result (IsZoneSet told.new.items) }
+    {
+        let around = node.around();
+        put_told(told, &around.ended, &around.inside)?;
+        keep_apart(alloc, told)
+    }
+
+    // What the node tells where the trace ends at the time with these events.
+    fn found_at_end(
+        alloc: Global,
+        node: &Node,
+        time: u64,
+        events: u64,
+    ) -> Result<Vec<Zone>, AllocError>
+        requires node { IsNode time node.now }
+        requires made { IsMade None true (around_of node.now) }
+        requires limit { time ≤ TIME_MAX }
+        ensures tells { IfOk result (λ told. TellsAtEnd time events (mark_of_node time node.now)
+            (tree_of_node node.now) told.items) }
+        ensures set { IfOk result (λ told. IsZoneSet told.items) }
+    {
+        let mut copy = node.try_clone(alloc)?;
+        close(alloc, &mut copy, time, events)?;
+        let mut told = Vec::new(alloc);
+        Session::tell(alloc, &copy, &mut told)?;
+        Ok(told)
     }
 
     // What is told where the trace ends with these events.
@@ -346,16 +355,7 @@ impl Session {
             return Ok(Vec::new(self.alloc));
         }
         let progress = &self.progress;
-        let found = close(
-            self.alloc,
-            &progress.mark,
-            self.pattern.expr(),
-            progress.at,
-            events,
-        )?;
-        // For the proof: the call says that it is a set of zones.
-        let _found = found.zones();
-        let mut told = found.into_zones();
+        let mut told = Session::found_at_end(self.alloc, &progress.node, progress.at, events)?;
         drop_told(self.alloc, &mut told, &progress.told)?;
         Ok(told)
     }

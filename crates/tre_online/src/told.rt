@@ -1,4 +1,4 @@
-ghost use Rattle.std.specs.Prelude.{OnOk};
+ghost use Rattle.std.specs.Prelude.{◌≡◌, ◌++◌, OnOk};
 ghost use Rattle.tre_zone.specs.ZoneList.{SetHolds, AreCanonical, HoldExactly};
 ghost use Rattle.tre_zoneset.specs.ZoneSet.{IsZoneSet, Without};
 ghost use Rattle.tre_online.specs.Told.{WasTold, IsNew};
@@ -17,6 +17,17 @@ pub fn known(zones: &[Zone])
     for zone in zones {
         let _bounds = zone.bounds();
     }
+}
+
+/// Puts these in place of what was told.
+#[inline(always)]
+pub fn put_told(told: &mut Vec<Zone>, ended: &[Zone], inside: &[Zone]) -> Result<(), AllocError>
+    ensures { OnOk result (told.new.items ≡ ended.now ++ inside.now) }
+{
+    told.clear();
+    told.extend_from_slice(ended)?;
+    told.extend_from_slice(inside)?;
+    Ok(())
 }
 
 /// Leaves those of the zones that no other includes.

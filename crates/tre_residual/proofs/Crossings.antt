@@ -9,6 +9,7 @@ use Rattle.tre_syntax.proofs.Atoms.{end_of-le}
 use Rattle.tre_syntax.proofs.CutMeaning.{IsOrdered-rest, IsBounded-rest}
 use Rattle.tre_mark.proofs.Growth.{mark_ends}
 use Rattle.tre_mark.proofs.Meanings.{around_present}
+use Rattle.tre_node.specs.NodeTree.{mark_of_node, tree_of_node}
 use Rattle.tre_residual.specs.Residual.{ResidualTree, nothing, here, joined, preceded, followed, either, both, lasting, marked, Means, IsWell}
 
 pub ends_around : (rest : Rest) (residual : ResidualTree) → IsWell rest.start residual
@@ -46,7 +47,8 @@ ends_around rest (both one other) well a b n some h =
     ends_around rest one well.0 a b n some h.left
 ends_around rest (lasting residual ends) well a b n some h =
     ends_around rest residual well a b n some h.related
-ends_around rest (marked mark tree) well a b n some h = around_present rest mark tree a b n h
+ends_around rest (marked node) well a b n some h =
+    around_present rest (mark_of_node rest.start node) (tree_of_node node) a b n h
 
 pub ends_within : (rest : Rest) (residual : ResidualTree) → IsWell rest.start residual
     → (a b n : ℕ) → 0 < n → Means residual rest a b n → b ≤ end_of rest.start rest.segments * n
@@ -71,5 +73,6 @@ ends_within rest (both one other) well a b n some h =
     ends_within rest one well.0 a b n some h.left
 ends_within rest (lasting residual ends) well a b n some h =
     ends_within rest residual well a b n some h.related
-ends_within rest (marked mark tree) well a b n some h =
-    mark_ends rest (end_of-le rest.start rest.segments) mark tree a b n h
+ends_within rest (marked node) well a b n some h =
+    mark_ends rest (end_of-le rest.start rest.segments) (mark_of_node rest.start node)
+    (tree_of_node node) a b n h

@@ -14,9 +14,10 @@ use Rattle.tre_syntax.proofs.CutMeaning.{Scales-rest}
 use Rattle.tre_zone.specs.Interval.{IntervalEnds}
 use Rattle.tre_zone.specs.declared.zone_bounds.ZoneBounds.{ZoneBounds}
 use Rattle.tre_zone.specs.Held.{Held, EndAt}
-use Rattle.tre_mark.specs.MarkTree.{MarkTree}
-use Rattle.tre_mark.specs.Marked.{IsBare}
-use Rattle.tre_mark.proofs.Starts.{bare_nothing}
+use Rattle.tre_node.specs.IsNode.{IsIdle}
+use Rattle.tre_node.specs.NodeTree.{tree_of_node}
+use Rattle.tre_node.specs.declared.node.Node.{Node}
+use Rattle.tre_node.proofs.NewNodes.{idle_nothing}
 use Rattle.tre_residual.specs.Residual.{ResidualTree, nothing, here, joined, preceded, followed, either, lasting, marked, Means, Builds, IsComposition}
 use Rattle.tre_zone.proofs.HeldSets.{Scales-Held, Held-empty}
 use Rattle.tre_residual.proofs.Meanings.{Scales-Means}
@@ -26,7 +27,6 @@ pub Builds-refl : (form : ResidualTree) → Builds form form
 Builds-refl form = record {
   pairs = λ rest a b n some. ((λ h. h), (λ h. h));
   well = λ time h. h;
-  takes = λ read h. h;
 }
 
 pub Builds-trans : (one two three : ResidualTree) → Builds one two → Builds two three
@@ -37,7 +37,6 @@ Builds-trans one two three f g = record {
       let y = g.pairs rest a b n some in
       ((λ h. y.0 (x.0 h)), (λ h. x.1 (y.1 h)));
   well = λ time h. f.well time (g.well time h);
-  takes = λ read h. f.takes read (g.takes read h);
 }
 
 -- The same tree stands for the same pairs.
@@ -50,7 +49,6 @@ pub Builds-nothing : (form : ResidualTree)
 Builds-nothing form never = record {
   pairs = λ rest a b n some. ((λ h. absurd h), (λ h. absurd (never rest a b n some h)));
   well = λ time h. record { well = tt };
-  takes = λ read h. record { takes = tt };
 }
 
 pub nothing_after_none : (residual : ResidualTree) → Builds nothing (preceded [] residual)
@@ -99,23 +97,21 @@ nothing_joined tree = Builds-nothing (joined [] tree)
 pub nothing_lasting : (ends : IntervalEnds) → Builds nothing (lasting nothing ends)
 nothing_lasting ends = Builds-nothing (lasting nothing ends) (λ rest a b n some h. h.related)
 
-pub nothing_marked : (mark : MarkTree) (tree : PatternTree) → IsBare mark
-    → Builds nothing (marked mark tree)
-nothing_marked mark tree bare = Builds-nothing (marked mark tree)
-    (λ rest a b n some h. (bare_nothing mark bare).never tree rest a b n h)
+pub nothing_marked : (node : Node) → IsIdle node → Builds nothing (marked node)
+nothing_marked node idle = Builds-nothing (marked node)
+    (λ rest a b n some h.
+    (idle_nothing rest.start node idle).never (tree_of_node node) rest a b n h)
 
 pub either_right : (other : ResidualTree) → Builds other (either nothing other)
 either_right other = record {
   pairs = λ rest a b n some. ((λ h. inr h), (λ h. ⊎_elim (λ x. absurd x) (λ x. x) h));
   well = λ time h. record { well = h.well.1 };
-  takes = λ read h. record { takes = h.takes.1 };
 }
 
 pub either_left : (one : ResidualTree) → Builds one (either one nothing)
 either_left one = record {
   pairs = λ rest a b n some. ((λ h. inl h), (λ h. ⊎_elim (λ x. x) (λ x. absurd x) h));
   well = λ time h. record { well = h.well.0 };
-  takes = λ read h. record { takes = h.takes.0 };
 }
 
 pub either_right_of : (one other : ResidualTree) → one ≡ nothing → Builds other (either one other)
@@ -148,7 +144,6 @@ module _ (zones first second : List ZoneBounds) (composed : IsComposition zones 
   here_composed = record {
     pairs = λ rest a b n some. composed.pairs a b n some;
     well = λ time h. record { well = ends_after time h.well };
-    takes = λ read h. record { takes = tt };
   }
 
   -- A set goes before what a match goes on.
@@ -187,7 +182,6 @@ module _ (zones first second : List ZoneBounds) (composed : IsComposition zones 
               }),
         );
     well = λ time h. record { well = h.well };
-    takes = λ read h. record { takes = tt };
   }
 
   -- Two sets become one.
@@ -203,7 +197,6 @@ module _ (zones first second : List ZoneBounds) (composed : IsComposition zones 
         (Scales-Means rest residual) a b n in
         ((λ h. two.0 (one.0 h)), (λ h. one.1 (two.1 h)));
     well = λ time h. record { well = h.well };
-    takes = λ read h. record { takes = h.takes };
   }
 
 -- A set goes into what a match follows.
@@ -225,9 +218,6 @@ preceded_followed zones first residual whole tree inner outer = record {
   well = λ time h.
       let f = inner.well time (record { well = h.well.0 }) in
       outer.well time (record { well = (f.well, h.well.1) });
-  takes = λ read h.
-      let f = inner.takes read (record { takes = h.takes }) in
-      outer.takes read (record { takes = f.takes });
 }
 
 -- A set goes into both sides of a choice.
@@ -280,8 +270,4 @@ preceded_either zones one one' other other' whole first second outer = record {
       let f = first.well time (record { well = h.well.0 }) in
       let g = second.well time (record { well = h.well.1 }) in
       outer.well time (record { well = (f.well, g.well) });
-  takes = λ read h.
-      let f = first.takes read (record { takes = h.takes.0 }) in
-      let g = second.takes read (record { takes = h.takes.1 }) in
-      outer.takes read (record { takes = (f.takes, g.takes) });
 }

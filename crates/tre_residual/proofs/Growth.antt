@@ -9,6 +9,7 @@ use Rattle.tre_syntax.proofs.CutMeaning.{IsOrdered-rest}
 use Rattle.tre_zone.specs.Interval.{LastsWithin}
 use Rattle.tre_zone.specs.Held.{Held}
 use Rattle.tre_mark.proofs.Growth.{Implies-same, Before-same, tree_grows, tree_early, mark_grows, mark_early}
+use Rattle.tre_node.specs.NodeTree.{mark_of_node, tree_of_node}
 use Rattle.tre_residual.specs.Residual.{ResidualTree, nothing, here, joined, preceded, followed, either, both, lasting, marked, Means}
 use Rattle.tre_residual.proofs.Meanings.{IsOrdered-Means}
 
@@ -39,7 +40,7 @@ module _ (cut : CutRest) where
   Means-grow (lasting residual ends) =
       Implies-Lasting (LastsWithin ends) (Means residual (front_of cut))
       (Means residual (uncut cut)) (Means-grow residual)
-  Means-grow (marked mark tree) = mark_grows cut mark tree
+  Means-grow (marked node) = mark_grows cut (mark_of_node cut.start node) (tree_of_node node)
 
   pub Means-early : (residual : ResidualTree)
       → ImpliesBefore (time_of cut) (Means residual (uncut cut)) (Means residual (front_of cut))
@@ -70,4 +71,4 @@ module _ (cut : CutRest) where
   Means-early (lasting residual ends) =
       ImpliesBefore-Lasting (time_of cut) (LastsWithin ends) (Means residual (uncut cut))
       (Means residual (front_of cut)) (Means-early residual)
-  Means-early (marked mark tree) = mark_early cut mark tree
+  Means-early (marked node) = mark_early cut (mark_of_node cut.start node) (tree_of_node node)

@@ -11,6 +11,7 @@ use Rattle.tre_zone.specs.Interval.{LastsWithin}
 use Rattle.tre_zone.proofs.HeldSets.{Scales-Held, IsOrdered-Held}
 use Rattle.tre_zone.proofs.JoinedPairs.{Scales-JoinedAt, IsOrdered-JoinedAt}
 use Rattle.tre_mark.proofs.Meanings.{Scales-Marked, IsOrdered-Marked}
+use Rattle.tre_node.specs.NodeTree.{mark_of_node, tree_of_node}
 use Rattle.tre_residual.specs.Residual.{ResidualTree, nothing, here, joined, preceded, followed, either, both, lasting, marked, Means}
 
 module _ (rest : Rest) where
@@ -32,7 +33,8 @@ module _ (rest : Rest) where
   Scales-Means (lasting residual ends) =
       Scales-Lasting (LastsWithin ends) (Means residual rest) (DurationScales-LastsWithin ends)
       (Scales-Means residual)
-  Scales-Means (marked mark tree) = Scales-Marked rest mark tree
+  Scales-Means (marked node) =
+      Scales-Marked rest (mark_of_node rest.start node) (tree_of_node node)
 
   pub IsOrdered-Means : (residual : ResidualTree) → IsOrdered (Means residual rest)
   IsOrdered-Means nothing = record { le = λ a b n h. absurd h }
@@ -53,4 +55,5 @@ module _ (rest : Rest) where
       IsOrdered-Both (Means one rest) (Means other rest) (IsOrdered-Means one)
   IsOrdered-Means (lasting residual ends) =
       IsOrdered-Lasting (LastsWithin ends) (Means residual rest) (IsOrdered-Means residual)
-  IsOrdered-Means (marked mark tree) = IsOrdered-Marked rest mark tree
+  IsOrdered-Means (marked node) =
+      IsOrdered-Marked rest (mark_of_node rest.start node) (tree_of_node node)

@@ -1,5 +1,5 @@
 -- Residuals: the matches that began before a time and may go on behind it, seen as trees.
-use Rattle.std.specs.Prelude.{ℕ, ◌<◌, ◌↔◌, List}
+use Rattle.std.specs.Prelude.{◌≡◌, ℕ, ◌<◌, ◌↔◌, List, None}
 use Rattle.tre_pairs.specs.Cuts.{JoinedAt}
 use Rattle.tre_pairs.specs.Pairs.{Pairs, Composed, Either, Both, Lasting}
 use Rattle.tre_state.specs.declared.names.TheConstants.{NAMES_MAX}
@@ -10,14 +10,15 @@ use Rattle.tre_syntax.specs.Rest.{Rest}
 use Rattle.tre_zone.specs.Held.{Held, EndAt}
 use Rattle.tre_zone.specs.Interval.{IntervalEnds, LastsWithin}
 use Rattle.tre_zone.specs.declared.zone_bounds.ZoneBounds.{ZoneBounds}
-use Rattle.tre_mark.specs.MarkTree.{MarkTree, mark_of}
-use Rattle.tre_mark.specs.Marked.{Since, CanTakeIn, Marked}
-use Rattle.tre_mark.specs.Marked as marks
+use Rattle.tre_mark.specs.Marked.{Marked}
+use Rattle.tre_node.specs.IsNode.{IsNode}
+use Rattle.tre_node.specs.NodeTree.{around_of, mark_of_node, tree_of_node}
+use Rattle.tre_node.specs.declared.node.Node.{Node}
 use Rattle.tre_residual.specs.declared.residual.Residual.{Residual}
 use Rattle.tre_residual.specs.declared.residual.Residual.TheVariants.{Nil, Here, At, Pre', Post', Or', Both', Dur', Mark}
 
 -- What a residual is made of: sets of zones, each seen as the list of its zones, expressions, and
--- marks of these.
+-- patterns under way.
 pub data ResidualTree : Type 0 where
   nothing : ResidualTree
   here : List ZoneBounds → ResidualTree
@@ -27,7 +28,7 @@ pub data ResidualTree : Type 0 where
   either : ResidualTree → ResidualTree → ResidualTree
   both : ResidualTree → ResidualTree → ResidualTree
   lasting : ResidualTree → IntervalEnds → ResidualTree
-  marked : MarkTree → PatternTree → ResidualTree
+  marked : Node → ResidualTree
 
 -- The residual of the program as a tree, without its boxes.
 abbrev pub residual_tree : Residual → ResidualTree
@@ -39,7 +40,7 @@ residual_tree (Post' box residual expr) = followed (residual_tree residual) (tre
 residual_tree (Or' box one box' other) = either (residual_tree one) (residual_tree other)
 residual_tree (Both' box one box' other) = both (residual_tree one) (residual_tree other)
 residual_tree (Dur' box residual interval) = lasting (residual_tree residual) interval
-residual_tree (Mark mark expr) = marked (mark_of mark.value) (tree_of expr)
+residual_tree (Mark node) = marked node.value
 
 -- The pairs that a residual stands for, where this rest of a trace comes.
 abbrev pub Means : ResidualTree → Rest → Pairs
@@ -54,10 +55,16 @@ Means (followed residual tree) rest a b n =
 Means (either one other) rest a b n = Either (Means one rest) (Means other rest) a b n
 Means (both one other) rest a b n = Both (Means one rest) (Means other rest) a b n
 Means (lasting residual ends) rest a b n = Lasting (LastsWithin ends) (Means residual rest) a b n
-Means (marked mark tree) rest a b n = Marked rest mark tree a b n
+Means (marked node) rest a b n =
+    Marked rest (mark_of_node rest.start node) (tree_of_node node) a b n
 
--- Each pair that is here ends at the time, each mark is well there, and each expression names
--- propositions that there are.
+-- A pattern under way at the time, of which everything counts, however long it lasts.
+pub record IsRoot (time : ℕ) (node : Node) : Type 0 where
+  pub node_is : IsNode time node
+  pub counts : (around_of node).longest ≡ None
+
+-- Each pair that is here ends at the time, each pattern under way is one then, and each expression
+-- names propositions that there are.
 abbrev pub IsWell : ℕ → ResidualTree → Type 0
 IsWell time nothing = Unit {0}
 IsWell time (here zones) = EndAt time zones
@@ -67,36 +74,17 @@ IsWell time (followed residual tree) = IsWell time residual × NumbersBelow NAME
 IsWell time (either one other) = IsWell time one × IsWell time other
 IsWell time (both one other) = IsWell time one × IsWell time other
 IsWell time (lasting residual ends) = IsWell time residual
-IsWell time (marked mark tree) = marks.IsWellAt time mark tree × NumbersBelow NAMES_MAX tree
+IsWell time (marked node) = IsRoot time node
 
 -- The residual is one at the time.
 pub record IsWellAt (time : ℕ) (residual : ResidualTree) : Type 0 where
   pub well : IsWell time residual
 
--- Each intersection and each restriction that has begun in a mark can take in what begins later,
--- where this was read.
-abbrev pub CanTake : Since → ResidualTree → Type 0
-CanTake read nothing = Unit {0}
-CanTake read (here zones) = Unit {0}
-CanTake read (joined zones tree) = Unit {0}
-CanTake read (preceded zones residual) = CanTake read residual
-CanTake read (followed residual tree) = CanTake read residual
-CanTake read (either one other) = CanTake read one × CanTake read other
-CanTake read (both one other) = CanTake read one × CanTake read other
-CanTake read (lasting residual ends) = CanTake read residual
-CanTake read (marked mark tree) = CanTakeIn read mark tree
-
--- Where this was read, the marks of the residual can go on.
-pub record CanGoOn (read : Since) (residual : ResidualTree) : Type 0 where
-  pub takes : CanTake read residual
-
--- The residual stands for the pairs of the form, whatever comes. It is well when the form is, and
--- can go on where the form can.
+-- The residual stands for the pairs of the form, whatever comes, and is well when the form is.
 pub record Builds (residual form : ResidualTree) : Type 0 where
   pub pairs : (rest : Rest) (a b n : ℕ) → 0 < n
       → Means residual rest a b n ↔ Means form rest a b n
   pub well : (time : ℕ) → IsWellAt time form → IsWellAt time residual
-  pub takes : (read : Since) → CanGoOn read form → CanGoOn read residual
 
 -- The zones hold what those of the first hold, followed by what those of the second hold.
 pub record IsComposition (zones first second : List ZoneBounds) : Type 0 where

@@ -2,11 +2,11 @@ ghost use Rattle.std.specs.Prelude.{ℕ, ◌↔◌, ◌<◌, ◌≡◌, IfOk, Is
 ghost use Rattle.tre_state.specs.declared.names.TheConstants.{NAMES_MAX};
 ghost use Rattle.tre_syntax.specs.Expr.{tree_of};
 ghost use Rattle.tre_syntax.specs.PatternTree.{NumbersBelow};
-ghost use Rattle.tre_mark.specs.MarkTree.{mark_of};
+ghost use Rattle.tre_node.specs.IsNode.{IsIdle};
 ghost use Rattle.tre_residual.specs.Residual.{nothing, here, joined, preceded, followed, either, both, lasting, marked, residual_tree, IsWellAt, Builds, IsComposition};
 
 use std::alloc::{AllocError, Global};
-use tre_mark::Mark;
+use tre_node::Node;
 use tre_star::compose_sets;
 use tre_syntax::{Expr, beside, boxed, boxes};
 use tre_zone::Interval;
@@ -32,8 +32,8 @@ pub enum Residual {
     Both(Box<Residual>, Box<Residual>),
     /// With its duration in the interval.
     Dur(Box<Residual>, Interval),
-    /// What a mark of the expression stands for: all of these forms in the shape of an expression.
-    Mark(Box<Mark>, Expr),
+    /// What a pattern under way stands for: all of these forms in the shape of an expression.
+    Mark(Box<Node>),
 }
 
 impl Residual {
@@ -131,18 +131,16 @@ impl Residual {
         Ok(Residual::Dur(residual, interval))
     }
 
-    /// What a mark of the expression stands for.
-    pub fn mark(alloc: Global, mark: Mark, expr: Expr) -> Result<Residual, AllocError>
-        ensures { IfOk result (λ whole.
-            Builds (residual_tree whole) (marked (mark_of mark) (tree_of expr))) }
+    /// What a pattern under way stands for.
+    pub fn mark(alloc: Global, node: Node) -> Result<Residual, AllocError>
+        ensures { IfOk result (λ whole. Builds (residual_tree whole) (marked node)) }
     {
-        if mark.is_nothing() {
-            drop(mark);
-            drop(expr);
+        if is_idle(&node) {
+            drop(node);
             return Ok(Residual::Nil);
         }
-        let (mark, expr) = beside(boxed(alloc, mark), expr)?;
-        Ok(Residual::Mark(mark, expr))
+        let node = boxed(alloc, node)?;
+        Ok(Residual::Mark(node))
     }
 
     /// Whether it is `Nil`.
@@ -153,6 +151,21 @@ impl Residual {
             Residual::Nil => true,
             _ => false,
         }
+    }
+}
+
+// Whether nothing has begun.
+fn is_idle(node: &Node) -> bool
+    ensures { IsTrue result → IsIdle node.now }
+{
+    match node {
+        Node::Eps(_) | Node::Rise(_, _) | Node::Fall(_, _) | Node::Event(_, _) => true,
+        Node::Lit { begun, .. } => begun.is_empty(),
+        Node::Seq { left, right, .. } => is_idle(left) && is_idle(right),
+        Node::Alt { left, right, .. } => is_idle(left) && is_idle(right),
+        Node::Meet { left, right, .. } => is_idle(left) && is_idle(right),
+        Node::Star { body, .. } => is_idle(body),
+        Node::Within { body, .. } => is_idle(body),
     }
 }
 

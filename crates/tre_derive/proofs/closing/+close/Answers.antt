@@ -2,10 +2,9 @@
 use Rattle.std.proofs.Common.{◌≡◌, ap, sym, subst}
 use Rattle.std.proofs.lemmas.Result.{IfOk-weaker}
 use Rattle.tre_syntax.specs.Expr.{tree_of}
-use Rattle.tre_mark.specs.MarkTree.{mark_of}
 use Rattle.tre_residual.specs.Residual.{ResidualTree, nothing, here, joined, preceded, followed, either, both, lasting, marked, residual_tree, IsWell}
 use Rattle.tre_derive.specs.Closing.{ClosesTo}
-use Rattle.tre_derive.proofs.ClosingForms.{close_nothing, close_here, close_marked, close_joined, close_followed, close_preceded, close_lasting, close_either, close_both}
+use Rattle.tre_derive.proofs.ClosingForms.{close_nothing, close_here, close_joined, close_followed, close_preceded, close_lasting, close_either, close_both, well_ends}
 use Rattle.tre_derive.proofs.closing.+close.Goals as goal
 
 pub returns-in-Nil : goal.returns-in-Nil
@@ -65,7 +64,8 @@ returns-in_ok-inner-in-Post t c =
     let well = subst (λ (whole : ResidualTree). IsWell time whole) tree c.requires.well.well in
     subst (λ (whole : ResidualTree). ClosesTo whole time events told) (sym tree)
     (close_followed time events expr c.in_ok-inner-in-Post.inner told
-    c.held_at_end-in-Post.ensures inner (record { well = well.0 })
+    c.held_at_end-in-Post.ensures inner
+    (well_ends time events inner (record { well = well.0 }))
     c.in_ok-inner-in-Post.ensures)
 
 pub returns-in_ok-other-in-Or : goal.returns-in_ok-other-in-Or
@@ -117,12 +117,9 @@ pub returns-in-Mark : goal.returns-in-Mark
 returns-in-Mark t c =
     let time = c.args.time in
     let events = c.args.events in
-    let mark = mark_of c.deref-in-Mark.result.now in
-    let expr = tree_of c.in-Mark.expr in
-    let tree : residual_tree c.args.residual.now ≡ marked mark expr =
+    let tree : residual_tree c.args.residual.now ≡ marked c.deref-in-Mark.result.now =
     rw c.deref-in-Mark.ensures (ap residual_tree c.in-Mark.is) in
-    IfOk-weaker c.close-in-Mark.result _ _
+    IfOk-weaker c.close_node.result _ _
     (λ told closes.
-    subst (λ (whole : ResidualTree). ClosesTo whole time events told) (sym tree)
-    (close_marked time events mark expr told closes.tells))
-    c.close-in-Mark.ensures
+    subst (λ (whole : ResidualTree). ClosesTo whole time events told) (sym tree) closes)
+    c.close_node.ensures

@@ -1,8 +1,8 @@
-use Rattle.std.proofs.Common.{List, Ok, IfOk, sym, subst}
+use Rattle.std.proofs.Common.{◌≡◌, List, Ok, IfOk, None, false, true, sym, subst}
+use Rattle.tre_zone.specs.Held.{Held}
 use Rattle.tre_zone.specs.declared.zone_bounds.ZoneBounds.{ZoneBounds}
 use Rattle.tre_syntax.specs.Expr.{tree_of}
-use Rattle.tre_edges.specs.Piece.{end_of_piece}
-use Rattle.tre_mark.specs.Marked.{EndBetween}
+use Rattle.tre_forms.specs.Begun.{EndsFrom}
 use Rattle.tre_residual.specs.Residual.{residual_tree}
 use Rattle.tre_residual.specs.declared.residual.Residual.{Residual}
 use Rattle.tre_derive.specs.Derivative.{BeginsBehindPairs, ComesBehind}
@@ -10,11 +10,13 @@ use Rattle.tre_derive.proofs.StepsOfForms.{step_followed}
 use Rattle.tre_derive.proofs.ToldAndLeft.{both_parts}
 use Rattle.tre_derive.proofs.forms.follow.Goals as goal
 
-pub begin_behind-begun-requires-clause-ends : goal.begin_behind-begun-requires-clause-ends
-begin_behind-begun-requires-clause-ends c =
-    let piece = c.args.piece.now in
-    subst (λ (list : List ZoneBounds). EndBetween piece.begin (end_of_piece piece) list)
-    (sym c.zones.ensures.same) c.requires.ends
+pub begin_behind-begun-requires-clause-from : goal.begin_behind-begun-requires-clause-from
+begin_behind-begun-requires-clause-from c =
+    subst (λ (z : List ZoneBounds). EndsFrom None c.args.piece.now.begin (Held z))
+    (sym c.zones.ensures.same) c.requires.from
+
+pub begin_behind-begun-requires-clause-moments : goal.begin_behind-begun-requires-clause-moments
+begin_behind-begun-requires-clause-moments c = λ (wrong : false ≡ true). absurd cc
 
 pub returns : goal.returns
 returns c =
@@ -35,7 +37,7 @@ returns c =
     (λ whole. ComesBehind rest tree later (residual_tree whole)) _
     (λ s begins comes residual steps.
     step_followed piece residual inner.told rest steps tree s.told later (residual_tree s.rest)
-    c.requires.numbers c.requires.ends begins comes)
+    c.requires.numbers begins comes)
     c.of.ensures.told c.of.ensures.rest begins
     (subst (λ (r : Residual). IfOk c.behind-rest.result (λ whole.
     ComesBehind (residual_tree r) tree later (residual_tree whole)))

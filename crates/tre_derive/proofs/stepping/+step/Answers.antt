@@ -3,11 +3,10 @@ use Rattle.std.proofs.Common.{◌≡◌, IfOk, ap, sym, subst}
 use Rattle.std.proofs.lemmas.Result.{IfOk-weaker}
 use Rattle.tre_syntax.specs.Expr.{tree_of}
 use Rattle.tre_edges.specs.declared.piece.Piece.{Piece}
-use Rattle.tre_mark.specs.MarkTree.{mark_of}
 use Rattle.tre_residual.specs.Residual.{ResidualTree, nothing, here, joined, preceded, followed, either, both, lasting, marked, residual_tree, IsWell}
 use Rattle.tre_derive.specs.Derivative.{StepsTo}
 use Rattle.tre_derive.specs.declared.stepped.Stepped.{Stepped}
-use Rattle.tre_derive.proofs.StepsOfForms.{step_nothing, step_here, told_between}
+use Rattle.tre_derive.proofs.StepsOfForms.{step_nothing, step_here, told_from}
 use Rattle.tre_derive.proofs.stepping.+step.Goals as goal
 
 abbrev DoesStep : Piece → ResidualTree → Stepped → Type 0
@@ -27,7 +26,7 @@ returns-in_ok-try_clone-in-Here t c =
     let tree : residual_tree c.args.residual.now ≡ here ended = ap residual_tree c.in-Here.is in
     subst (λ (whole : ResidualTree). StepsTo whole piece told nothing) (sym tree)
     (step_here piece ended told
-    (subst (λ (whole : ResidualTree). IsWell piece.begin whole) tree c.requires.well.well)
+    (subst (λ (whole : ResidualTree). IsWell piece.begin whole) tree c.requires.well)
     c.in_ok-try_clone-in-Here.ensures)
 
 pub returns-in-At : goal.returns-in-At
@@ -52,17 +51,17 @@ returns-in_ok-inner-in-Pre t c =
     (steps inner c.args.piece.now c.in_ok-inner-in-Pre.ensures))
     c.precede.ensures
 
--- Each pair that is told ends in the piece.
-pub follow-requires-clause-ends : goal.follow-requires-clause-ends
-follow-requires-clause-ends t c =
+-- Each pair that is told ends as the piece begins or later.
+pub follow-requires-clause-from : goal.follow-requires-clause-from
+follow-requires-clause-from t c =
     let piece = c.args.piece.now in
     let inner = residual_tree c.deref-in-Post.result.now in
     let told = c.in_ok-inner-in-Post.inner in
     let tree : residual_tree c.args.residual.now ≡ followed inner (tree_of c.in-Post.expr) =
     rw c.deref-in-Post.ensures (ap residual_tree c.in-Post.is) in
     let well = subst (λ (whole : ResidualTree). IsWell piece.begin whole) tree
-    c.requires.well.well in
-    told_between piece inner told.told (residual_tree told.rest) well.0
+    c.requires.well in
+    told_from piece inner told.told (residual_tree told.rest) well.0
     c.in_ok-inner-in-Post.ensures
 
 pub returns-in_ok-inner-in-Post : goal.returns-in_ok-inner-in-Post
@@ -129,7 +128,7 @@ returns-in_ok-inner-in-Dur t c =
 
 pub returns-in-Mark : goal.returns-in-Mark
 returns-in-Mark t c =
-    let form = marked (mark_of c.deref-in-Mark.result.now) (tree_of c.in-Mark.expr) in
+    let form = marked c.deref-in-Mark.result.now in
     let tree : residual_tree c.args.residual.now ≡ form =
     rw c.deref-in-Mark.ensures (ap residual_tree c.in-Mark.is) in
     IfOk-weaker c.go_on.result _ _

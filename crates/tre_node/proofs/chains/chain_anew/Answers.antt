@@ -5,7 +5,6 @@ use Rattle.tre_zone.specs.Held.{Held, IsSetOf}
 use Rattle.tre_zone.specs.Zone.{IsInstantBetween}
 use Rattle.tre_zone.specs.ZoneList.{SetHolds, HoldExactly}
 use Rattle.tre_zone.specs.declared.zone_bounds.ZoneBounds.{ZoneBounds}
-use Rattle.tre_edges.specs.Piece.{end_of_piece}
 use Rattle.tre_mark.proofs.Agreeing.{agree_refl, agree_then}
 use Rattle.tre_node.proofs.Lists.{held_again}
 use Rattle.tre_node.proofs.SetsOf.{set_agrees, set_of}
@@ -16,7 +15,7 @@ put_steps-requires-clause-over c = c.lead_no_further.ensures c.if-lead_no_furthe
 
 pub returns : goal.returns
 returns c =
-    let I = IsInstantBetween c.args.piece.now.begin (end_of_piece c.args.piece.now) in
+    let I = IsInstantBetween c.args.from c.args.to in
     on_ok_weaker c.put_closure.result
     (λ set. set_of (agree_then (set_agrees set)
     (Agree-Chain (Held c.in_ok-set.set) (Held c.args.steps.now) I I

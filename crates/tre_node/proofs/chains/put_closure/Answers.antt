@@ -4,14 +4,13 @@ use Rattle.tre_pairs.specs.Pairs.{Chain}
 use Rattle.tre_zone.specs.Held.{Held, IsSetOf}
 use Rattle.tre_zone.specs.Zone.{IsInstantBetween}
 use Rattle.tre_zone.specs.declared.zone_bounds.ZoneBounds.{ZoneBounds}
-use Rattle.tre_edges.specs.Piece.{end_of_piece}
 use Rattle.tre_node.proofs.Chaining.{chain_set}
 use Rattle.tre_node.proofs.chains.put_closure.Goals as goal
 
 pub returns : goal.returns
 returns c =
-    let begin = c.args.piece.now.begin in
-    let end = end_of_piece c.args.piece.now in
+    let begin = c.args.from in
+    let end = c.args.to in
     let steps = c.args.steps.now in
     let any = c.in_ok-any.any in
     on_ok_weaker c.put_behind.result

@@ -3,7 +3,6 @@ use Rattle.std.proofs.lemmas.Result.{on_ok_weaker}
 use Rattle.tre_pairs.proofs.Laws.{IsOrdered}
 use Rattle.tre_zone.specs.Held.{Held}
 use Rattle.tre_zone.specs.Zone.{IsInstantBetween}
-use Rattle.tre_edges.specs.Piece.{end_of_piece}
 use Rattle.tre_mark.proofs.Agreeing.{agree_either, agree_refl, agree_then}
 use Rattle.tre_node.proofs.Chaining.{over_chains, instants_alike}
 use Rattle.tre_node.proofs.Lists.{two_lists}
@@ -12,8 +11,8 @@ use Rattle.tre_node.proofs.chains.put_steps.Goals as goal
 
 pub returns : goal.returns
 returns c =
-    let begin = c.args.piece.now.begin in
-    let end = end_of_piece c.args.piece.now in
+    let begin = c.args.from in
+    let end = c.args.to in
     let steps = c.args.steps.now in
     on_ok_weaker c.prune.result
     (λ same. set_of (agree_then

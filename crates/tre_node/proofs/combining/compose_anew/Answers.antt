@@ -1,9 +1,6 @@
-use Rattle.std.proofs.lemmas.Result.{on_ok_weaker}
-use Rattle.tre_node.proofs.Lists.{set_alone, set_moved}
+use Rattle.tre_node.proofs.SetsOf.{none_composed}
 use Rattle.tre_node.proofs.combining.compose_anew.Goals as goal
 
-pub returns : goal.returns
-returns c =
-    on_ok_weaker c.prune.result
-    (λ same. set_moved c.prune.new.zones.items c.put_each.new.found.items _ same
-    (set_alone c.clear.ensures.items c.in_ok-put_each.ensures)) c.prune.ensures
+pub returns-then-is_one_none : goal.returns-then-is_one_none
+returns-then-is_one_none c =
+    none_composed c.clear.ensures.items (c.is_one_none.ensures.0 c.if-is_one_none.true)

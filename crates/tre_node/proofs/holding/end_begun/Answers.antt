@@ -1,6 +1,4 @@
-use Rattle.std.proofs.Common.{◌∙◌, ◌++◌, ap, refl, sym, subst}
-use Rattle.std.specs.Prelude.{All}
-use Rattle.tre_node.specs.IsNode.{IsStretch}
+use Rattle.std.proofs.Common.{◌∙◌, ◌++◌, ap, refl}
 use Rattle.tre_node.specs.NodeTree.{begun_at}
 use Rattle.tre_node.proofs.holding.end_begun.Goals as goal
 

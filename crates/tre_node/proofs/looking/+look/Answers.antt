@@ -18,8 +18,9 @@ look_alternation-returns t c =
     c.in_ok-look-2.ensures c.requires.first.counts c.requires.second.counts
     c.in_ok-tell_alternation.ensures
 
-pub look_repetition-tell_repetition-requires : goal.look_repetition-tell_repetition-requires
-look_repetition-tell_repetition-requires t c = part_between c.in_ok-look.ensures
+pub look_repetition-tell_repetition-requires-clause-between :
+    goal.look_repetition-tell_repetition-requires-clause-between
+look_repetition-tell_repetition-requires-clause-between t c = part_between c.in_ok-look.ensures
 
 pub look_repetition-returns : goal.look_repetition-returns
 look_repetition-returns t c =

@@ -2,8 +2,9 @@ use Rattle.std.proofs.Common.{◌∙◌, ap, refl, sym}
 use Rattle.tre_node.specs.declared.node.Around.{Around}
 use Rattle.tre_node.proofs.telling.tell_repetition.Goals as goal
 
-pub chain_anew-requires : goal.chain_anew-requires
-chain_anew-requires c = rw (c.deref.ensures.value, c.around-inner.ensures) c.requires
+pub chain_anew-requires-clause-between : goal.chain_anew-requires-clause-between
+chain_anew-requires-clause-between c =
+    rw (c.deref.ensures.value, c.around-inner.ensures) c.requires.between
 
 pub returns : goal.returns
 returns c = record {

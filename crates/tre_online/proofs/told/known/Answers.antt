@@ -1,5 +1,5 @@
 use Rattle.tre_zone.proofs.ZoneListLemmas.{AreCanonical-empty}
-use Rattle.tre_advance.proofs.Lists.{canonical_more, canonical_all}
+use Rattle.tre_node.proofs.Lists.{canonical_more, canonical_all}
 use Rattle.tre_online.proofs.told.known.Goals as goal
 
 pub loop-zone-init : goal.loop-zone-init

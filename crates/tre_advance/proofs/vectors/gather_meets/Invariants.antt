@@ -1,9 +1,0 @@
-use Rattle.std.proofs.Common.{take}
-use Rattle.tre_pairs.specs.Pairs.{Either, Both}
-use Rattle.tre_zone.specs.ZoneList.{SetHolds, HoldExactly}
-use Rattle.tre_advance.proofs.vectors.gather_meets.Given as goal
-
-abbrev pub invariant-loop-zone : goal.invariant-loop-zone
-invariant-loop-zone l =
-    HoldExactly l.found.items (Either (SetHolds l.initial.found.items)
-    (Both (SetHolds (take l.zone-index l.zones)) (SetHolds l.others)))
