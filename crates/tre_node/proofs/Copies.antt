@@ -148,10 +148,10 @@ parts_copied (Seq' around x left x' right) (Seq' around' y left' y' right') h =
     λ i. (l.idle i.0, r.idle i.1) in
     record {
       tree = ap (λ t. sequence t (tree_of_node right')) l.tree
-      ∙ ap (λ t. sequence (tree_of_node left) t) r.tree;
+          ∙ ap (λ t. sequence (tree_of_node left) t) r.tree;
       like = h.0;
       mark = λ time. ap (λ m. sequence_mark m (mark_of_node time right')) (l.mark time)
-      ∙ ap (λ m. sequence_mark (mark_of_node time left) m) (r.mark time);
+          ∙ ap (λ m. sequence_mark (mark_of_node time left) m) (r.mark time);
       idle = idle;
       node_is = λ time n. (
         sound_like (Seq' around x left x' right) (Seq' around' y left' y' right') h.0 idle n.0,
@@ -167,10 +167,10 @@ parts_copied (Alt' around x left x' right) (Alt' around' y left' y' right') h =
     λ i. (l.idle i.0, r.idle i.1) in
     record {
       tree = ap (λ t. alternation t (tree_of_node right')) l.tree
-      ∙ ap (λ t. alternation (tree_of_node left) t) r.tree;
+          ∙ ap (λ t. alternation (tree_of_node left) t) r.tree;
       like = h.0;
       mark = λ time. ap (λ m. alternation_mark m (mark_of_node time right')) (l.mark time)
-      ∙ ap (λ m. alternation_mark (mark_of_node time left) m) (r.mark time);
+          ∙ ap (λ m. alternation_mark (mark_of_node time left) m) (r.mark time);
       idle = idle;
       node_is = λ time n. (
         sound_like (Alt' around x left x' right) (Alt' around' y left' y' right') h.0 idle n.0,
@@ -187,7 +187,7 @@ parts_copied (Meet' around reach outer most x left x' right)
     λ i. (l.idle i.0, r.idle i.1) in
     record {
       tree = ap (λ t. intersection t (tree_of_node right')) l.tree
-      ∙ ap (λ t. intersection (tree_of_node left) t) r.tree;
+          ∙ ap (λ t. intersection (tree_of_node left) t) r.tree;
       like = h.0;
       mark = λ time.
           ap (λ w. intersection_one 0 (led_by w outer'.items) (mark_of_node time left')
@@ -227,7 +227,7 @@ parts_copied (Within' around reach interval outer most x body)
     let b = h.4 in
     record {
       tree = ap (λ t. restriction t interval') b.tree
-      ∙ ap (λ i. restriction (tree_of_node body) i) h.2;
+          ∙ ap (λ i. restriction (tree_of_node body) i) h.2;
       like = h.0;
       mark = λ time.
           ap (λ w. restriction_one 0 (led_by w outer'.items) (mark_of_node time body'))
@@ -239,7 +239,7 @@ parts_copied (Within' around reach interval outer most x body)
         sound_like (Within' around reach interval outer most x body)
             (Within' around' reach' interval' outer' most' y body') h.0 b.idle n.0,
         h.1 ∙ n.1 ∙ ap (λ z. least_of z interval.high) (sym h.0.made.counts)
-        ∙ ap (λ i. least_of around'.longest i.high) (sym h.2),
+            ∙ ap (λ i. least_of around'.longest i.high) (sym h.2),
         inner_like b.like h.1 n.2,
         outer_like h.1 h.3 n.3,
         b.node_is time n.4,

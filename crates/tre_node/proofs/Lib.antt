@@ -12,6 +12,7 @@ pub mod FormsTold
 pub mod Looks
 pub mod InstancesTold
 pub mod NodesLook
+pub mod Shortened
 -- the end of the trace
 pub mod Closings
 -- new nodes, and copies

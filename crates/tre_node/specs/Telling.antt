@@ -1,6 +1,7 @@
 -- What lists of zones tell of a piece.
 use Rattle.std.specs.Prelude.{◌≡◌, ℕ, ◌-◌, ◌*◌, ◌<◌, ◌↔◌, ℤ, length, get_or, All, List, [], Option, Bool, true, false}
 use Rattle.tre_pairs.specs.Pairs.{Pairs, Composed}
+use Rattle.tre_pairs.specs.Same.{Same}
 use Rattle.tre_zone.specs.Bound.{Meets}
 use Rattle.tre_zone.specs.Held.{Held, IsSetOf}
 use Rattle.tre_zone.specs.Interval.{IntervalEnds}
@@ -35,6 +36,10 @@ pub record Puts (inside ended : Pairs) (dull idle : Type 0) (before after : Arou
   pub told : IsSetOf after.ended.items ended
   pub lives : after.lives ≡ false → dull
   pub busy : after.busy ≡ false → idle
+
+-- As far as it counts, the new list has the pairs of the old one.
+pub record AreShortened (longest : Option ℕ) (old new : List ZoneBounds) : Type 0 where
+  pub same : Same (LastsUpTo longest) (Held new) (Held old)
 
 -- What was found of an atom was put into the list.
 pub record PutsFound (zone : Option ZoneBounds) (before after : Around) : Type 0 where

@@ -28,6 +28,7 @@ mod moments;
 mod node;
 mod outer;
 mod pruning;
+mod shortening;
 mod stretches;
 mod telling;
 mod vectors;

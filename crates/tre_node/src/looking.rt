@@ -8,6 +8,7 @@ ghost use Rattle.tre_node.specs.Telling.{AlternationLooks, IntersectionLooks, Re
 use crate::holding::look_literal;
 use crate::joining::keep_in_reach;
 use crate::node::{Around, Node};
+use crate::shortening::shorten;
 use crate::telling::{
     tell_alternation, tell_instant, tell_intersected, tell_repetition, tell_restricted,
     tell_sequence,
@@ -124,6 +125,7 @@ fn look_repetition(
         piece.begin,
         piece.begin + piece.segment.len,
     )?;
+    shorten(&mut around.ended, &mut around.mid, around.longest)?;
     Ok(())
 }
 

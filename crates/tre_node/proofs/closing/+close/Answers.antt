@@ -70,8 +70,11 @@ close-returns-in-Fall t c =
 pub close-returns-in-Event : goal.close-returns-in-Event
 close-returns-in-Event t c =
     on_ok_weaker c.tell_instant-in-Event.result
-    (λ h. closed_by c.in-Event.is (refl, instant_closes c.args.time c.args.events (event _) _ _ _
-    (λ last. c.event_at.ensures) h)) c.tell_instant-in-Event.ensures
+    (λ h. closed_by c.in-Event.is (
+      refl,
+      instant_closes c.args.time c.args.events (event _) _ _ _
+          (λ last. c.event_at.ensures) h,
+    )) c.tell_instant-in-Event.ensures
 
 pub close-returns-in-Seq : goal.close-returns-in-Seq
 close-returns-in-Seq t c =
@@ -96,8 +99,10 @@ close-returns-in-Star t c =
 pub close-returns-in-Within : goal.close-returns-in-Within
 close-returns-in-Within t c =
     on_ok_weaker c.close_restriction.result
-    (λ h. closed_by c.in-Within.is (refl,
-    restriction_renamed c.deref-in-Within.ensures.value c.deref_mut-in-Within.ensures.value h))
+    (λ h. closed_by c.in-Within.is (
+      refl,
+      restriction_renamed c.deref-in-Within.ensures.value c.deref_mut-in-Within.ensures.value h,
+    ))
     c.close_restriction.ensures
 
 pub close-returns-in-Meet : goal.close-returns-in-Meet

@@ -3,6 +3,7 @@ use Rattle.std.proofs.lemmas.Result.{on_ok_weaker}
 use Rattle.tre_node.proofs.Looks.{alternation_looks, alternation_named, empty_looked, event_looked, fall_looked, node_by, part_between, repetition_looks, repetition_named, rise_looked, sequence_looks, sequence_named}
 use Rattle.tre_node.proofs.InstancesTold.{intersection_looks, restriction_looks}
 use Rattle.tre_node.proofs.NodesLook.{intersection_named, looked_by, restriction_named}
+use Rattle.tre_node.proofs.Shortened.{part_limit, shortened_tells}
 use Rattle.tre_node.proofs.looking.+look.Goals as goal
 
 pub look_sequence-returns : goal.look_sequence-returns
@@ -24,9 +25,20 @@ look_repetition-tell_repetition-requires-clause-between t c = part_between c.in_
 
 pub look_repetition-returns : goal.look_repetition-returns
 look_repetition-returns t c =
-    repetition_looks c.args.piece.now c.args.around.now c.tell_repetition.new.around
+    let l = repetition_looks c.args.piece.now c.args.around.now c.tell_repetition.new.around
     c.args.body.now c.look.new.node c.in_ok-look.ensures c.requires.made.counts
-    c.in_ok-tell_repetition.ensures
+    c.in_ok-tell_repetition.ensures in
+    record {
+      made = record { counts = l.made.counts; enters = l.made.enters };
+      tells = shortened_tells l.tells c.in_ok-shorten.ensures;
+      idle = l.idle;
+      inner = l.inner;
+    }
+
+pub look_repetition-shorten-requires : goal.look_repetition-shorten-requires
+look_repetition-shorten-requires t c =
+    part_limit c.args.piece.now.begin c.args.body.now c.requires.body c.requires.made
+    c.in_ok-tell_repetition.ensures.made.counts
 
 pub look-returns-in-Seq : goal.look-returns-in-Seq
 look-returns-in-Seq t c =
