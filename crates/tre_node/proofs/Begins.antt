@@ -1,18 +1,17 @@
 -- Stretches of moments at which pairs begin, in lists.
-use Rattle.std.proofs.Common.{◌≡◌, ◌∙◌, ℕ, zero, suc, ◌+◌, ◌-◌, ◌*◌, ◌<◌, ◌≤◌, ◌⊎◌, ◌↔◌, inl, inr, ⊎_elim, All, List, [], ◌∷◌, ◌++◌, length, get_or, set, take, drop, insert, ap, refl, sym, subst, arith, ℤ, pos, ◌+ℤ◌, ◌-ℤ◌, ◌*ℤ◌, ◌≤ℤ◌, ◌<ℤ◌}
+use Rattle.std.proofs.Common.{◌≡◌, ◌∙◌, ℕ, zero, suc, ◌+◌, ◌-◌, ◌*◌, ◌<◌, ◌≤◌, ◌⊎◌, ◌↔◌, inl, inr, ⊎_elim, All, List, [], ◌∷◌, ◌++◌, length, get_or, set, take, drop, ap, refl, sym, subst, arith, ℤ, pos, ◌+ℤ◌, ◌-ℤ◌, ◌≤ℤ◌, ◌<ℤ◌}
 use Rattle.std.proofs.Math.Nat.{mul-pos}
 use Rattle.std.proofs.lemmas.Int.{ints, clamps, by_lt_z}
 use Rattle.std.proofs.lemmas.List.{take_more, take_all, set_split, take-append-drop, length-append, length-take}
-use Rattle.std.proofs.lemmas.List.Elements.{All-append, All-cons, All-take, All-drop, All-get_or, All-nil, All-head, All-tail}
-use Rattle.std.specs.Int.{int_min, int_max}
-use Rattle.tre_pairs.specs.Pairs.{Pairs}
+use Rattle.std.proofs.lemmas.List.Elements.{All-append, All-cons, All-nil, All-head, All-tail}
+use Rattle.std.specs.Int.{int_max}
 use Rattle.tre_pairs.specs.Before.{Before}
 use Rattle.tre_zone.specs.Bound.{sum_of, Meets}
 use Rattle.tre_zone.specs.Held.{Held}
 use Rattle.tre_zone.specs.Zone.{ZoneHolds, IsCanonical, IsZoneOf, HasNoPair}
 use Rattle.tre_zone.specs.ZoneList.{SetHolds}
 use Rattle.tre_zone.specs.declared.zone_bounds.ZoneBounds.{ZoneBounds}
-use Rattle.tre_compose.specs.Begins.{begins_of, BeginsOf}
+use Rattle.tre_compose.specs.Begins.{begins_of}
 use Rattle.tre_compose.proofs.Midpoints.{begins-exact}
 use Rattle.tre_zone.proofs.Bounds.{Meets-at_most, Meets-less}
 use Rattle.tre_zone.proofs.Tightness.{canonical-tight}

@@ -1,5 +1,5 @@
 -- Chains of what a repetition repeats inside a piece.
-use Rattle.std.proofs.Common.{◌≡◌, ◌↔◌, length, ◌∙◌, ℕ, ◌*◌, ◌<◌, ◌≤◌, List, [], ◌∷◌, ◌++◌, Option, None, Some, IfSome, ⊎_elim, inl, inr, refl, subst, arith}
+use Rattle.std.proofs.Common.{◌≡◌, ◌↔◌, length, ℕ, ◌*◌, ◌<◌, ◌≤◌, List, [], ◌∷◌, Option, None, Some, IfSome, ⊎_elim, inl, inr, refl, arith}
 use Rattle.std.proofs.Math.Nat.{mul-pos}
 use Rattle.tre_pairs.specs.Pairs.{Pairs, Composed, Either, LeadTo, Chain}
 use Rattle.tre_pairs.proofs.Agreement.{Agree-Chain}

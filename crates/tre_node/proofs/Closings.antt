@@ -1,27 +1,26 @@
 -- What the end of the trace makes of a node, of what it makes of the parts.
-use Rattle.std.proofs.Common.{◌≡◌, ◌∙◌, ℕ, ◌*◌, ◌<◌, ◌≤◌, ◌↔◌, List, [], ◌∷◌, Option, None, Some, Bool, true, false, inl, inr, ⊎_elim, ap, refl, sym, subst, arith}
+use Rattle.std.proofs.Common.{◌≡◌, ◌∙◌, ℕ, ◌*◌, ◌<◌, ◌≤◌, ◌↔◌, List, [], Option, None, Some, Bool, true, false, inl, inr, ⊎_elim, ap, refl, sym, subst, arith}
 use Rattle.std.specs.Int.{bit_at}
 use Rattle.tre_pairs.specs.Pairs.{Composed, Either, Both, Lasting, Chain}
 use Rattle.tre_pairs.specs.declared.TheConstants.{TIME_MAX}
-use Rattle.tre_zone.specs.Held.{Held, IsSetOf}
+use Rattle.tre_zone.specs.Held.{Held}
 use Rattle.tre_zone.specs.Interval.{IntervalEnds, LastsWithin}
 use Rattle.tre_zone.specs.Zone.{GivesZone, HasNoPair, IsInstantBetween, IsZoneOf, ZoneHolds}
 use Rattle.tre_zone.specs.declared.zone_bounds.ZoneBounds.{ZoneBounds}
 use Rattle.tre_zone.proofs.HeldSets.{Held-empty}
 use Rattle.tre_state.specs.StateTree.{StateTree}
 use Rattle.tre_state.specs.State.{tree_of}
-use Rattle.tre_state.specs.declared.state.State.{State}
 use Rattle.tre_syntax.specs.Meaning.{MatchesRest}
-use Rattle.tre_syntax.specs.PatternTree.{Atom, PatternTree, empty, literal, rise, fall, event, atom, sequence, alternation, intersection, repetition, restriction}
+use Rattle.tre_syntax.specs.PatternTree.{Atom, empty, literal, rise, fall, event, atom, sequence, alternation, intersection, repetition, restriction}
 use Rattle.tre_syntax.specs.Rest.{Rest, AtomMatches}
 use Rattle.tre_syntax.proofs.CutMeaning.{IsBounded-rest, IsOrdered-rest}
-use Rattle.tre_mark.specs.MarkTree.{MarkTree, atom_mark, sequence_mark, alternation_mark, intersection_one, repetition_mark, restriction_one}
+use Rattle.tre_mark.specs.MarkTree.{MarkTree, atom_mark, intersection_one, restriction_one}
 use Rattle.tre_mark.specs.Marked.{AnyDuration, EndBetween}
 use Rattle.tre_node.specs.declared.node.Around.{Around}
 use Rattle.tre_node.specs.declared.node.Node.{Node, Eps, Lit, Rise, Fall, Event, Seq', Alt', Meet', Star', Within'}
 use Rattle.tre_node.specs.declared.node.Stretch.{Stretch}
-use Rattle.tre_node.specs.Closed.{AlternationCloses, ClosesAs, ClosesBody, ClosesBoth, HappensAt, HasClosed, IntersectionCloses, RepetitionCloses, RestrictionCloses, Seen, SequenceCloses, end_rest}
-use Rattle.tre_node.specs.IsNode.{IsMade, least_of}
+use Rattle.tre_node.specs.Closed.{AlternationCloses, ClosesAs, HappensAt, HasClosed, IntersectionCloses, RepetitionCloses, RestrictionCloses, Seen, SequenceCloses, end_rest}
+use Rattle.tre_node.specs.IsNode.{least_of}
 use Rattle.tre_node.specs.Looked.{IsReach}
 use Rattle.tre_node.specs.NodeTree.{around_of, begun_at, led_by, mark_of_node, tree_of_node}
 use Rattle.tre_node.specs.Telling.{EndsBegun, Puts, PutsBehind, PutsFound}

@@ -11,7 +11,7 @@ use Rattle.tre_node.specs.declared.node.Around.{Around}
 use Rattle.tre_node.specs.declared.node.Node.{Node, Eps, Lit, Rise, Fall, Event, Seq', Alt', Meet', Star', Within'}
 use Rattle.tre_node.specs.declared.node.Stretch.{Stretch}
 use Rattle.tre_node.specs.Copying.{IsCopy, IsLike}
-use Rattle.tre_node.specs.IsNode.{AreOuter, IsIdle, IsMade, IsNode, IsSound, IsStretch, least_of}
+use Rattle.tre_node.specs.IsNode.{AreOuter, IsIdle, IsMade, IsSound, IsStretch, least_of}
 use Rattle.tre_node.specs.NodeTree.{around_of, begun_at, led_by, mark_of_node, tree_of_node}
 
 -- The two have one form, and each part of the second is a copy of that of the first.

@@ -1,15 +1,15 @@
 -- What of a zone ends before a time.
-use Rattle.std.proofs.Common.{◌≡◌, ◌∙◌, ℕ, ◌+◌, ◌*◌, ◌<◌, ◌≤◌, ap, refl, sym, subst, arith, ℤ, pos, ◌-ℤ◌, ◌*ℤ◌, ◌≤ℤ◌, ◌<ℤ◌, ◌↔◌}
+use Rattle.std.proofs.Common.{◌≡◌, ℕ, ◌+◌, ◌*◌, ◌<◌, ◌≤◌, sym, subst, arith, ℤ, pos, ◌≤ℤ◌, ◌<ℤ◌, ◌↔◌}
 use Rattle.std.proofs.lemmas.Int.{ints, clamps}
 use Rattle.std.specs.Int.{int_min}
 use Rattle.tre_pairs.specs.Before.{Before}
 use Rattle.tre_pairs.specs.declared.TheConstants.{TIME_MAX}
 use Rattle.tre_zone.specs.Bound.{sum_of, Meets}
-use Rattle.tre_zone.specs.Zone.{ZoneHolds, IsCanonical, IsZoneOf, HasNoPair, IsTight}
+use Rattle.tre_zone.specs.Zone.{ZoneHolds, IsCanonical, IsZoneOf, HasNoPair}
 use Rattle.tre_zone.specs.declared.zone_bounds.ZoneBounds.{ZoneBounds}
-use Rattle.tre_zone.proofs.Bounds.{split, split-sum, Meets-less}
-use Rattle.tre_zone.proofs.Paths.{int_min-case, int_min-left, int_min-right, Meets-looser, Meets-min, Meets-sum, Meets-loop}
-use Rattle.tre_zone.proofs.Sums.{sum_of-comm, sum_of-assoc, sum_of-le, sum_of-swap, le_sum_of-left, le_sum_of-right, le_trans}
+use Rattle.tre_zone.proofs.Bounds.{Meets-less}
+use Rattle.tre_zone.proofs.Paths.{int_min-case, int_min-right, Meets-looser, Meets-min, Meets-sum, Meets-loop}
+use Rattle.tre_zone.proofs.Sums.{sum_of-assoc, sum_of-le, sum_of-swap, le_sum_of-left, le_sum_of-right, le_trans}
 use Rattle.tre_node.specs.Outer.{early_of}
 
 le_refl : (x : ℤ) → x ≤ℤ x

@@ -1,6 +1,6 @@
 -- Atoms, alternations and repetitions that are entered.
-use Rattle.std.proofs.Common.{◌≡◌, ◌∙◌, ℕ, ◌+◌, ◌-◌, ◌*◌, ◌<◌, ◌≤◌, ◌⊎◌, ◌↔◌, inl, inr, ⊎_elim, ap, refl, sym, subst, arith, Bool, true, false, Option, List, [], ◌∷◌, pos, ◌-ℤ◌, ℤ}
-use Rattle.std.proofs.Math.Nat.{mul-pos, mul-le-mul_right}
+use Rattle.std.proofs.Common.{◌≡◌, ◌∙◌, ℕ, ◌+◌, ◌*◌, ◌<◌, ◌≤◌, ◌↔◌, inl, inr, ⊎_elim, ap, refl, sym, subst, arith, Bool, true, false, Option, List, [], ◌∷◌, pos, ◌-ℤ◌}
+use Rattle.std.proofs.Math.Nat.{mul-le-mul_right}
 use Rattle.std.proofs.lemmas.Bool.{false≢true}
 use Rattle.tre_pairs.specs.Pairs.{Pairs, Composed, Either}
 use Rattle.tre_pairs.specs.Before.{Before}
@@ -8,14 +8,13 @@ use Rattle.tre_pairs.specs.Same.{Same}
 use Rattle.tre_pairs.proofs.Laws.{Scales, IsOrdered, IsInstant}
 use Rattle.tre_pairs.proofs.SameLaws.{same_refl, same_agree, same_back, same_trans, same_crossing, same_before, same_either, same_composed}
 use Rattle.tre_pairs.proofs.Ticks.{le_up, le_down, ge_down}
-use Rattle.tre_zone.specs.Bound.{sum_of, Meets}
 use Rattle.tre_zone.specs.Held.{Held, IsSetOf}
 use Rattle.tre_zone.specs.Longest.{LastsUpTo}
 use Rattle.tre_zone.specs.Zone.{ZoneHolds}
 use Rattle.tre_zone.specs.ZoneList.{SetHolds}
 use Rattle.tre_zone.specs.declared.zone_bounds.ZoneBounds.{ZoneBounds}
 use Rattle.tre_zone.proofs.Bounds.{Meets-at_most, Meets-at_least}
-use Rattle.tre_zone.proofs.HeldSets.{Held-empty, Scales-Held, IsOrdered-Held}
+use Rattle.tre_zone.proofs.HeldSets.{Scales-Held, IsOrdered-Held}
 use Rattle.tre_zone.proofs.Lasting.{LastsUpTo-downward, LastsUpTo-scales}
 use Rattle.tre_zone.proofs.Paths.{Meets-sum}
 use Rattle.tre_state.specs.StateTree.{StateTree}
@@ -23,7 +22,7 @@ use Rattle.tre_state.specs.State.{tree_of}
 use Rattle.tre_state.specs.declared.names.TheConstants.{NAMES_MAX}
 use Rattle.tre_syntax.specs.PatternTree.{NumbersBelow}
 use Rattle.tre_state.specs.declared.state.State.{State}
-use Rattle.tre_trace.specs.Trace.{Timeline, AreLong, quiet}
+use Rattle.tre_trace.specs.Trace.{Timeline, quiet}
 use Rattle.tre_syntax.specs.Meaning.{MatchesRest}
 use Rattle.tre_syntax.specs.PatternTree.{Atom, PatternTree, empty, literal, rise, fall, event, atom, alternation, repetition}
 use Rattle.tre_syntax.specs.Rest.{AtomMatches}
@@ -35,21 +34,21 @@ use Rattle.tre_edges.specs.declared.piece.Piece.{Piece}
 use Rattle.tre_mark.specs.MarkTree.{MarkTree, atom_mark, alternation_mark, repetition_mark}
 use Rattle.tre_mark.specs.Marked.{Marked}
 use Rattle.tre_mark.proofs.Growth.{mark_ends}
-use Rattle.tre_mark.proofs.Meanings.{IsOrdered-Marked, around_present}
+use Rattle.tre_mark.proofs.Meanings.{around_present}
 use Rattle.tre_forms.specs.Begun.{BeginsBefore, Begins, EndsFrom}
 use Rattle.tre_forms.specs.Dull.{IsDullOver, None}
-use Rattle.tre_forms.specs.Enters.{over, alone, behind, Goes, GoesAlone, Enters}
+use Rattle.tre_forms.specs.Enters.{over, alone, behind, GoesAlone, Enters}
 use Rattle.tre_forms.proofs.Forms.{alternation_enters, alone_ordered, goes_from, same_from, IsOrdered-Before}
 use Rattle.tre_forms.proofs.Idle.{left_out_enters, dull_instant, atom_alone}
 use Rattle.tre_forms.proofs.Literals.{literal_enters}
 use Rattle.tre_forms.proofs.Repeated.{repetition_enters}
 use Rattle.tre_node.specs.declared.node.Around.{Around}
 use Rattle.tre_node.specs.declared.node.Stretch.{Stretch}
-use Rattle.tre_node.specs.declared.node.Node.{Node, Eps, Lit, Rise, Fall, Event, Seq', Alt', Meet', Star', Within'}
+use Rattle.tre_node.specs.declared.node.Node.{Node, Eps, Lit, Rise, Fall, Event, Alt', Star'}
 use Rattle.tre_node.specs.IsNode.{IsMade}
 use Rattle.tre_node.specs.NodeTree.{around_of, tree_of_node, mark_of_node, begun_at, stretch_zone}
 use Rattle.tre_node.specs.HasEntered.{MayEnter, HasEntered, HaveBothEntered, EntersAgain, EntersBegun}
-use Rattle.tre_node.specs.Looked.{Tells, Looked, HoldsOn}
+use Rattle.tre_node.specs.Looked.{Looked, HoldsOn}
 use Rattle.tre_node.specs.Stretches.{IsIn, IsBegin, AddsMoments}
 use Rattle.tre_node.proofs.Parts.{enters_none, looked_tells, none_from, sound_now, made_part, made_whole}
 

@@ -1,5 +1,5 @@
 -- What a piece alone makes of a node, of what it makes of the parts.
-use Rattle.std.proofs.Common.{◌≡◌, ℕ, ◌-◌, ◌*◌, ◌<◌, ◌⊎◌, List, [], ◌∷◌, Option, Bool, false, inl, inr, ⊎_elim, arith, refl}
+use Rattle.std.proofs.Common.{◌≡◌, ℕ, ◌*◌, ◌<◌, ◌⊎◌, List, [], Option, Bool, false, inl, inr, ⊎_elim, arith, refl}
 use Rattle.std.proofs.Math.Nat.{mul-pos}
 use Rattle.tre_pairs.specs.Pairs.{Pairs, Composed, Either, Both, Lasting, Chain}
 use Rattle.tre_pairs.proofs.Dull.{dull_either, dull_both, dull_lasting, dull_chain}

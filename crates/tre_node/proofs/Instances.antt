@@ -1,7 +1,6 @@
 -- Restrictions and intersections that are entered.
-use Rattle.std.proofs.Common.{◌≡◌, ◌∙◌, ℕ, ◌-◌, ◌*◌, ◌<◌, ◌≤◌, ◌⊎◌, ◌↔◌, inl, inr, ⊎_elim, ap, refl, sym, subst, arith, Bool, true, false, Option, List, [], ◌∷◌, Some, pos}
+use Rattle.std.proofs.Common.{◌≡◌, ℕ, ◌-◌, ◌*◌, ◌<◌, ◌≤◌, ◌↔◌, inl, inr, ⊎_elim, refl, sym, subst, arith, Option, List, [], ◌∷◌, Some, pos}
 use Rattle.std.proofs.Math.Nat.{mul-pos, mul-le-mul_right}
-use Rattle.std.proofs.lemmas.Bool.{false≢true}
 use Rattle.tre_pairs.specs.Cuts.{Crossing}
 use Rattle.tre_pairs.specs.Pairs.{Pairs, Composed, Either, Both, Lasting}
 use Rattle.tre_pairs.specs.Before.{Before}
@@ -18,7 +17,7 @@ use Rattle.tre_zone.specs.Interval.{IntervalEnds, LastsWithin}
 use Rattle.tre_zone.specs.Longest.{LastsUpTo}
 use Rattle.tre_zone.specs.Zone.{instants_of, IsInstantBetween}
 use Rattle.tre_zone.specs.declared.zone_bounds.ZoneBounds.{ZoneBounds}
-use Rattle.tre_zone.proofs.HeldSets.{Held-empty, Scales-Held, IsOrdered-Held}
+use Rattle.tre_zone.proofs.HeldSets.{IsOrdered-Held}
 use Rattle.tre_zone.proofs.Lasting.{LastsUpTo-downward, LastsUpTo-scales}
 use Rattle.tre_trace.specs.Trace.{Timeline, AreLong}
 use Rattle.tre_syntax.specs.Meaning.{MatchesRest}
@@ -30,13 +29,11 @@ use Rattle.tre_mark.specs.MarkTree.{MarkTree, intersection_one, restriction_one}
 use Rattle.tre_mark.specs.Marked.{AnyDuration, Marked}
 use Rattle.tre_mark.proofs.Meanings.{IsOrdered-Marked}
 use Rattle.tre_forms.specs.Begun.{EndsFrom}
-use Rattle.tre_forms.specs.Dull.{IsDullOver, None}
+use Rattle.tre_forms.specs.Dull.{None}
 use Rattle.tre_forms.specs.Enters.{over, behind, Goes, Enters}
-use Rattle.tre_forms.proofs.Forms.{begin_end}
-use Rattle.tre_forms.proofs.Idle.{left_out_enters, nothing_enters}
-use Rattle.tre_forms.proofs.Restricted.{IsMomentOf, moments_instant, moments_scale, from_moments, moments_within, moments_cover}
-use Rattle.tre_forms.proofs.Whole.{AreAllMoments, whole_restriction_enters, whole_intersection_enters}
-use Rattle.tre_node.specs.Looked.{IsReach, StillLead, AreLed}
+use Rattle.tre_forms.proofs.Restricted.{IsMomentOf}
+use Rattle.tre_forms.proofs.Whole.{AreAllMoments}
+use Rattle.tre_node.specs.Looked.{IsReach, StillLead}
 use Rattle.tre_node.specs.Outer.{AreKept}
 use Rattle.tre_node.proofs.Joins.{alone_held, held_alone}
 use Rattle.tre_zone.proofs.Bounds.{Meets-at_most}

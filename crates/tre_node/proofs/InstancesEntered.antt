@@ -1,35 +1,33 @@
 -- Nodes that are restrictions or intersections, and are entered.
-use Rattle.std.proofs.Common.{◌≡◌, ◌∙◌, ℕ, ◌-◌, ◌*◌, ◌<◌, ◌≤◌, ◌⊎◌, inl, inr, ⊎_elim, ap, refl, sym, subst, arith, Bool, true, false, Option, List, [], ◌∷◌}
+use Rattle.std.proofs.Common.{◌≡◌, ◌∙◌, ℕ, ◌⊎◌, inl, ⊎_elim, ap, refl, sym, subst, arith, Bool, true, false, Option, List, [], ◌∷◌}
 use Rattle.std.proofs.lemmas.Bool.{false≢true}
-use Rattle.tre_pairs.specs.Pairs.{Pairs, Either, Both}
+use Rattle.tre_pairs.specs.Pairs.{Either}
 use Rattle.tre_pairs.specs.Before.{Before}
 use Rattle.tre_pairs.specs.declared.TheConstants.{TIME_MAX}
-use Rattle.tre_pairs.proofs.Laws.{Scales, IsOrdered, IsInstant}
+use Rattle.tre_pairs.proofs.Laws.{IsOrdered, IsInstant}
 use Rattle.tre_zone.specs.Held.{Held}
-use Rattle.tre_zone.specs.Interval.{LastsWithin}
 use Rattle.tre_zone.specs.Longest.{LastsUpTo}
 use Rattle.tre_zone.specs.Zone.{instants_of}
 use Rattle.tre_zone.specs.declared.zone_bounds.ZoneBounds.{ZoneBounds}
 use Rattle.tre_zone.proofs.HeldSets.{Held-empty, Scales-Held, IsOrdered-Held}
-use Rattle.tre_syntax.specs.PatternTree.{PatternTree, intersection, restriction}
+use Rattle.tre_syntax.specs.PatternTree.{intersection, restriction}
 use Rattle.tre_edges.specs.Piece.{end_of_piece}
 use Rattle.tre_edges.specs.declared.piece.Piece.{Piece}
 use Rattle.tre_mark.specs.MarkTree.{MarkTree, intersection_one, restriction_one}
-use Rattle.tre_mark.specs.Marked.{AnyDuration, Marked}
 use Rattle.tre_forms.specs.Begun.{EndsFrom}
-use Rattle.tre_forms.specs.Dull.{IsDullOver, None}
-use Rattle.tre_forms.specs.Enters.{over, Enters}
+use Rattle.tre_forms.specs.Dull.{None}
+use Rattle.tre_forms.specs.Enters.{Enters}
 use Rattle.tre_forms.proofs.Idle.{left_out_enters, nothing_enters}
 use Rattle.tre_forms.proofs.Whole.{whole_restriction_enters, whole_intersection_enters}
 use Rattle.tre_node.specs.declared.node.Around.{Around}
-use Rattle.tre_node.specs.declared.node.Node.{Node, Eps, Lit, Rise, Fall, Event, Seq', Alt', Meet', Star', Within'}
+use Rattle.tre_node.specs.declared.node.Node.{Node, Meet', Within'}
 use Rattle.tre_node.specs.IsNode.{IsMade, AreOuter, least_of}
 use Rattle.tre_node.specs.NodeTree.{around_of, tree_of_node, mark_of_node, led_by}
 use Rattle.tre_node.specs.HasEntered.{MayEnter, HasEntered, HaveBothEntered, LeadsIn}
-use Rattle.tre_node.specs.Looked.{Looked, IsReach, StillLead, AreLed}
+use Rattle.tre_node.specs.Looked.{Looked}
 use Rattle.tre_node.specs.Outer.{AreKept}
 use Rattle.tre_node.proofs.Instances.{restriction_led, intersection_led, moments_cover_all, moments_are_instants, none_cover, all_moments, held_moments, instants_from, instants_all, enters_narrow}
-use Rattle.tre_node.proofs.Parts.{enters_none, looked_tells, none_from, sound_now}
+use Rattle.tre_node.proofs.Parts.{looked_tells, none_from, sound_now}
 
 led_whole : (whole : Bool) (outer : List ZoneBounds) → whole ≡ true
     → led_by whole outer ≡ instants_of 0 TIME_MAX ∷ []

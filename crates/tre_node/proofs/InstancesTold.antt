@@ -1,32 +1,30 @@
 -- An instance was looked at where its body was.
-use Rattle.std.proofs.Common.{◌≡◌, ◌∙◌, ℕ, ◌+◌, ◌-◌, ◌*◌, ◌<◌, ◌≤◌, ◌⊎◌, min, List, [], ◌∷◌, Option, None, Some, MatchOption, MatchBool, Bool, true, false, ⊎_elim, ap, refl, sym, subst, arith}
+use Rattle.std.proofs.Common.{◌≡◌, ℕ, ◌*◌, ◌<◌, ◌≤◌, ◌⊎◌, min, List, [], ◌∷◌, Option, None, Some, MatchOption, MatchBool, Bool, true, false, ⊎_elim, ap, refl, sym, subst, arith}
 use Rattle.std.proofs.Math.Nat.{mul-le-mul_right}
 use Rattle.std.proofs.lemmas.Bool.{cases_lt}
-use Rattle.tre_pairs.specs.Pairs.{Pairs, Both, Composed, Lasting}
+use Rattle.tre_pairs.specs.Pairs.{Pairs, Both, Lasting}
 use Rattle.tre_pairs.proofs.Laws.{IsOrdered}
 use Rattle.tre_pairs.specs.declared.TheConstants.{TIME_MAX}
 use Rattle.tre_zone.specs.Held.{Held}
 use Rattle.tre_zone.specs.Interval.{IntervalEnds, LastsWithin}
-use Rattle.tre_zone.specs.Longest.{IsLongest, LastsUpTo}
 use Rattle.tre_zone.specs.Zone.{instants_of}
 use Rattle.tre_zone.specs.declared.zone_bounds.ZoneBounds.{ZoneBounds}
 use Rattle.tre_zone.proofs.Instants.{instants-holds}
 use Rattle.tre_trace.specs.Trace.{Timeline}
-use Rattle.tre_syntax.specs.PatternTree.{PatternTree, intersection, restriction}
+use Rattle.tre_syntax.specs.PatternTree.{intersection, restriction}
 use Rattle.tre_edges.specs.Piece.{end_of_piece}
 use Rattle.tre_edges.specs.declared.piece.Piece.{Piece}
-use Rattle.tre_mark.specs.MarkTree.{MarkTree, intersection_one, restriction_one}
-use Rattle.tre_mark.specs.Marked.{AnyDuration, Marked}
-use Rattle.tre_forms.specs.Enters.{over}
+use Rattle.tre_mark.specs.MarkTree.{intersection_one, restriction_one}
+use Rattle.tre_mark.specs.Marked.{AnyDuration}
 use Rattle.tre_forms.proofs.Forms.{begin_end}
 use Rattle.tre_forms.proofs.Whole.{AreAllMoments}
 use Rattle.tre_node.specs.declared.node.Around.{Around}
 use Rattle.tre_node.specs.declared.node.Node.{Node}
-use Rattle.tre_node.specs.IsNode.{AreOuter, IsIdle, IsMade, least_of}
+use Rattle.tre_node.specs.IsNode.{AreOuter, IsMade, least_of}
 use Rattle.tre_node.specs.Looked.{AreLed, HasLooked, IsReach, StillLead, Told}
 use Rattle.tre_node.specs.NodeTree.{around_of, led_by, mark_of_node, tree_of_node}
 use Rattle.tre_node.specs.Outer.{KeepsInReach}
-use Rattle.tre_node.specs.Telling.{LooksAtBody, LooksAtBoth, Puts, PutsBehind}
+use Rattle.tre_node.specs.Telling.{LooksAtBody, LooksAtBoth, PutsBehind}
 use Rattle.tre_node.proofs.FormsTold.{intersection_told, restriction_told, whole_intersection_told, whole_restriction_told}
 use Rattle.tre_node.proofs.FoundSets.{holds_alone}
 use Rattle.tre_node.proofs.Looks.{part_idle, part_told, tells_with}

@@ -2,21 +2,19 @@
 use Rattle.std.proofs.Common.{◌≡◌, ◌∙◌, ℕ, zero, suc, ◌+◌, ◌-◌, ◌*◌, ◌<◌, ◌≤◌, ◌⊎◌, ◌↔◌, inl, inr, ⊎_elim, Bool, true, false, MatchBool, Option, None, Some, MatchOption, All, List, [], ◌∷◌, ◌++◌, length, get_or, set, take, drop, ap, refl, sym, subst, arith}
 use Rattle.std.proofs.Math.Nat.{mul-le-mul_right}
 use Rattle.std.proofs.lemmas.List.{take_more, take_all, take_rest, set_split, take-append-drop}
-use Rattle.std.proofs.lemmas.List.Elements.{All-append, All-cons, All-nil, All-head, All-tail, All-set, All-push, All-take, All-drop, All-more, All-get_or}
+use Rattle.std.proofs.lemmas.List.Elements.{All-append, All-cons, All-nil, All-head, All-tail, All-set, All-take, All-drop}
 use Rattle.std.specs.List.{items_where_true}
 use Rattle.std.specs.List.Retain.{ReturnsInTurn, IsFiltered}
 use Rattle.tre_pairs.specs.Pairs.{Pairs, Either}
 use Rattle.tre_pairs.specs.Before.{Before}
-use Rattle.tre_zone.specs.Held.{Held, EndBy, IsLatest}
-use Rattle.tre_zone.specs.Longest.{LastsUpTo}
+use Rattle.tre_zone.specs.Held.{Held, IsLatest}
 use Rattle.tre_zone.specs.Zone.{ZoneHolds, IsZoneOf, HasNoPair}
 use Rattle.tre_zone.specs.ZoneList.{SetHolds, HoldExactly}
-use Rattle.tre_zone.specs.United.{GivesUnion}
 use Rattle.tre_zone.specs.declared.zone_bounds.ZoneBounds.{ZoneBounds}
 use Rattle.tre_zone.proofs.ZoneListLemmas.{SetHolds-append, SetHolds-empty}
 use Rattle.tre_node.specs.declared.joining.Joined.{Joined}
 use Rattle.tre_node.specs.IsNode.{IsInReach}
-use Rattle.tre_node.specs.Outer.{AreKept, EndsFromTick, EndsBeforeTick, IsOutOfReach, IsEarly, IsLate, GivesEarly, Keeps, KeepsInReach, JoinsAll, JoinsAt}
+use Rattle.tre_node.specs.Outer.{EndsFromTick, EndsBeforeTick, IsOutOfReach, IsEarly, IsLate, GivesEarly, Keeps, KeepsInReach, JoinsAll, JoinsAt}
 
 -- ---- in reach
 

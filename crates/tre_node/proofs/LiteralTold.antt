@@ -1,15 +1,14 @@
 -- What a literal tells over a piece.
-use Rattle.std.proofs.Common.{◌≡◌, ◌∙◌, ℕ, ◌-◌, ◌*◌, ◌<◌, ◌≤◌, List, [], ◌∷◌, Option, Bool, true, false, inl, inr, ⊎_elim, arith, ap, refl, sym, subst}
+use Rattle.std.proofs.Common.{◌∙◌, ℕ, ◌*◌, ◌<◌, List, [], inl, inr, ⊎_elim, arith, refl, sym, subst}
 use Rattle.std.proofs.Math.Nat.{mul-le-mul_left, mul-lt-mul_of_pos_right, le_of_mul-le-mul_left}
 use Rattle.std.proofs.lemmas.Bool.{cases_lt, false≢true}
 use Rattle.std.specs.Prelude.{All}
 use Rattle.std.proofs.lemmas.List.Elements.{All-nil}
 use Rattle.tre_pairs.specs.Cuts.{JoinedAt}
-use Rattle.tre_pairs.specs.Pairs.{Composed}
 use Rattle.tre_pairs.proofs.Laws.{Agree, Scales}
 use Rattle.tre_pairs.proofs.SameLaws.{same_agree}
 use Rattle.tre_pairs.proofs.Ticks.{eq_up, eq_down, ge_up, ge_down}
-use Rattle.tre_zone.specs.Held.{Held, IsSetOf}
+use Rattle.tre_zone.specs.Held.{Held}
 use Rattle.tre_zone.specs.Longest.{LastsUpTo}
 use Rattle.tre_zone.specs.Zone.{IsInSpan, IsOnward}
 use Rattle.tre_zone.specs.declared.zone_bounds.ZoneBounds.{ZoneBounds}
@@ -21,21 +20,18 @@ use Rattle.tre_syntax.specs.PatternTree.{PatternTree, literal, atom}
 use Rattle.tre_edges.specs.Piece.{end_of_piece}
 use Rattle.tre_edges.specs.declared.piece.Piece.{Piece}
 use Rattle.tre_mark.specs.MarkTree.{MarkTree, atom_mark}
-use Rattle.tre_mark.specs.Marked.{GoesOn, Marked}
+use Rattle.tre_mark.specs.Marked.{Marked}
 use Rattle.tre_mark.proofs.Agreeing.{agree_sym, agree_then, joined_composed}
-use Rattle.tre_forms.specs.Begun.{Begins}
 use Rattle.tre_forms.specs.Dull.{None}
 use Rattle.tre_forms.specs.Enters.{alone, Enters}
-use Rattle.tre_forms.proofs.Forms.{begin_end}
 use Rattle.tre_forms.proofs.Idle.{dull_literal}
 use Rattle.tre_node.specs.declared.node.Around.{Around}
 use Rattle.tre_node.specs.declared.node.Stretch.{Stretch}
-use Rattle.tre_node.specs.IsNode.{IsMade, IsNode, IsStretch}
-use Rattle.tre_node.specs.Looked.{HasLooked, HoldsOn, Tells, Told}
+use Rattle.tre_node.specs.IsNode.{IsStretch}
 use Rattle.tre_node.specs.NodeTree.{begun_at}
 use Rattle.tre_node.specs.Telling.{EndsBegun, HoldsBegun, LiteralLooks}
 use Rattle.tre_node.proofs.BegunAt.{begin_before, begun_end, begun_later, held_begun, stretches_later}
-use Rattle.tre_node.proofs.SetsOf.{set_agrees, set_of}
+use Rattle.tre_node.proofs.SetsOf.{set_agrees}
 
 Scales-onward : (from to : ℕ) → Scales (IsOnward from to)
 Scales-onward from to = record {

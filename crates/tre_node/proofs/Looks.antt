@@ -1,34 +1,30 @@
 -- A node was looked at where its parts were.
-use Rattle.std.proofs.Common.{◌≡◌, ◌∙◌, ℕ, ◌*◌, ◌<◌, ◌≤◌, ◌⊎◌, List, [], ◌∷◌, Option, Some, Bool, false, ap, refl, sym, subst, arith}
-use Rattle.tre_pairs.specs.Pairs.{Pairs, Composed, Either, Chain}
+use Rattle.std.proofs.Common.{◌≡◌, ◌∙◌, ℕ, ◌⊎◌, List, [], Option, Bool, false, refl, sym, subst, arith}
+use Rattle.tre_pairs.specs.Pairs.{Composed, Either, Chain}
 use Rattle.tre_pairs.proofs.Laws.{IsInstant}
 use Rattle.tre_zone.specs.Held.{Held, IsSetOf}
 use Rattle.tre_zone.specs.Longest.{IsLongest}
 use Rattle.tre_zone.specs.Zone.{GivesZone, IsInstantBetween}
-use Rattle.tre_zone.specs.ZoneList.{HoldExactly}
 use Rattle.tre_zone.specs.declared.zone_bounds.ZoneBounds.{ZoneBounds}
-use Rattle.tre_zoneset.specs.ZoneSet.{FoundHolds}
 use Rattle.tre_zoneset.proofs.Unions.{FoundHolds-exact}
 use Rattle.tre_state.specs.State.{tree_of}
-use Rattle.tre_state.specs.StateTree.{StateTree}
-use Rattle.tre_state.specs.declared.names.TheConstants.{NAMES_MAX}
 use Rattle.tre_state.specs.declared.state.State.{State}
 use Rattle.tre_trace.specs.Trace.{Timeline}
 use Rattle.tre_syntax.specs.Meaning.{MatchesRest}
-use Rattle.tre_syntax.specs.PatternTree.{Atom, NumbersBelow, PatternTree, empty, literal, rise, fall, event, atom, sequence, alternation, repetition}
+use Rattle.tre_syntax.specs.PatternTree.{Atom, PatternTree, empty, rise, fall, event, atom}
 use Rattle.tre_syntax.specs.Rest.{Rest, AtomMatches}
 use Rattle.tre_syntax.proofs.CutMeaning.{IsBounded-rest, IsOrdered-rest}
 use Rattle.tre_edges.specs.Piece.{end_of_piece}
 use Rattle.tre_edges.specs.declared.piece.Piece.{Piece}
-use Rattle.tre_mark.specs.MarkTree.{MarkTree, atom_mark, sequence_mark, alternation_mark, repetition_mark}
+use Rattle.tre_mark.specs.MarkTree.{MarkTree, atom_mark}
 use Rattle.tre_mark.specs.Marked.{EndBetween}
 use Rattle.tre_forms.specs.Enters.{over, alone}
 use Rattle.tre_node.specs.declared.node.Around.{Around}
 use Rattle.tre_node.specs.declared.node.Node.{Node, Eps, Lit, Rise, Fall, Event, Seq', Alt', Meet', Star', Within'}
 use Rattle.tre_node.specs.IsNode.{IsIdle, IsMade, IsNode, IsSound}
-use Rattle.tre_node.specs.Looked.{HasLooked, HoldsOn, Looked, Tells, Told}
-use Rattle.tre_node.specs.NodeTree.{around_of, begun_at, mark_of_node, tree_of_node}
-use Rattle.tre_node.specs.Telling.{AlternationLooks, LiteralLooks, Puts, PutsFound, RepetitionLooks, SequenceLooks}
+use Rattle.tre_node.specs.Looked.{HasLooked, Tells, Told}
+use Rattle.tre_node.specs.NodeTree.{around_of, mark_of_node, tree_of_node}
+use Rattle.tre_node.specs.Telling.{AlternationLooks, Puts, PutsFound, RepetitionLooks, SequenceLooks}
 use Rattle.tre_node.proofs.FormsTold.{alternation_told, instant_told, repetition_told, sequence_told}
 use Rattle.tre_node.proofs.Parts.{looked_tells}
 use Rattle.tre_node.proofs.SetsOf.{set_exact}

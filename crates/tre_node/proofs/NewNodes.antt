@@ -1,5 +1,5 @@
 -- Nodes of which nothing has begun.
-use Rattle.std.proofs.Common.{◌≡◌, ◌∙◌, ℕ, ◌+◌, ◌*◌, ◌<◌, ◌≤◌, List, [], ◌∷◌, Option, None, Some, MatchOption, Bool, true, false, min, ⊎_elim, ap, refl, sym, subst, arith}
+use Rattle.std.proofs.Common.{◌≡◌, ◌∙◌, ℕ, ◌*◌, ◌≤◌, List, [], Option, None, Some, MatchOption, Bool, true, false, ap, refl, sym, subst, arith}
 use Rattle.std.specs.Prelude.{All}
 use Rattle.std.proofs.lemmas.List.Elements.{All-nil}
 use Rattle.tre_pairs.specs.declared.TheConstants.{TIME_MAX}

@@ -1,21 +1,20 @@
 -- A node was looked at where what it is made of was.
-use Rattle.std.proofs.Common.{◌≡◌, ◌∙◌, ℕ, ◌*◌, ◌<◌, ◌≤◌, ◌⊎◌, List, [], ◌∷◌, Option, Some, Bool, false, ap, refl, sym, subst, arith}
+use Rattle.std.proofs.Common.{◌≡◌, ◌∙◌, ℕ, List, [], Option, Bool, ap, refl, sym, subst}
 use Rattle.tre_pairs.specs.Pairs.{Both}
 use Rattle.tre_zone.specs.Interval.{IntervalEnds, LastsWithin}
 use Rattle.tre_zone.specs.declared.zone_bounds.ZoneBounds.{ZoneBounds}
 use Rattle.tre_state.specs.State.{tree_of}
 use Rattle.tre_state.specs.StateTree.{StateTree}
 use Rattle.tre_state.specs.declared.names.TheConstants.{NAMES_MAX}
-use Rattle.tre_state.specs.declared.state.State.{State}
 use Rattle.tre_trace.specs.Trace.{Timeline}
 use Rattle.tre_syntax.specs.PatternTree.{NumbersBelow, PatternTree, literal, atom, sequence, alternation, intersection, repetition, restriction}
 use Rattle.tre_edges.specs.declared.piece.Piece.{Piece}
-use Rattle.tre_mark.specs.MarkTree.{MarkTree, atom_mark, sequence_mark, alternation_mark, intersection_one, repetition_mark, restriction_one}
+use Rattle.tre_mark.specs.MarkTree.{atom_mark, sequence_mark, alternation_mark, intersection_one, repetition_mark, restriction_one}
 use Rattle.tre_mark.specs.Marked.{AnyDuration, Marked}
 use Rattle.tre_mark.proofs.Meanings.{IsOrdered-Marked}
 use Rattle.tre_forms.specs.Enters.{over}
 use Rattle.tre_node.specs.declared.node.Around.{Around}
-use Rattle.tre_node.specs.declared.node.Node.{Node, Eps, Lit, Rise, Fall, Event, Seq', Alt', Meet', Star', Within'}
+use Rattle.tre_node.specs.declared.node.Node.{Node, Lit, Seq', Alt', Meet', Star', Within'}
 use Rattle.tre_node.specs.IsNode.{IsNode, least_of}
 use Rattle.tre_node.specs.Looked.{AreLed, HasLooked, HoldsOn, IsReach, Tells}
 use Rattle.tre_node.specs.NodeTree.{begun_at, led_by, mark_of_node, tree_of_node}

@@ -1,8 +1,7 @@
 -- The second part of a sequence is entered by what the first tells.
 use Rattle.std.proofs.lemmas.Bool.{false≢true}
-use Rattle.std.proofs.Common.{◌≡◌, ℕ, ◌*◌, ◌⊎◌, ◌∙◌, ap, false, true, refl, Bool, sym, Option, List, [], inl, inr, ⊎_elim, subst}
+use Rattle.std.proofs.Common.{◌≡◌, ℕ, ◌*◌, ◌⊎◌, ◌∙◌, ap, false, true, refl, Bool, sym, Option, List, [], inl, ⊎_elim, subst}
 use Rattle.tre_pairs.specs.Pairs.{Pairs, Composed, Either}
-use Rattle.tre_pairs.proofs.Laws.{IsOrdered}
 use Rattle.tre_zone.specs.Held.{Held, IsSetOf}
 use Rattle.tre_zone.specs.Longest.{LastsUpTo, IsLongest}
 use Rattle.tre_zone.specs.declared.zone_bounds.ZoneBounds.{ZoneBounds}

@@ -1,5 +1,5 @@
 -- What a rest makes of a mark, of what it makes of the parts.
-use Rattle.std.proofs.Common.{◌≡◌, ℕ, ◌-◌, ◌*◌, ◌<◌, ◌≤◌, List, [], ◌∷◌, Option, inl, inr, ⊎_elim, arith, ap}
+use Rattle.std.proofs.Common.{◌≡◌, ℕ, ◌-◌, ◌*◌, List, [], Option, inl, inr, ⊎_elim, arith, ap}
 use Rattle.tre_pairs.specs.Pairs.{Pairs, Composed, Either, Both, Lasting, Chain}
 use Rattle.tre_pairs.specs.Same.{Same}
 use Rattle.tre_pairs.proofs.Agreement.{Agree-Chain, Agree-Both, Agree-Lasting}

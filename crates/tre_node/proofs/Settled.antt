@@ -11,20 +11,19 @@ use Rattle.tre_zone.specs.Longest.{LastsUpTo, IsLongest}
 use Rattle.tre_zone.specs.declared.zone_bounds.ZoneBounds.{ZoneBounds}
 use Rattle.tre_state.specs.State.{tree_of}
 use Rattle.tre_state.specs.declared.names.TheConstants.{NAMES_MAX}
-use Rattle.tre_state.specs.declared.state.State.{State}
 use Rattle.tre_syntax.specs.PatternTree.{NumbersBelow, PatternTree, literal, rise, fall, event, atom, sequence, alternation, intersection, repetition, restriction}
 use Rattle.tre_syntax.specs.Rest.{Rest}
 use Rattle.tre_edges.specs.Piece.{end_of_piece}
 use Rattle.tre_edges.specs.declared.piece.Piece.{Piece}
-use Rattle.tre_mark.specs.MarkTree.{MarkTree, atom_mark, sequence_mark, alternation_mark, intersection_one, repetition_mark, restriction_one}
+use Rattle.tre_mark.specs.MarkTree.{MarkTree, intersection_one, restriction_one}
 use Rattle.tre_mark.specs.Marked.{IsNothing, Marked}
 use Rattle.tre_forms.specs.Enters.{behind, Enters, Goes}
 use Rattle.tre_node.specs.declared.node.Around.{Around}
 use Rattle.tre_node.specs.declared.node.Node.{Node, Eps, Lit, Rise, Fall, Event, Seq', Alt', Meet', Star', Within'}
 use Rattle.tre_node.specs.declared.node.Stretch.{Stretch}
-use Rattle.tre_node.specs.IsNode.{AreOuter, IsIdle, IsMade, IsNode, IsSound, IsStretch, least_of}
-use Rattle.tre_node.specs.NodeTree.{around_of, begun_at, led_by, mark_of_node, tree_of_node}
-use Rattle.tre_node.specs.HasEntered.{HasEntered, HasEnteredForm, HasGoneIn}
+use Rattle.tre_node.specs.IsNode.{AreOuter, IsIdle, IsMade, IsNode, IsStretch, least_of}
+use Rattle.tre_node.specs.NodeTree.{around_of, led_by, mark_of_node, tree_of_node}
+use Rattle.tre_node.specs.HasEntered.{HasEnteredForm, HasGoneIn}
 use Rattle.tre_node.specs.Settling.{AreAlike, AreKnown, IsForgotten, IsKnown, Settles, SettlesBody, SettlesSides}
 use Rattle.tre_node.proofs.NewNodes.{idle_nothing, outer_none}
 use Rattle.tre_node.proofs.Parts.{made_part, made_whole}

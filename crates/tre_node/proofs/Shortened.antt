@@ -1,6 +1,6 @@
 -- Lists without what lasts too long.
-use Rattle.std.proofs.Common.{◌≡◌, ◌∙◌, ℕ, List, [], Option, Bool, refl, sym, subst}
-use Rattle.tre_pairs.specs.Pairs.{Pairs, Either, Lasting}
+use Rattle.std.proofs.Common.{◌≡◌, ◌∙◌, ℕ, List, [], Option, Bool, sym, subst}
+use Rattle.tre_pairs.specs.Pairs.{Either, Lasting}
 use Rattle.tre_pairs.proofs.SameLaws.{same_refl, same_trans}
 use Rattle.tre_zone.specs.Held.{Held}
 use Rattle.tre_zone.specs.Longest.{IsLongest, LastsUpTo}
@@ -8,11 +8,9 @@ use Rattle.tre_zone.specs.ZoneList.{SetHolds, HoldExactly}
 use Rattle.tre_zone.specs.declared.zone_bounds.ZoneBounds.{ZoneBounds}
 use Rattle.tre_syntax.specs.PatternTree.{PatternTree}
 use Rattle.tre_edges.specs.declared.piece.Piece.{Piece}
-use Rattle.tre_edges.specs.Piece.{end_of_piece}
 use Rattle.tre_mark.specs.MarkTree.{MarkTree}
 use Rattle.tre_mark.specs.Marked.{Marked}
 use Rattle.tre_forms.specs.Enters.{alone}
-use Rattle.tre_node.specs.declared.node.Around.{Around}
 use Rattle.tre_node.specs.declared.node.Node.{Node, Eps, Lit, Rise, Fall, Event, Seq', Alt', Meet', Star', Within'}
 use Rattle.tre_node.specs.IsNode.{IsMade, IsNode}
 use Rattle.tre_node.specs.Looked.{Told}

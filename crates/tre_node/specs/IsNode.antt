@@ -1,5 +1,5 @@
 -- What is so of every node, at the time up to which the trace was read.
-use Rattle.std.specs.Prelude.{◌≡◌, ℕ, ◌+◌, ◌*◌, ◌<◌, ◌≤◌, pos, ◌+ℤ◌, ◌≤ℤ◌, All, List, [], ◌∷◌, Bool, true, false, Option, None, Some, MatchOption, min}
+use Rattle.std.specs.Prelude.{◌≡◌, ℕ, ◌+◌, ◌*◌, ◌<◌, ◌≤◌, pos, ◌≤ℤ◌, All, List, [], ◌∷◌, Bool, true, false, Option, None, Some, MatchOption, min}
 use Rattle.tre_zone.specs.Bound.{sum_of}
 use Rattle.tre_zone.specs.Held.{Held, EndBy}
 use Rattle.tre_zone.specs.Longest.{IsLongest}

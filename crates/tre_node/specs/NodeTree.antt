@@ -1,5 +1,5 @@
 -- Patterns under way, seen as trees.
-use Rattle.std.specs.Prelude.{◌≡◌, ℕ, ◌*◌, ◌+◌, pos, ◌-ℤ◌, List, [], ◌∷◌, Option, Bool, true, false, map}
+use Rattle.std.specs.Prelude.{ℕ, ◌*◌, ◌+◌, pos, ◌-ℤ◌, List, [], ◌∷◌, Bool, true, false, map}
 use Rattle.tre_pairs.specs.declared.TheConstants.{TIME_MAX}
 use Rattle.tre_zone.specs.Bound.{sum_of}
 use Rattle.tre_zone.specs.Zone.{instants_of}

@@ -1,11 +1,11 @@
 -- What had led to where a part of a pattern began.
-use Rattle.std.specs.Prelude.{◌≡◌, ℕ, ◌*◌, ◌+◌, ◌-◌, ◌<◌, ◌≤◌, All, List, [], ◌∷◌, Option, MatchOption, Bool, MatchBool, ℤ, pos, ◌≤ℤ◌, get_or, length}
+use Rattle.std.specs.Prelude.{◌≡◌, ℕ, ◌*◌, ◌+◌, ◌-◌, ◌<◌, ◌≤◌, All, List, [], ◌∷◌, Option, MatchOption, ℤ, pos, ◌≤ℤ◌, get_or, length}
 use Rattle.std.specs.Int.{int_min}
 use Rattle.tre_pairs.specs.Pairs.{Pairs, Either}
 use Rattle.tre_pairs.specs.Before.{Before}
 use Rattle.tre_zone.specs.Bound.{sum_of}
 use Rattle.tre_zone.specs.Held.{Held, EndBy}
-use Rattle.tre_zone.specs.Zone.{ZoneHolds, HasNoPair, IsZoneOf}
+use Rattle.tre_zone.specs.Zone.{ZoneHolds, IsZoneOf}
 use Rattle.tre_zone.specs.ZoneList.{SetHolds, HoldExactly}
 use Rattle.tre_zone.specs.Longest.{LastsUpTo}
 use Rattle.tre_node.specs.declared.joining.Joined.{Joined}

@@ -1,5 +1,5 @@
 -- Stretches of moments at which pairs begin.
-use Rattle.std.specs.Prelude.{◌≡◌, ℕ, ◌*◌, ◌-◌, ◌<◌, ◌⊎◌, ◌↔◌, All, List, [], ◌∷◌, Option, MatchOption, pos, ◌+ℤ◌, ◌≤ℤ◌, get_or}
+use Rattle.std.specs.Prelude.{◌≡◌, ℕ, ◌-◌, ◌<◌, ◌⊎◌, ◌↔◌, All, List, [], ◌∷◌, Option, MatchOption, pos, ◌+ℤ◌, ◌≤ℤ◌, get_or}
 use Rattle.tre_zone.specs.Bound.{Meets}
 use Rattle.tre_zone.specs.Held.{Held}
 use Rattle.tre_zone.specs.declared.zone_bounds.ZoneBounds.{ZoneBounds}

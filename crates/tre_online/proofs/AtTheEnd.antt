@@ -1,5 +1,5 @@
 -- What a session tells where the trace ends.
-use Rattle.std.proofs.Common.{◌≡◌, ℕ, ◌*◌, ◌<◌, ◌≤◌, ◌↔◌, None, List, [], refl, sym, ap, subst, inl, inr, ⊎_elim, arith}
+use Rattle.std.proofs.Common.{◌≡◌, ℕ, ◌*◌, ◌<◌, ◌≤◌, ◌↔◌, None, List, [], refl, sym, subst, inl, inr, ⊎_elim, arith}
 use Rattle.std.proofs.lemmas.List.{append-nil}
 use Rattle.tre_pairs.specs.Pairs.{Either}
 use Rattle.tre_zone.specs.ZoneList.{SetHolds, IsApart, AreTight, HoldExactly}
@@ -13,7 +13,7 @@ use Rattle.tre_syntax.specs.Cut.{last_of, MatchesBehind}
 use Rattle.tre_syntax.specs.Meaning.{Matches, MatchesRest}
 use Rattle.tre_syntax.specs.Pattern.{pattern_tree}
 use Rattle.tre_syntax.specs.PatternTree.{PatternTree}
-use Rattle.tre_syntax.specs.Rest.{Rest, rest_of, whole, prefixed}
+use Rattle.tre_syntax.specs.Rest.{rest_of, whole, prefixed}
 use Rattle.tre_syntax.proofs.CutMeaning.{IsBounded-rest}
 use Rattle.tre_mark.specs.MarkTree.{MarkTree}
 use Rattle.tre_mark.specs.Marked.{Marked}

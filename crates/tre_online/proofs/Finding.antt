@@ -1,6 +1,5 @@
 -- What a node tells of a piece and at the end, as a session keeps it.
-use Rattle.std.proofs.Common.{◌≡◌, ◌∙◌, ℕ, ◌*◌, ◌<◌, ◌≤◌, ◌++◌, Option, None, true, List, [], ◌∷◌, ap, refl, sym, subst, inl, inr, ⊎_elim, arith}
-use Rattle.tre_pairs.specs.Pairs.{Either}
+use Rattle.std.proofs.Common.{◌≡◌, ◌∙◌, ℕ, ◌++◌, Option, None, true, List, [], ◌∷◌, subst, inl, inr, ⊎_elim, arith}
 use Rattle.tre_pairs.specs.Same.{Same}
 use Rattle.tre_edges.specs.Piece.{end_of_piece}
 use Rattle.tre_edges.specs.declared.piece.Piece.{Piece}
@@ -27,7 +26,7 @@ use Rattle.tre_node.specs.NodeTree.{around_of, mark_of_node, tree_of_node}
 use Rattle.tre_node.specs.declared.node.Node.{Node}
 use Rattle.tre_node.proofs.Instances.{moments_are_instants}
 use Rattle.tre_node.proofs.Looks.{part_told}
-use Rattle.tre_online.specs.Reading.{AreMoments, FindsInPiece, ReadsPiece, TellsAtEnd, TellsOver}
+use Rattle.tre_online.specs.Reading.{FindsInPiece, ReadsPiece, TellsAtEnd, TellsOver}
 use Rattle.tre_online.proofs.Standing.{moments_one}
 
 -- What ended and what is inside, together.

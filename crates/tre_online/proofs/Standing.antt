@@ -14,10 +14,9 @@ use Rattle.tre_zone.specs.Held.{Held}
 use Rattle.tre_syntax.specs.Cut.{last_of, MatchesBehind}
 use Rattle.tre_syntax.specs.Meaning.{Matches, MatchesRest}
 use Rattle.tre_syntax.specs.Pattern.{pattern_tree}
-use Rattle.tre_syntax.specs.PatternTree.{PatternTree, atom, empty}
-use Rattle.tre_syntax.specs.declared.pattern.Pattern.{Pattern}
+use Rattle.tre_syntax.specs.PatternTree.{PatternTree}
 use Rattle.tre_syntax.specs.Rest.{Rest, rest_of, prefixed}
-use Rattle.tre_syntax.proofs.CutMeaning.{IsCut-Matches, IsBounded-rest, IsOrdered-rest, Scales-rest}
+use Rattle.tre_syntax.proofs.CutMeaning.{IsCut-Matches, IsBounded-rest, Scales-rest}
 use Rattle.tre_trace.specs.Trace.{Timeline, quiet, AreLong, end_of, Fits}
 use Rattle.tre_trace.specs.declared.segment.Segment.{Segment}
 use Rattle.tre_trace.proofs.Segments.{end_of-append, IsTrace-push}
@@ -32,8 +31,8 @@ use Rattle.tre_mark.specs.Marked.{Marked}
 use Rattle.tre_mark.specs.Nodes.{form_count}
 use Rattle.tre_forms.specs.Enters.{Enters, alone, behind, over}
 use Rattle.tre_node.specs.declared.node.Node.{Node}
-use Rattle.tre_node.specs.IsNode.{IsMade, IsNew, IsNode}
-use Rattle.tre_node.specs.NodeTree.{around_of, mark_of_node, tree_of_node}
+use Rattle.tre_node.specs.IsNode.{IsNew, IsNode}
+use Rattle.tre_node.specs.NodeTree.{mark_of_node, tree_of_node}
 use Rattle.tre_online.specs.Reading.{AreMoments, IsPieceFor, IsPastPiece, FindsInPiece, ReadsPiece, TellsOver}
 use Rattle.tre_online.specs.Session.{pattern_of, at_of, held_of, ended_of, node_of, kept_of, cut_after, AwaitsMatches, Begun, MatchesBegun, StandsFor, TellsNew}
 use Rattle.tre_online.specs.Told.{WasTold}

@@ -1,5 +1,5 @@
 -- What the functions inside a session promise each other.
-use Rattle.std.specs.Prelude.{◌≡◌, ℕ, ◌++◌, Option, Some, None, true, List}
+use Rattle.std.specs.Prelude.{◌≡◌, ℕ, Option, Some, None, true, List}
 use Rattle.tre_pairs.specs.Pairs.{Either}
 use Rattle.tre_edges.specs.Piece.{end_of_piece}
 use Rattle.tre_edges.specs.declared.piece.Piece.{Piece}

@@ -1,6 +1,6 @@
 -- That a node is one of its pattern, and that zones are apart, can be so in one way only: so a
 -- session may keep it.
-use Rattle.std.specs.Prelude.{◌≡◌, All, ℕ, ◌+◌, ◌*◌, ◌<◌, ◌≤◌, ℤ, pos, ◌≤ℤ◌, Option, Some, None, Bool, true, false, MatchOption, List, [], ◌∷◌}
+use Rattle.std.specs.Prelude.{◌≡◌, All, ℕ, ◌+◌, ◌*◌, ◌≤◌, ℤ, pos, ◌≤ℤ◌, Option, Some, None, Bool, true, false, MatchOption, List, [], ◌∷◌}
 use Rattle.std.specs.Coded.{Coded, Coded-set, ×_prop, Π_prop, →_prop, Unit-prop, le_prop, code_by, coded_list, coded_option, coded_ℕ, coded_ℤ, coded_bool, coded×}
 use native.Mathlib.Nat.{ℕ_set}
 use mathlib.Core.Path.{ap, refl}
@@ -9,7 +9,6 @@ use Rattle.tre_pairs.specs.declared.TheConstants.{TIME_MAX}
 use Rattle.tre_zone.specs.Bound.{sum_of}
 use Rattle.tre_zone.specs.Zone.{Includes}
 use Rattle.tre_zone.specs.ZoneList.{AreApart, IsApartFrom, IsApart}
-use Rattle.tre_zone.specs.Held.{Held, EndBy}
 use Rattle.tre_zone.specs.Longest.{IsLongest}
 use Rattle.tre_zone.specs.declared.zone_bounds.ZoneBounds.{ZoneBounds}
 use Rattle.tre_state.specs.State.{tree_of}
@@ -21,7 +20,7 @@ use Rattle.tre_mark.specs.Nodes.{form_count}
 use Rattle.tre_node.specs.declared.node.Around.{Around}
 use Rattle.tre_node.specs.declared.node.Node.{Node, Eps, Lit, Rise, Fall, Event, Seq', Alt', Meet', Star', Within'}
 use Rattle.tre_node.specs.declared.node.Stretch.{Stretch}
-use Rattle.tre_node.specs.IsNode.{AreOuter, IsIdle, IsInReach, IsMade, IsNode, IsSound, IsStretch, least_of}
+use Rattle.tre_node.specs.IsNode.{AreOuter, IsIdle, IsMade, IsNode, IsSound, IsStretch, least_of}
 use Rattle.tre_node.specs.NodeTree.{around_of, tree_of_node}
 use Rattle.tre_online.specs.declared.session.Progress.{Progress}
 

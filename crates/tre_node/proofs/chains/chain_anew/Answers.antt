@@ -1,7 +1,7 @@
-use Rattle.std.proofs.Common.{List, subst, refl}
+use Rattle.std.proofs.Common.{List, subst}
 use Rattle.std.proofs.lemmas.Result.{on_ok_weaker}
 use Rattle.tre_pairs.proofs.Agreement.{Agree-Chain}
-use Rattle.tre_zone.specs.Held.{Held, IsSetOf}
+use Rattle.tre_zone.specs.Held.{Held}
 use Rattle.tre_zone.specs.Zone.{IsInstantBetween}
 use Rattle.tre_zone.specs.ZoneList.{SetHolds, HoldExactly}
 use Rattle.tre_zone.specs.declared.zone_bounds.ZoneBounds.{ZoneBounds}

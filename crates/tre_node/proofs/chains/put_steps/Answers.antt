@@ -1,8 +1,6 @@
 use Rattle.std.proofs.Common.{◌∷◌, []}
 use Rattle.std.proofs.lemmas.Result.{on_ok_weaker}
-use Rattle.tre_pairs.proofs.Laws.{IsOrdered}
 use Rattle.tre_zone.specs.Held.{Held}
-use Rattle.tre_zone.specs.Zone.{IsInstantBetween}
 use Rattle.tre_mark.proofs.Agreeing.{agree_either, agree_refl, agree_then}
 use Rattle.tre_node.proofs.Chaining.{over_chains, instants_alike}
 use Rattle.tre_node.proofs.Lists.{two_lists}

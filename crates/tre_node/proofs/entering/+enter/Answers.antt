@@ -1,16 +1,5 @@
-use Rattle.std.proofs.Common.{rules, refl, inl, inr, ap, sym, subst, ◌∙◌, ◌≡◌, ◌⊎◌, false, [], OnOk, Option, Bool}
+use Rattle.std.proofs.Common.{refl, inl, inr, ap, sym, ◌∙◌}
 use Rattle.std.proofs.lemmas.Result.{on_ok_weaker}
-use Rattle.tre_pairs.specs.Pairs.{Composed, Either}
-use Rattle.tre_zone.specs.Held.{Held, IsSetOf}
-use Rattle.tre_edges.specs.Piece.{end_of_piece}
-use Rattle.tre_mark.specs.MarkTree.{MarkTree, sequence_mark}
-use Rattle.tre_forms.specs.Begun.{EndsFrom}
-use Rattle.tre_syntax.specs.PatternTree.{sequence}
-use Rattle.tre_forms.specs.Enters.{Enters}
-use Rattle.tre_node.specs.NodeTree.{around_of, tree_of_node, mark_of_node}
-use Rattle.tre_node.specs.HasEntered.{HasEntered, HaveEntered}
-use Rattle.tre_node.specs.Looked.{Looked}
-use Rattle.tre_node.specs.declared.node.Node.{Node}
 use Rattle.tre_node.proofs.Parts.{parts_go, set_by, sequence_entered_by, parts_named}
 use Rattle.tre_node.proofs.FormsEntered.{empty_entered, rise_entered, fall_entered, event_entered, same_entered, entered_by, literal_entered, alternation_entered, both_named, repetition_entered, again_named}
 use Rattle.tre_node.proofs.InstancesEntered.{restriction_entered, intersection_entered, part_named, sides_named}

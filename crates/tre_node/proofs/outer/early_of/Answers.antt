@@ -1,5 +1,4 @@
 use Rattle.std.proofs.Common.{refl}
-use Rattle.tre_zone.proofs.ZoneKeys.{zones_same}
 use Rattle.tre_node.specs.Outer.{early_of}
 use Rattle.tre_node.proofs.outer.early_of.Goals as goal
 

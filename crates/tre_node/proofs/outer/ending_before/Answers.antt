@@ -1,4 +1,4 @@
-use Rattle.std.proofs.Common.{◌≡◌, ◌*◌, arith, pos}
+use Rattle.std.proofs.Common.{arith}
 use Rattle.std.proofs.lemmas.Int.{ints}
 use Rattle.tre_node.proofs.Early.{early_canonical, early_exact, early_all, early_none, end_within}
 use Rattle.tre_node.proofs.outer.ending_before.Goals as goal

@@ -1,4 +1,4 @@
-use Rattle.std.proofs.Common.{◌+◌, ◌-◌, ◌∙◌, Any, List, drop, inl, inr, length, refl, subst, arith}
+use Rattle.std.proofs.Common.{◌+◌, ◌-◌, Any, List, drop, inl, inr, length, subst, arith}
 use Rattle.std.proofs.lemmas.List.{length-drop, take_all}
 use Rattle.tre_zone.specs.Zone.{Includes}
 use Rattle.tre_zone.specs.declared.zone_bounds.ZoneBounds.{ZoneBounds}

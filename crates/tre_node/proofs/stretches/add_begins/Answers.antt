@@ -1,4 +1,4 @@
-use Rattle.tre_node.proofs.Begins.{begins_none, begins_more, begins_all}
+use Rattle.tre_node.proofs.Begins.{begins_none, begins_more}
 use Rattle.tre_node.proofs.stretches.add_begins.Goals as goal
 
 pub loop-zone-init : goal.loop-zone-init

@@ -1,4 +1,4 @@
-use Rattle.std.proofs.Common.{length, ◌<◌, subst, sym, arith}
+use Rattle.std.proofs.Common.{arith}
 use Rattle.tre_node.proofs.Begins.{same_refl, same_then, same_two, place_kept}
 use Rattle.tre_node.proofs.stretches.join_next.Goals as goal
 

@@ -1,4 +1,4 @@
-use Rattle.std.proofs.Common.{◌≡◌, ◌∙◌, ap, set}
+use Rattle.std.proofs.Common.{◌∙◌, ap, set}
 use Rattle.tre_node.proofs.Begins.{replaced}
 use Rattle.tre_node.proofs.stretches.replace_two.Goals as goal
 

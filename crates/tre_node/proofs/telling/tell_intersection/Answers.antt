@@ -1,4 +1,4 @@
-use Rattle.std.proofs.Common.{◌∙◌, ap, refl, sym}
+use Rattle.std.proofs.Common.{refl}
 use Rattle.tre_node.proofs.SetsOf.{followed_set}
 use Rattle.tre_node.proofs.telling.tell_intersection.Goals as goal
 

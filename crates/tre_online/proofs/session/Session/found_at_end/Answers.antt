@@ -1,4 +1,3 @@
-use Rattle.std.proofs.Common.{refl}
 use Rattle.tre_online.proofs.Finding.{tells_closed}
 use Rattle.tre_online.proofs.session.Session.found_at_end.Goals as goal
 

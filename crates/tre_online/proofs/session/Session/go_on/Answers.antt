@@ -1,4 +1,4 @@
-use Rattle.std.proofs.Common.{◌∙◌, sym, subst, refl, arith}
+use Rattle.std.proofs.Common.{sym, subst, refl, arith}
 use Rattle.std.specs.Prelude.{ℕ}
 use Rattle.tre_node.specs.IsNode.{IsNode}
 use Rattle.tre_online.proofs.NewZones.{none_apart}

@@ -1,4 +1,3 @@
-use Rattle.std.proofs.Common.{subst}
 use Rattle.tre_syntax.specs.Pattern.{pattern_tree}
 use Rattle.tre_zoneset.proofs.Kept.{IsZoneSet-kept}
 use Rattle.tre_online.specs.Session.{ended_of}

@@ -1,5 +1,4 @@
-use Rattle.std.proofs.Common.{ap, refl}
-use Rattle.tre_mark.specs.Nodes.{form_count}
+use Rattle.std.proofs.Common.{refl}
 use Rattle.tre_online.proofs.Standing.{stands_after, tells_after, in_time_after, apart_after, well_after}
 use Rattle.tre_online.proofs.session.Session.segment.Goals as goal
 
