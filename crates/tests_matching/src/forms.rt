@@ -121,7 +121,7 @@ fn tell_behind(
 {
     let end = piece.begin + piece.segment.len;
     let mut now = ZoneSet::new(alloc);
-    now.push_apart(Zone::instants(end, end))?;
+    now.add_found(Some(Zone::instants(end, end)))?;
     tell_forms(alloc, expr, &now, piece, rows, told)
 }
 
