@@ -22,6 +22,7 @@ HEAD = re.compile(r"^(?:abbrev |unfoldable )?pub (?:record |data )?([^\s:(]+)")
 TYPE = re.compile(r"^(?:pub(?:\(crate\))? )?(?:struct|enum|const) (\w+).*?(?:;|\n\})$",
                   re.MULTILINE | re.DOTALL)
 MODEL = re.compile(r"^impl Model for (\w+) \{\n.*?\n\}$", re.MULTILINE | re.DOTALL)
+MODULE_OF = re.compile(r"^module ", re.MULTILINE)
 MODULE = re.compile(r"^use crate::(\w+);", re.MULTILINE)
 USE = re.compile(r"^(?:pub )?use ([\w:]+)::(?:(\w+)|\{([\w, \n]+)\});", re.MULTILINE)
 WORD = re.compile(r"[\w'-]*[A-Za-z][\w'-]*")
@@ -51,14 +52,27 @@ class File:
             self.read_specs()
 
     def read_specs(self):
-        # a definition stands between blank lines, with its comment above it
-        for block in self.text.split("\n\n"):
-            block = block.rstrip("\n")
-            heads = [found.group(1) for line in block.split("\n") if (found := HEAD.match(line))]
+        # a definition stands between blank lines, with its comment above it, and what is inside a
+        # module together
+        for block in self.blocks():
+            inner = re.sub("^  ", "", block, flags=re.M) if MODULE_OF.search(block) else block
+            heads = [found.group(1) for line in inner.split("\n") if (found := HEAD.match(line))]
             # a constructor stands for its type
             if "pub data" in block:
-                heads += re.findall(r"^  (\w+) : ", block, re.MULTILINE)
+                heads += [word for words in re.findall(r"^ +([\w ]+) : ", block, re.MULTILINE)
+                          for word in words.split()]
             self.items.update((head, block) for head in heads)
+
+    def blocks(self):
+        """What stands between blank lines; a module with all that is inside it is one."""
+        found = []
+        for block in self.text.split("\n\n"):
+            block = block.rstrip("\n")
+            if block[:1] == " " and found and MODULE_OF.search(found[-1]):
+                found[-1] += "\n\n" + block
+            else:
+                found.append(block)
+        return found
 
     def read_rust(self):
         self.items = {found.group(1): found.group(0) for found in TYPE.finditer(self.text)}

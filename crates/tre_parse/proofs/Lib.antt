@@ -1,4 +1,3 @@
-pub mod TokenWords
 pub mod Fixpoint
 pub mod Equations
 pub mod Same
@@ -10,6 +9,7 @@ pub mod Words
 pub mod Scans
 pub mod Counts
 pub mod Empties
+pub mod Skips
 pub mod Unkept
 pub mod Outcomes
 pub mod Numbers
@@ -19,6 +19,7 @@ pub mod WordTables
 pub mod Meant
 pub mod Agreement
 pub mod Named
+pub mod Past
 pub mod NumberedWords
 pub mod Judging
 pub mod Spelling
@@ -29,6 +30,7 @@ pub mod Fronts
 pub mod Steps
 pub mod Prefixes
 pub mod Table
+pub mod Pieces
 pub mod Depth
 pub mod NameNumbers
 pub mod Ends

@@ -1,23 +1,23 @@
 -- The words of a text are those that are scanned.
 use Rattle.std.proofs.Common.{◌≡◌, ℕ, ◌+◌, ◌-◌, ◌<◌, ◌≤◌, zero, suc, Bool, true, false, cond, ◌⊎◌, inl, inr, ⊎_elim, ◌&&◌, Option, Some, None, List, [], ◌∷◌, ◌++◌, take, drop, length, refl, sym, ◌∙◌, ap, subst, arith, rules}
-use Rattle.std.specs.Prelude.{if◌then◌else◌, nat_eq, nat_lt, Contains, map}
+use Rattle.std.specs.Prelude.{if◌then◌else◌, not, nat_eq, nat_lt, Contains, IsTrue, map}
 use Rattle.std.specs.List.{prefix_len, take_while, AllPass, list_all, starts_with}
 use Rattle.std.specs.Char.{is_ascii_digit}
 use Rattle.std.proofs.lemmas.Bool.Decides.{nat_tests}
 use Rattle.std.proofs.lemmas.List.{take-append-drop, length-take-le, length-append, length-drop, append_assoc}
 use Rattle.std.proofs.Math.Seq.{take-append_seam, drop-append_seam, take-append-add}
-use Rattle.std.proofs.lemmas.List.Sums.{prefix_len-le-length, list_all-from_AllPass}
+use Rattle.std.proofs.lemmas.List.Sums.{prefix_len-le-length, list_all-from_AllPass, AllPass-from_list_all}
 use Rattle.std.proofs.lemmas.List.Folds.{length-prefix_len}
 use Rattle.tre_decimal.specs.Decimal.{is_numeral, is_point}
-use Rattle.tre_state.specs.Name.{starts_name, continues_name, IsWord}
+use Rattle.tre_state.specs.Name.{starts_name, continues_name, is_reserved, IsWord}
 use Rattle.tre_parse.specs.declared.token.Token.{Token}
 use Rattle.tre_parse.specs.declared.lexeme.Lexeme.{Lexeme}
 use Rattle.tre_parse.specs.declared.lexeme.Lexeme.TheVariants.{Blank, Wrong, Name, Number, Sign}
 use Rattle.tre_parse.specs.Ends.{bytes_in}
 use Rattle.tre_parse.specs.Lexeme.{lexeme_named, word_lexeme, decimals_len, number_len, number_lexeme, first_sign, sign_lexeme, lexeme_of, FitsIn, reserved}
 use Rattle.tre_parse.specs.Signs.{TakesSign}
-use Rattle.tre_parse.specs.Words.{Word, name, event_name, number, sign, signs, Writes, BeginsWith, AreWords, at_end, blank, next, wrong, is_white_space}
-use Rattle.tre_parse.specs.TokenWords.{text_of, WordAt, raw_word, word_at}
+use Rattle.tre_parse.specs.Words.{Words, is_name, signs, IsOneWord, BeginsWith, AreWords, at_end, blank, next, wrong, is_white_space}
+use Rattle.tre_parse.specs.TokenWords.{text_of, WordAt, text_in, word_at}
 use Rattle.tre_parse.proofs.WordTables.{HasDecimals, sign_text, sign_token, some_none, some_one, kept_or, numeral_written, decimals_written, decimal_written, some_sign, sign_parts, kept_word}
 use Rattle.std.proofs.lemmas.Bool.{false≢true}
 use Rattle.tre_parse.specs.declared.lexeme.TheConstants.{SIGNS}
@@ -177,20 +177,37 @@ most_sign bytes n fits has =
     let taken = ap bytes_in takes.taken in
     omega (arith, size, long, taken)
 
+-- ---- names
+
+pub name_word : (bytes : List ℕ) → IsTrue (is_name bytes) → IsWord bytes
+name_word [] h = false≢true h
+name_word (b ∷ bs) h =
+    by (starts_name b) (list_all continues_name bs) (is_reserved (b ∷ bs)) refl refl h
+  where
+    by : (starts all kept : Bool) → starts_name b ≡ starts → list_all continues_name bs ≡ all
+        → IsTrue (starts && all && not kept) → IsWord (b ∷ bs)
+    by true true kept s a h = (s, AllPass-from_list_all continues_name bs a)
+    by true false kept s a h = absurd (false≢true h)
+    by false all kept s a h = absurd (false≢true h)
+
+pub word_name : (bytes : List ℕ) → IsWord bytes → is_reserved bytes ≡ false → IsTrue (is_name bytes)
+word_name [] h e = absurd h
+word_name (b ∷ bs) h e =
+    let all = all_listed continues_name bs h.1 in
+    rw (h.0, all, e) refl
+
 -- A number by its digits.
 abbrev HasDigits : List ℕ → Type 0
 HasDigits bytes = (is_numeral bytes ≡ true) ⊎ HasDecimals bytes
 
-pub most : (bytes : List ℕ) (n : ℕ) (word : Word (List ℕ)) → n ≤ length bytes
-    → Writes (take n bytes) word → n ≤ bytes_in (lexeme_of bytes)
-most bytes n (name text) fits h = most_word bytes n fits h.1.0
-most bytes n (event_name text) fits h = absurd h
-most bytes n (number text) fits h =
+pub most : (bytes : List ℕ) (n : ℕ) → n ≤ length bytes → IsOneWord (take n bytes)
+    → n ≤ bytes_in (lexeme_of bytes)
+most bytes n fits (inl is) = most_word bytes n fits (name_word (take n bytes) is)
+most bytes n fits (inr (inl has)) = most_sign bytes n fits has
+most bytes n fits (inr (inr (inl kept))) = most_word bytes n fits (kept_word (take n bytes) kept)
+most bytes n fits (inr (inr (inr has))) =
     ⊎_elim (λ whole. most_numeral bytes n fits whole) (λ has. most_decimal bytes n fits has)
-    (decimal_written (take n bytes) h.1.0 h.1.1)
-most bytes n (sign text) fits h =
-    ⊎_elim (λ has. most_sign bytes n fits has)
-    (λ kept. most_word bytes n fits (kept_word (take n bytes) kept)) h.1
+    (decimal_written (take n bytes) has.0 has.1)
 
 -- ---- what is scanned is written
 
@@ -210,30 +227,24 @@ IsTaken lexeme = Unit {0}
 -- The bytes begin with the token that the lexeme takes there.
 pub record Stands (bytes : List ℕ) (lexeme : Lexeme) : Type 0 where
   pub taken : IsTaken lexeme
-  pub writes : Writes (take (bytes_in lexeme) bytes) (raw_word (raw_in lexeme bytes))
+  pub text : text_in (raw_in lexeme bytes) ≡ take (bytes_in lexeme) bytes
+  pub is : IsOneWord (take (bytes_in lexeme) bytes)
 
 word_by : (len : ℕ) (bytes : List ℕ) (kept : Option Token) → IsWord (take len bytes)
     → reserved (take len bytes) ≡ kept → Stands bytes (lexeme_named len kept)
 word_by len bytes None is e = record {
   taken = tt;
-  writes = (
-    refl,
-    (
-      is,
-      λ kept. elim (kept_or (take len bytes)) [
-        | inl k ↦ some_none k.token (sym k.found ∙ e)
-        | inr free ↦ false≢true (sym free.is ∙ kept)
-      ],
-    ),
-  );
+  text = refl;
+  is = elim (kept_or (take len bytes)) [
+    | inl k ↦ absurd (some_none k.token (sym k.found ∙ e))
+    | inr free ↦ inl (word_name (take len bytes) is free.is)
+  ];
 }
 word_by len bytes (Some token) is e = elim (kept_or (take len bytes)) [
   | inl k ↦ record {
     taken = tt;
-    writes = (
-      sym (ap text_of (some_one k.token token (sym k.found ∙ e))) ∙ k.says.text,
-      inr k.is,
-    );
+    text = sym (ap text_of (some_one k.token token (sym k.found ∙ e))) ∙ k.says.text;
+    is = inr (inr (inl k.is));
   }
   | inr free ↦ absurd (some_none token (sym e ∙ free.none))
 ]
@@ -303,16 +314,15 @@ number_stands b bs h =
     let all = number_len bytes in
     subst (Stands bytes) (sym (lexeme_number b bs h)) (record {
       taken = tt;
-      writes = (
-        refl,
-        ⊎_elim (numeral_written (take all bytes)) (decimals_written (take all bytes))
-            (decimal_front bytes len (drop len bytes)
-            (run_numeral bytes (omega (arith, one))) refl fits),
-      );
+      text = refl;
+      is = inr (inr (inr (
+          ⊎_elim (numeral_written (take all bytes)) (decimals_written (take all bytes))
+          (decimal_front bytes len (drop len bytes)
+          (run_numeral bytes (omega (arith, one))) refl fits))));
     })
 
 -- a sign, or no token
-abbrev IsSignOrWrong : Lexeme → Type 0
+abbrev pub IsSignOrWrong : Lexeme → Type 0
 IsSignOrWrong (Sign token len) = Unit {0}
 IsSignOrWrong Wrong = Unit {0}
 IsSignOrWrong lexeme = ⊥
@@ -328,14 +338,14 @@ first_sign_or_wrong text token (x ∷ xs) rest = by (first_sign_or_wrong text to
     by more true = tt
     by more false = more
 
-sign_or_wrong : (bytes : List ℕ) → IsSignOrWrong (sign_lexeme bytes)
+pub sign_or_wrong : (bytes : List ℕ) → IsSignOrWrong (sign_lexeme bytes)
 sign_or_wrong bytes = first_sign_or_wrong (λ sign. sign.0.now) (λ sign. sign.1) SIGNS bytes
 
 sign_stands : (bytes : List ℕ) (lexeme : Lexeme) → sign_lexeme bytes ≡ lexeme
     → IsSignOrWrong lexeme → (lexeme ≡ Wrong) ⊎ Stands bytes lexeme
 sign_stands bytes (Sign token len) e is =
     let says = sign_text (take len bytes) token (only_signs bytes token len e) in
-    inr (record { taken = tt; writes = (says.0.text, inl says.1) })
+    inr (record { taken = tt; text = says.0.text; is = inr (inl says.1) })
 sign_stands bytes Wrong e is = inl refl
 sign_stands bytes Blank e is = absurd is
 sign_stands bytes (Name len) e is = absurd is
@@ -383,78 +393,18 @@ no_digits (inr has) = none has.whole has.split
     none [] q = cc
     none (w ∷ ws) q = cc
 
-writes_some : (word : Word (List ℕ)) → Writes [] word → ⊥
-writes_some (name text) h = h.1.0
-writes_some (event_name text) h = h
-writes_some (number text) h = no_digits (decimal_written [] h.1.0 h.1.1)
-writes_some (sign text) h =
-    ⊎_elim (λ has. some_sign has) (λ kept. kept_word [] kept) h.1
+some_byte : IsOneWord [] → ⊥
+some_byte (inl is) = name_word [] is
+some_byte (inr (inl has)) = some_sign has
+some_byte (inr (inr (inl kept))) = kept_word [] kept
+some_byte (inr (inr (inr has))) = no_digits (decimal_written [] has.0 has.1)
 
-word_starts : (b : ℕ) (bs : List ℕ) → IsWord (b ∷ bs) → starts_name b ≡ true
-word_starts b bs is = is.0
-
-writes_no_blank : (b : ℕ) (bs : List ℕ) (word : Word (List ℕ)) → Writes (b ∷ bs) word
-    → is_white_space b ≡ false
-writes_no_blank b bs (name text) h = starts_no_blank b (word_starts b bs h.1.0)
-writes_no_blank b bs (event_name text) h = absurd h
-writes_no_blank b bs (number text) h =
-    digit_no_blank b (starts_digit (b ∷ bs) (decimal_written (b ∷ bs) h.1.0 h.1.1) b bs refl)
-writes_no_blank b bs (sign text) h =
-    ⊎_elim (λ has. (sign_parts b bs has).0)
-    (λ kept. starts_no_blank b (word_starts b bs (kept_word (b ∷ bs) kept))) h.1
-
--- no word is a sign or a number
-not_sign : (bytes : List ℕ) → IsWord bytes → Contains signs bytes → ⊥
-not_sign [] is has = is
-not_sign (b ∷ bs) is has =
-    let absent = (sign_parts b bs has).1 in
-    false≢true (sym absent ∙ word_starts b bs is)
-
-not_number : (bytes : List ℕ) → IsWord bytes → HasDigits bytes → ⊥
-not_number [] is digits = is
-not_number (b ∷ bs) is digits =
-    let yes = word_starts b bs is in
-    let absent = digit_starts_none b (starts_digit (b ∷ bs) digits b bs refl) in
-    cc
-
--- no number is a sign
-sign_no_number : (bytes : List ℕ) → Contains signs bytes → HasDigits bytes → ⊥
-sign_no_number [] has digits = some_sign has
-sign_no_number (b ∷ bs) has digits =
-    let absent = (sign_parts b bs has).2 in
-    false≢true (sym absent ∙ starts_digit (b ∷ bs) digits b bs refl)
-
-name_no_sign : (bytes : List ℕ) (one other : List ℕ) → Writes bytes (name one)
-    → Writes bytes (sign other) → ⊥
-name_no_sign bytes one other h k =
-    ⊎_elim (λ has. not_sign bytes h.1.0 has) (λ kept. h.1.1 kept) k.1
-
-number_no_sign : (bytes : List ℕ) (one other : List ℕ) → Writes bytes (number one)
-    → Writes bytes (sign other) → ⊥
-number_no_sign bytes one other h k =
-    let digits = decimal_written bytes h.1.0 h.1.1 in
-    ⊎_elim (λ has. sign_no_number bytes has digits)
-    (λ kept. not_number bytes (kept_word bytes kept) digits) k.1
-
-name_no_number : (bytes : List ℕ) (one other : List ℕ) → Writes bytes (name one)
-    → Writes bytes (number other) → ⊥
-name_no_number bytes one other h k =
-    not_number bytes h.1.0 (decimal_written bytes k.1.0 k.1.1)
-
--- bytes write one word
-same_word : (bytes : List ℕ) (one other : Word (List ℕ)) → Writes bytes one → Writes bytes other
-    → one ≡ other
-same_word bytes (event_name text) other h k = absurd h
-same_word bytes one (event_name text) h k = absurd k
-same_word bytes (name one) (name other) h k = ap (λ (t : List ℕ). name t) (h.0 ∙ sym k.0)
-same_word bytes (number one) (number other) h k = ap (λ (t : List ℕ). number t) (h.0 ∙ sym k.0)
-same_word bytes (sign one) (sign other) h k = ap (λ (t : List ℕ). sign t) (h.0 ∙ sym k.0)
-same_word bytes (name one) (number other) h k = absurd (name_no_number bytes one other h k)
-same_word bytes (number one) (name other) h k = absurd (name_no_number bytes other one k h)
-same_word bytes (name one) (sign other) h k = absurd (name_no_sign bytes one other h k)
-same_word bytes (sign one) (name other) h k = absurd (name_no_sign bytes other one k h)
-same_word bytes (number one) (sign other) h k = absurd (number_no_sign bytes one other h k)
-same_word bytes (sign one) (number other) h k = absurd (number_no_sign bytes other one k h)
+no_blank : (b : ℕ) (bs : List ℕ) → IsOneWord (b ∷ bs) → is_white_space b ≡ false
+no_blank b bs (inl is) = starts_no_blank b (name_word (b ∷ bs) is).0
+no_blank b bs (inr (inl has)) = (sign_parts b bs has).0
+no_blank b bs (inr (inr (inl kept))) = starts_no_blank b (kept_word (b ∷ bs) kept).0
+no_blank b bs (inr (inr (inr has))) =
+    digit_no_blank b (starts_digit (b ∷ bs) (decimal_written (b ∷ bs) has.0 has.1) b bs refl)
 
 fits_len : (available : ℕ) (lexeme : Lexeme) → IsTaken lexeme → FitsIn available lexeme
     → (0 < bytes_in lexeme) × (bytes_in lexeme ≤ available)
@@ -478,11 +428,11 @@ scanned_taken Blank at bytes go is = absurd is
 scanned_taken Wrong at bytes go is = absurd is
 
 begun : (bytes : List ℕ) → 0 < length bytes → (st : Stands bytes (lexeme_of bytes))
-    → BeginsWith bytes (raw_word (raw_in (lexeme_of bytes) bytes)) (bytes_in (lexeme_of bytes))
+    → BeginsWith bytes (bytes_in (lexeme_of bytes))
 begun bytes some st = record {
   within = (len_of bytes some st).1;
-  writes = st.writes;
-  longest = λ other more fits h. most bytes more other fits h;
+  is = st.is;
+  longest = λ more fits h. most bytes more fits h;
 }
 
 after_token : (at len : ℕ) (b : ℕ) (bs : List ℕ) → 0 < len → len ≤ length (b ∷ bs)
@@ -497,37 +447,37 @@ Worded = List WordAt × Option ℕ
 abbrev pub worded : RawTokens → Worded
 worded found = (map word_at found.raw_tokens, found.bad)
 
-abbrev with_word : ℕ → Word (List ℕ) → Worded → Worded
+abbrev with_word : ℕ → List ℕ → Worded → Worded
 with_word at word more = ((at, word) ∷ more.0, more.1)
 
-next_word : (at len b : ℕ) (bs : List ℕ) (word : Word (List ℕ)) → BeginsWith (b ∷ bs) word len
+next_word : (at len b : ℕ) (bs : List ℕ) → BeginsWith (b ∷ bs) len
     → worded (raw_tokens_from 0 at (b ∷ bs))
-    ≡ with_word at word (worded (raw_tokens_from 0 (at + len) (drop len (b ∷ bs))))
-next_word at zero b bs word is = absurd (writes_some word is.writes)
-next_word at (suc m) b bs word is = by (stands b bs (writes_no_blank b (take m bs) word is.writes))
+    ≡ with_word at (take len (b ∷ bs)) (worded (raw_tokens_from 0 (at + len) (drop len (b ∷ bs))))
+next_word at zero b bs word = absurd (some_byte word.is)
+next_word at (suc m) b bs word = by (stands b bs (no_blank b (take m bs) word.is))
   where
     by : (lexeme_of (b ∷ bs) ≡ Wrong) ⊎ Stands (b ∷ bs) (lexeme_of (b ∷ bs))
         → worded (raw_tokens_from 0 at (b ∷ bs))
-        ≡ with_word at word (worded (raw_tokens_from 0 (at + suc m) (drop (suc m) (b ∷ bs))))
+        ≡ with_word at (take (suc m) (b ∷ bs))
+        (worded (raw_tokens_from 0 (at + suc m) (drop (suc m) (b ∷ bs))))
     by (inl absent) =
-        let few = most (b ∷ bs) (suc m) word is.within is.writes in
+        let few = most (b ∷ bs) (suc m) word.within word.is in
         let none = ap bytes_in absent in
         absurd (omega (arith, few, none))
     by (inr st) =
         let k = bytes_in (lexeme_of (b ∷ bs)) in
         let long = len_of (b ∷ bs) (omega arith) st in
-        let low = most (b ∷ bs) (suc m) word is.within is.writes in
+        let low = most (b ∷ bs) (suc m) word.within word.is in
         let here = raw_in (lexeme_of (b ∷ bs)) (b ∷ bs) in
-        let high = is.longest (raw_word here) k long.1 st.writes in
+        let high = word.longest k long.1 st.is in
         let same : k ≡ suc m = omega (arith, low, high) in
-        let raw : raw_word here ≡ word = same_word (take (suc m) (b ∷ bs)) (raw_word here) word
-        (subst (λ n. Writes (take n (b ∷ bs)) (raw_word here)) same st.writes) is.writes in
+        let raw = st.text ∙ ap (λ n. take n (b ∷ bs)) same in
         ap worded (scanned_taken (lexeme_of (b ∷ bs)) at (b ∷ bs)
         (λ skip. raw_tokens_from skip (at + 1) bs) st.taken)
-        ∙ ap (λ n. with_word at (raw_word here) (worded (raw_tokens_from (n - 1) (at + 1) bs))) same
+        ∙ ap (λ n. with_word at (text_in here) (worded (raw_tokens_from (n - 1) (at + 1) bs))) same
         ∙ ap (λ w. with_word at w (worded (raw_tokens_from (suc m - 1) (at + 1) bs))) raw
-        ∙ ap (λ r. with_word at word (worded r))
-        (after_token at (suc m) b bs (omega arith) is.within)
+        ∙ ap (λ r. with_word at (take (suc m) (b ∷ bs)) (worded r))
+        (after_token at (suc m) b bs (omega arith) word.within)
 
 blank_lexeme : (b : ℕ) (bs : List ℕ) → is_white_space b ≡ true → lexeme_of (b ∷ bs) ≡ Blank
 blank_lexeme b bs h = search rules
@@ -539,15 +489,14 @@ one_list _ _ _ _ (blank at byte rest words bad is more) =
     ap (λ (l : Lexeme). worded (scanned l at (byte ∷ rest)
     (λ skip. raw_tokens_from skip (at + 1) rest)))
     (blank_lexeme byte rest is) ∙ one_list (at + 1) rest words bad more
-one_list _ _ _ _ (next at len [] word words bad is more) =
-    absurd (none len is.within is.writes)
+one_list _ _ _ _ (next at len [] words bad is more) = absurd (none len is.within is.is)
   where
-    none : (n : ℕ) → n ≤ 0 → Writes (take n []) word → ⊥
-    none zero few h = writes_some word h
+    none : (n : ℕ) → n ≤ 0 → IsOneWord (take n []) → ⊥
+    none zero few h = some_byte h
     none (suc n) few h = omega (arith, few)
-one_list _ _ _ _ (next at len (b ∷ bs) word words bad is more) =
-    next_word at len b bs word is
-    ∙ ap (with_word at word) (one_list (at + len) (drop len (b ∷ bs)) words bad more)
+one_list _ _ _ _ (next at len (b ∷ bs) words bad is more) =
+    next_word at len b bs is
+    ∙ ap (with_word at (take len (b ∷ bs))) (one_list (at + len) (drop len (b ∷ bs)) words bad more)
 one_list _ _ _ _ (wrong at byte rest is none) = by (stands byte rest is)
   where
     by : (lexeme_of (byte ∷ rest) ≡ Wrong) ⊎ Stands (byte ∷ rest) (lexeme_of (byte ∷ rest))
@@ -555,8 +504,8 @@ one_list _ _ _ _ (wrong at byte rest is none) = by (stands byte rest is)
     by (inl absent) =
         ap (λ (l : Lexeme). worded (scanned l at (byte ∷ rest)
         (λ skip. raw_tokens_from skip (at + 1) rest))) absent
-    by (inr st) = absurd (none (raw_word (raw_in (lexeme_of (byte ∷ rest)) (byte ∷ rest)))
-        (bytes_in (lexeme_of (byte ∷ rest))) (begun (byte ∷ rest) (omega arith) st))
+    by (inr st) = absurd (none (bytes_in (lexeme_of (byte ∷ rest)))
+        (begun (byte ∷ rest) (omega arith) st))
 
 -- some words are those of the bytes
 record HasWords (at : ℕ) (bytes : List ℕ) : Type 0 where
@@ -580,22 +529,22 @@ some_list (suc fuel) at (b ∷ bs) few =
     by_word go absent (inl is) = record {
       words = [];
       bad = Some at;
-      are = wrong at b bs absent (λ word len begins.
-          none word len begins.writes
-          (omega (arith, most (b ∷ bs) len word begins.within begins.writes, ap bytes_in is)));
+      are = wrong at b bs absent (λ len begins.
+          none len begins.is
+          (omega (arith, most (b ∷ bs) len begins.within begins.is, ap bytes_in is)));
     }
       where
-        none : (word : Word (List ℕ)) (len : ℕ) → Writes (take len (b ∷ bs)) word → len ≤ 0 → ⊥
-        none word zero h few = writes_some word h
-        none word (suc len) h few = omega (arith, few)
+        none : (len : ℕ) → IsOneWord (take len (b ∷ bs)) → len ≤ 0 → ⊥
+        none zero h few = some_byte h
+        none (suc len) h few = omega (arith, few)
     by_word go absent (inr st) =
         let len = bytes_in (lexeme_of (b ∷ bs)) in
-        let word = raw_word (raw_in (lexeme_of (b ∷ bs)) (b ∷ bs)) in
+        let word = take len (b ∷ bs) in
         let rest = go len (len_of (b ∷ bs) (omega arith) st).0 in
         record {
           words = (at, word) ∷ rest.words;
           bad = rest.bad;
-          are = next at len (b ∷ bs) word rest.words rest.bad
+          are = next at len (b ∷ bs) rest.words rest.bad
               (begun (b ∷ bs) (omega arith) st) rest.are;
         }
 

@@ -10,15 +10,14 @@ use Rattle.tre_syntax.proofs.FirstUses.{seen_new}
 use Rattle.tre_trace.specs.Reading.{Vocabulary}
 use Rattle.tre_syntax.specs.declared.name_kind.NameKind.{NameKind}
 use Rattle.tre_syntax.specs.declared.name_kind.NameKind.TheVariants.{Proposition, Event as EventKind}
+use Rattle.tre_parse.specs.declared.token.Token.{Token}
 use Rattle.tre_parse.specs.Tokens.{RawToken, name, event_name, number, sign, RawTokenAt}
 use Rattle.tre_parse.specs.Scanned.{raw_tokens_of}
 use Rattle.tre_parse.specs.Known.{kind_behind, names_of_kind, names_with, vocabulary_with, Known, nothing_known, numbered, next_token, vocabulary_after, known_after, tokens_from, names_from, past_from, word_is_past}
 use Rattle.tre_parse.specs.Numbering.{numbers_in, IsNumberedByUse}
-use Rattle.tre_parse.specs.TokenWords.{word_of, words_for}
-use Rattle.tre_parse.specs.Grammar.{Words}
 use Rattle.tre_parse.specs.ScannedOutcome.{offset_of, text_tokens_of}
 use Rattle.tre_parse.proofs.Plain.{IsPlain, ArePlain, raw_tokens_plain}
-use Rattle.tre_parse.proofs.Named.{past_run}
+use Rattle.tre_parse.proofs.Past.{past_run}
 
 -- What the number of a name is, where it is not past the most.
 name_seen : (known : List (List ℕ)) (bytes : List ℕ) (found : Option ℕ) (room : Bool)
@@ -44,12 +43,12 @@ past_none true at later e = absurd (cc)
 past_none false at later e = (refl, e)
 
 -- The names of one kind, behind a name of this kind or of another.
-kind_seen : (kind at : NameKind) (known : Vocabulary) (bytes : List ℕ) (rest : Words) (m : ℕ) →
+kind_seen : (kind at : NameKind) (known : Vocabulary) (bytes : List ℕ) (rest : List Token) (m : ℕ) →
     is_none (place_of (names_with (names_of_kind at known) bytes) bytes) ≡ false →
     seen_after (length (names_of_kind kind (vocabulary_with at known bytes))) (numbers_in kind rest)
     ≡ Some m →
-    seen_after (length (names_of_kind kind known)) (numbers_in kind (word_of (numbered at (unwrap_or
-    (place_of (names_with (names_of_kind at known) bytes) bytes) NAMES_MAX)) ∷ rest)) ≡ Some m
+    seen_after (length (names_of_kind kind known)) (numbers_in kind (numbered at (unwrap_or
+    (place_of (names_with (names_of_kind at known) bytes) bytes) NAMES_MAX) ∷ rest)) ≡ Some m
 kind_seen Proposition Proposition known bytes rest m p e =
     name_seen known.names bytes (place_of known.names bytes) (nat_lt (length known.names) NAMES_MAX)
     (numbers_in Proposition rest) m refl p e
@@ -60,13 +59,13 @@ kind_seen Proposition EventKind known bytes rest m p e = e
 kind_seen EventKind Proposition known bytes rest m p e = e
 
 spot_numbered : (scale : ℕ) (kind : NameKind) (word : RawToken) (at : ℕ) (known : Known)
-    (rest : Words)
+    (rest : List Token)
     (later : Option ℕ) (m : ℕ) → IsPlain word →
     (if word_is_past known word then Some at else later) ≡ None →
     (later ≡ None → seen_after (length (names_of_kind kind (vocabulary_after known word)))
     (numbers_in kind rest) ≡ Some m) →
     seen_after (length (names_of_kind kind known.vocabulary))
-    (numbers_in kind (word_of (next_token scale known word) ∷ rest)) ≡ Some m
+    (numbers_in kind (next_token scale known word ∷ rest)) ≡ Some m
 spot_numbered scale kind (name bytes) at known rest later m h e go =
     search (rules, past_none, word_is_past, name, kind_seen, kind_behind, known.vocabulary)
 spot_numbered scale kind (event_name bytes) at known rest later m h e go = absurd h
@@ -76,12 +75,12 @@ spot_numbered scale kind (sign token) at known rest later m h e go = search rule
 numbered_from : (scale : ℕ) (kind : NameKind) (raw_tokens : List RawTokenAt) (known : Known)
     → ArePlain raw_tokens → past_from known raw_tokens ≡ None →
     seen_after (length (names_of_kind kind known.vocabulary))
-    (numbers_in kind (words_for (tokens_from scale known raw_tokens)))
+    (numbers_in kind (tokens_from scale known raw_tokens))
     ≡ Some (length (names_of_kind kind (names_from known raw_tokens)))
 numbered_from scale kind [] known h e = refl
 numbered_from scale kind (raw ∷ rest) known h e =
     spot_numbered scale kind raw.word raw.at known
-    (words_for (tokens_from scale (known_after known raw.word) rest))
+    (tokens_from scale (known_after known raw.word) rest)
     (past_from (known_after known raw.word) rest)
     (length (names_of_kind kind (names_from (known_after known raw.word) rest))) h.0 e
     (λ later. numbered_from scale kind rest (known_after known raw.word) h.1 later)
@@ -89,7 +88,7 @@ numbered_from scale kind (raw ∷ rest) known h e =
 -- Nothing is known at the beginning, of either kind.
 numbered_all : (scale : ℕ) (kind : NameKind) (raw_tokens : List RawTokenAt) → ArePlain raw_tokens
     → past_from nothing_known raw_tokens ≡ None →
-    seen_after 0 (numbers_in kind (words_for (tokens_from scale nothing_known raw_tokens)))
+    seen_after 0 (numbers_in kind (tokens_from scale nothing_known raw_tokens))
     ≡ Some (length (names_of_kind kind (names_from nothing_known raw_tokens)))
 numbered_all scale Proposition raw_tokens h e = numbered_from _ Proposition _ nothing_known h e
 numbered_all scale EventKind raw_tokens h e = numbered_from _ EventKind _ nothing_known h e

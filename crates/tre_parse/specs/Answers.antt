@@ -1,5 +1,5 @@
 -- What `parse` answers, against the outcome of the text.
-use Rattle.std.specs.Prelude.{◌≡◌, ◌≤◌, ◌-◌, ◌⊎◌, None, Result, Ok, Err, length, position}
+use Rattle.std.specs.Prelude.{◌≡◌, ℕ, ◌≤◌, ◌-◌, ◌⊎◌, None, List, Result, Ok, Err, length, position}
 use Rattle.tre_syntax.specs.declared.pattern.Pattern.{Pattern}
 use Rattle.tre_syntax.specs.declared.pattern.TheConstants.{NODES_MAX}
 use Rattle.tre_syntax.specs.Pattern.{pattern_tree, names_of}
@@ -11,9 +11,9 @@ use Rattle.tre_parse.specs.declared.scan.Scan.{Scan}
 use Rattle.tre_parse.specs.Front.{tokens_in, offsets_in}
 use Rattle.tre_parse.specs.Operands.{Operand}
 use Rattle.tre_parse.specs.Scan.{vocabulary_in}
-use Rattle.tre_parse.specs.Outcome.{Read, is_past, Outcome, spelt, refused}
-use Rattle.tre_parse.specs.TokenWords.{words_for}
-use Rattle.tre_parse.specs.ScannedOutcome.{TextTokens, offset_of, read_by}
+use Rattle.tre_parse.specs.Outcome.{Read, Outcome, spelt, refused, ComesFirst}
+use Rattle.tre_parse.specs.Limits.{is_past}
+use Rattle.tre_parse.specs.ScannedOutcome.{TextTokens, offset_of, NoneBelow, AreTokensOf}
 
 -- The answer is an outcome of which this is so, or want of memory.
 abbrev pub Answers : (Outcome → Type 0) → Result Pattern ParseFault → Type 0
@@ -30,9 +30,22 @@ text_tokens_in scan =
       names = vocabulary_in scan;
     }
 
--- What these are judged by: no byte of a scan is wrong.
-abbrev pub read_in : Scan → Read
-read_in scan = read_by (text_tokens_in scan) None
+-- The scan is that of some text.
+pub record IsOfText (scan : Scan) : Type 0 where
+  pub scale : ℕ
+  pub text : List ℕ
+  pub read : Read scale text
+  pub tokens : AreTokensOf scale text read (text_tokens_in scan)
+
+-- The answer is the outcome that comes first, however a text is read that has the tokens of a scan.
+abbrev pub AnswersFirst : Scan → Result Pattern ParseFault → Type 0
+AnswersFirst scan result = (scale : ℕ) (text : List ℕ) (read : Read scale text)
+    → AreTokensOf scale text read (text_tokens_in scan) → Answers (ComesFirst read) result
+
+-- Whatever text it is, no refusal of a lower rank has a cause.
+abbrev pub NoneBelowIn : ℕ → Scan → Type 0
+NoneBelowIn n scan = (scale : ℕ) (text : List ℕ) (read : Read scale text)
+    → AreTokensOf scale text read (text_tokens_in scan) → NoneBelow scale text read n
 
 -- The fault where reading stops.
 abbrev pub IsFaultOf : TextTokens → Stop → ParseFault → Type 0
@@ -43,5 +56,5 @@ IsFaultOf words (Stuck left) fault = fault ≡ Syntax (offset_of words (length w
 -- the first ones, and no more nodes than a pattern may have.
 pub record IsWithinLimits (scan : Scan) (whole : Operand) : Type 0 where
   pub kept : whole.unkept ≡ None
-  pub named : position is_past (words_for (tokens_in scan.tokens.items)) ≡ None
+  pub named : position is_past (tokens_in scan.tokens.items) ≡ None
   pub small : whole.nodes ≤ NODES_MAX

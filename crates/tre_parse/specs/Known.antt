@@ -10,7 +10,8 @@ use Rattle.tre_parse.specs.declared.token.Token.{Token}
 use Rattle.tre_parse.specs.declared.token.Token.TheVariants.{Name as Numbered, EventName, Number as Units, LeftParen, Event, EndOfText}
 use Rattle.tre_parse.specs.declared.before.Before.{Before}
 use Rattle.tre_parse.specs.declared.before.Before.TheVariants.{EventWord, EventParen, Other}
-use Rattle.tre_parse.specs.Tokens.{RawToken, name, number, sign, RawTokenAt, units_within}
+use Rattle.tre_parse.specs.Words.{units_within}
+use Rattle.tre_parse.specs.Tokens.{RawToken, name, number, sign, RawTokenAt}
 
 -- What stands before the next token. A name behind `event (` is an event's, and every other one a
 -- proposition's.

@@ -1,7 +1,5 @@
 -- What the scanner makes of a text: a name or a number by its bytes, or a token.
-use Rattle.std.specs.Prelude.{ℕ, ◌+◌, min, unwrap_or, List}
-use Rattle.tre_pairs.specs.declared.TheConstants.{TIME_MAX}
-use Rattle.tre_decimal.specs.Decimal.{units_of}
+use Rattle.std.specs.Prelude.{ℕ, List}
 use Rattle.tre_parse.specs.declared.token.Token.{Token}
 
 -- A name or a number by its bytes, or another token.
@@ -15,8 +13,3 @@ pub data RawToken : Type 0 where
 pub record RawTokenAt : Type 0 where
   pub at : ℕ
   pub word : RawToken
-
--- The number of units that a number is at a scale. Where it is none, or one above the latest time,
--- it is the one number after that.
-abbrev pub units_within : ℕ → List ℕ → ℕ
-units_within scale bytes = min (unwrap_or (units_of scale bytes) (TIME_MAX + 1)) (TIME_MAX + 1)

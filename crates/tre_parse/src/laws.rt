@@ -3,8 +3,8 @@ ghost use Rattle.std.specs.Prelude.{◌≡◌, ℕ, Option, take, map, true, Lis
 ghost use Rattle.tre_state.specs.StateTree.{StateTree, conjunction, disjunction};
 ghost use Rattle.tre_trace.specs.Reading.{Vocabulary};
 ghost use Rattle.tre_syntax.specs.PatternTree.{PatternTree, sequence, alternation, intersection};
-ghost use Rattle.tre_parse.specs.Words.{sign, AreWords};
-ghost use Rattle.tre_parse.specs.TokenWords.{words_for, WordAt, word_at};
+ghost use Rattle.tre_parse.specs.Words.{AreWords};
+ghost use Rattle.tre_parse.specs.TokenWords.{Piece, words_by, AreTheirs, WordAt, word_at};
 ghost use Rattle.tre_parse.specs.Grammar.{StateRule, SpellsState, Rule, Spells};
 ghost use Rattle.tre_parse.specs.Begins.{BeginsState, Begins, IsCompletable};
 ghost use Rattle.tre_parse.specs.Strength.{Groups, StateGroups};
@@ -56,12 +56,17 @@ pub fn longest_word()
         EndsNumber (byte ∷ rest) (bytes_in (lexeme_of (byte ∷ rest))) }
 {}
 
-/// Tokens begin a rule exactly where some further tokens complete them to what it spells.
+/// Words that are tokens begin a rule exactly where some further words complete them to what it
+/// spells.
 pub fn beginnings()
-    ensures expression { (rule : Rule) (tokens : List Token) →
-        Begins rule (words_for tokens) ↔ IsCompletable (Spells rule) (words_for tokens) }
-    ensures state { (rule : StateRule) (tokens : List Token) →
-        BeginsState rule (words_for tokens) ↔ IsCompletable (SpellsState rule) (words_for tokens) }
+    ensures expression { (scale : ℕ) (known : Vocabulary) (rule : Rule)
+        (pieces : List (Piece scale known)) → AreTheirs scale known pieces →
+        Begins scale known rule (words_by scale known pieces)
+        ↔ IsCompletable (Spells scale known rule) (words_by scale known pieces) }
+    ensures state { (scale : ℕ) (known : Vocabulary) (rule : StateRule)
+        (pieces : List (Piece scale known)) → AreTheirs scale known pieces →
+        BeginsState scale known rule (words_by scale known pieces)
+        ↔ IsCompletable (SpellsState scale known rule) (words_by scale known pieces) }
 {}
 
 /// Every text has an outcome at each scale.
@@ -83,34 +88,34 @@ pub fn outcome_is_spelt()
 
 /// `;` binds more than `&`, and `&` more than `|`. Each of them groups to the left.
 pub fn strength()
-    ensures bars { Groups (sign (codes "|")) (sign (codes "|"))
+    ensures bars { Groups (codes "|") (codes "|")
         (λ e f g. alternation (alternation e f) g) }
-    ensures ampersands { Groups (sign (codes "&")) (sign (codes "&"))
+    ensures ampersands { Groups (codes "&") (codes "&")
         (λ e f g. intersection (intersection e f) g) }
-    ensures semicolons { Groups (sign (codes ";")) (sign (codes ";"))
+    ensures semicolons { Groups (codes ";") (codes ";")
         (λ e f g. sequence (sequence e f) g) }
-    ensures bar_ampersand { Groups (sign (codes "|")) (sign (codes "&"))
+    ensures bar_ampersand { Groups (codes "|") (codes "&")
         (λ e f g. alternation e (intersection f g)) }
-    ensures ampersand_bar { Groups (sign (codes "&")) (sign (codes "|"))
+    ensures ampersand_bar { Groups (codes "&") (codes "|")
         (λ e f g. alternation (intersection e f) g) }
-    ensures bar_semicolon { Groups (sign (codes "|")) (sign (codes ";"))
+    ensures bar_semicolon { Groups (codes "|") (codes ";")
         (λ e f g. alternation e (sequence f g)) }
-    ensures semicolon_bar { Groups (sign (codes ";")) (sign (codes "|"))
+    ensures semicolon_bar { Groups (codes ";") (codes "|")
         (λ e f g. alternation (sequence e f) g) }
-    ensures ampersand_semicolon { Groups (sign (codes "&")) (sign (codes ";"))
+    ensures ampersand_semicolon { Groups (codes "&") (codes ";")
         (λ e f g. intersection e (sequence f g)) }
-    ensures semicolon_ampersand { Groups (sign (codes ";")) (sign (codes "&"))
+    ensures semicolon_ampersand { Groups (codes ";") (codes "&")
         (λ e f g. intersection (sequence e f) g) }
 {}
 
 /// Inside a state `&&` binds more than `||`. Each of them groups to the left.
 pub fn state_strength()
-    ensures bars { StateGroups (sign (codes "||")) (sign (codes "||"))
+    ensures bars { StateGroups (codes "||") (codes "||")
         (λ s t u. disjunction (disjunction s t) u) }
-    ensures ampersands { StateGroups (sign (codes "&&")) (sign (codes "&&"))
+    ensures ampersands { StateGroups (codes "&&") (codes "&&")
         (λ s t u. conjunction (conjunction s t) u) }
-    ensures bar_ampersand { StateGroups (sign (codes "||")) (sign (codes "&&"))
+    ensures bar_ampersand { StateGroups (codes "||") (codes "&&")
         (λ s t u. disjunction s (conjunction t u)) }
-    ensures ampersand_bar { StateGroups (sign (codes "&&")) (sign (codes "||"))
+    ensures ampersand_bar { StateGroups (codes "&&") (codes "||")
         (λ s t u. disjunction (conjunction s t) u) }
 {}

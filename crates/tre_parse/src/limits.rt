@@ -1,8 +1,8 @@
 ghost use Rattle.std.specs.Prelude.{◌≡◌, ◌≤◌, position};
 ghost use Rattle.tre_parse.specs.Front.{tokens_in};
-ghost use Rattle.tre_parse.specs.TokenWords.{word_of, words_for};
-ghost use Rattle.tre_parse.specs.Outcome.{is_big, is_past, open_after};
-ghost use Rattle.tre_parse.specs.Limits.{deep_place};
+ghost use Rattle.tre_parse.specs.TokenWords.{text_of};
+ghost use Rattle.tre_parse.specs.Outcome.{open_after};
+ghost use Rattle.tre_parse.specs.Limits.{is_above, is_past, deep_place};
 
 use crate::scan::PAST;
 use crate::token::{Token, TokenAt};
@@ -20,17 +20,17 @@ pub(crate) const COUNT_MAX: u64 = 1_000_000_000;
 /// The place of the first number above the latest time, which stands for those that are no number
 /// of units too.
 pub(crate) fn first_big(tokens: &[TokenAt]) -> Option<usize>
-    ensures { result ≡ position (λ token. is_big (word_of token)) (tokens_in tokens.now) }
+    ensures { result ≡ position is_above (tokens_in tokens.now) }
 {
     tokens
         .iter()
         .map(|placed| placed.token)
-        .position(|token| is_big(token))
+        .position(|token| is_above(token))
 }
 
 // A number above the latest time.
-fn is_big(token: Token) -> bool
-    ensures { result ≡ is_big (word_of token) }
+fn is_above(token: Token) -> bool
+    ensures { result ≡ is_above token }
 {
     match token {
         Token::Number(number) => number > TIME_MAX,
@@ -40,7 +40,7 @@ fn is_big(token: Token) -> bool
 
 /// The place of the first name past the first `NAMES_MAX` of its kind.
 pub(crate) fn first_past(tokens: &[TokenAt]) -> Option<usize>
-    ensures { result ≡ position (λ token. is_past (word_of token)) (tokens_in tokens.now) }
+    ensures { result ≡ position is_past (tokens_in tokens.now) }
 {
     tokens
         .iter()
@@ -54,7 +54,7 @@ pub(crate) fn first_past(tokens: &[TokenAt]) -> Option<usize>
 
 /// The place of the first bracket at which more than `DEPTH_MAX` are open.
 pub(crate) fn first_deep(tokens: &[TokenAt]) -> Option<usize>
-    ensures { result ≡ deep_place 0 0 (words_for (tokens_in tokens.now)) }
+    ensures { result ≡ deep_place 0 0 (tokens_in tokens.now) }
 {
     let mut depth = 0;
     for (place, placed) in tokens.iter().enumerate() {
@@ -69,7 +69,7 @@ pub(crate) fn first_deep(tokens: &[TokenAt]) -> Option<usize>
 // How many brackets are open after one more token.
 fn open_after(depth: usize, token: Token) -> usize
     requires { depth ≤ DEPTH_MAX }
-    ensures { result ≡ open_after depth (word_of token) }
+    ensures { result ≡ open_after depth (text_of token) }
 {
     match token {
         Token::LeftParen | Token::LeftBracket | Token::LeftBrace => depth + 1,

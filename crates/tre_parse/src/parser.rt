@@ -7,9 +7,8 @@ ghost use Rattle.tre_parse.specs.Reader.{PatternTask};
 ghost use Rattle.tre_parse.specs.Reading.{Reads};
 ghost use Rattle.tre_parse.specs.Unkept.{FindsUpTo};
 ghost use Rattle.tre_parse.specs.Numbering.{IsNumberedByUse};
-ghost use Rattle.tre_parse.specs.Outcome.{IsSpelling, Outcome, ComesFirst, IsOutcome};
-ghost use Rattle.tre_parse.specs.ScannedOutcome.{NoneBelow};
-ghost use Rattle.tre_parse.specs.Answers.{text_tokens_in, read_in, IsFaultOf, IsWithinLimits, Answers};
+ghost use Rattle.tre_parse.specs.Outcome.{IsSpelling, Outcome, IsOutcome};
+ghost use Rattle.tre_parse.specs.Answers.{text_tokens_in, IsOfText, NoneBelowIn, IsFaultOf, IsWithinLimits, Answers, AnswersFirst};
 
 use crate::connective::Join;
 use crate::cursor::{Cursor, Stop};
@@ -45,9 +44,9 @@ pub fn parse(alloc: Global, text: &str, scale: u8) -> Result<Pattern, ParseFault
 
 // The pattern that the words of a text spell.
 fn parse_words(alloc: Global, scan: Scan) -> Result<Pattern, ParseFault>
+    requires text { IsOfText scan }
     requires numbered { IsNumberedByUse (text_tokens_in scan) }
-    requires bytes { NoneBelow 2 (read_in scan) }
-    ensures { Answers (ComesFirst (read_in scan)) result }
+    ensures { AnswersFirst scan result }
 {
     match read_words(alloc, &scan) {
         Ok(whole) => build(scan, whole),
@@ -57,14 +56,13 @@ fn parse_words(alloc: Global, scan: Scan) -> Result<Pattern, ParseFault>
 
 // The expression that the words of a text spell, where they meet every limit.
 fn read_words(alloc: Global, scan: &Scan) -> Result<Operand, ParseFault>
-    requires bytes { NoneBelow 2 (read_in scan.now) }
-    ensures small { IfOk result (λ _. NoneBelow 4 (read_in scan.now)) }
+    ensures small { IfOk result (λ _. NoneBelowIn 4 scan.now) }
     ensures whole { IfOk result (λ whole. Reads (PatternTask.expression_by Join.Alternation)
         (Ok whole) (tokens_in scan.now.tokens.items) []) }
     ensures unkept { IfOk result (λ whole. FindsUpTo (tokens_in scan.now.tokens.items) []
         whole.unkept) }
     ensures judged { IfOk result (λ whole. IsWithinLimits scan.now whole) }
-    ensures fault { IfErr result (λ fault. Answers (ComesFirst (read_in scan.now)) (Err fault)) }
+    ensures fault { IfErr result (λ fault. AnswersFirst scan.now (Err fault)) }
 {
     within_limits(scan)?;
     let mut rest = Cursor::new(&scan.tokens);
@@ -79,9 +77,8 @@ fn read_words(alloc: Global, scan: &Scan) -> Result<Operand, ParseFault>
 
 // Refuses a number that is too big, and brackets that are too deep.
 fn within_limits(scan: &Scan) -> Result<(), ParseFault>
-    requires bytes { NoneBelow 2 (read_in scan.now) }
-    ensures ok { IfOk result (λ _. NoneBelow 4 (read_in scan.now)) }
-    ensures fault { IfErr result (λ fault. Answers (ComesFirst (read_in scan.now)) (Err fault)) }
+    ensures ok { IfOk result (λ _. NoneBelowIn 4 scan.now) }
+    ensures fault { IfErr result (λ fault. AnswersFirst scan.now (Err fault)) }
 {
     if let Some(place) = first_big(&scan.tokens) {
         let at = scan.offset(place);
@@ -109,13 +106,13 @@ fn fault_of(scan: &Scan, stop: Stop) -> ParseFault
 // Refuses an expression that isn't the whole text, or isn't within the limits on its intervals, its
 // names and its size.
 fn judge(scan: &Scan, rest: &Cursor, whole: &Operand) -> Result<(), ParseFault>
-    requires small { NoneBelow 4 (read_in scan.now) }
+    requires small { NoneBelowIn 4 scan.now }
     requires whole { Reads (PatternTask.expression_by Join.Alternation) (Ok whole.now)
         (tokens_in scan.now.tokens.items) rest.now }
     requires unkept { FindsUpTo (tokens_in scan.now.tokens.items) rest.now whole.now.unkept }
     ensures all { IfOk result (λ _. rest.now ≡ []) }
     ensures judged { IfOk result (λ _. IsWithinLimits scan.now whole.now) }
-    ensures fault { IfErr result (λ fault. Answers (ComesFirst (read_in scan.now)) (Err fault)) }
+    ensures fault { IfErr result (λ fault. AnswersFirst scan.now (Err fault)) }
 {
     if rest.left() > 0 {
         return Err(fault_of(scan, rest.refused()));
@@ -137,13 +134,14 @@ fn judge(scan: &Scan, rest: &Cursor, whole: &Operand) -> Result<(), ParseFault>
 
 // The pattern of an expression that meets every limit.
 fn build(scan: Scan, whole: Operand) -> Result<Pattern, ParseFault>
+    requires text { IsOfText scan }
     requires numbered { IsNumberedByUse (text_tokens_in scan) }
-    requires small { NoneBelow 4 (read_in scan) }
+    requires small { NoneBelowIn 4 scan }
     requires whole { Reads (PatternTask.expression_by Join.Alternation) (Ok whole)
         (tokens_in scan.tokens.items) [] }
     requires unkept { FindsUpTo (tokens_in scan.tokens.items) [] whole.unkept }
     requires judged { IsWithinLimits scan whole }
-    ensures { Answers (ComesFirst (read_in scan)) result }
+    ensures { AnswersFirst scan result }
 {
     let nodes = whole.nodes;
     let Scan { names, events, .. } = scan;

@@ -1,7 +1,8 @@
 ghost use Rattle.std.specs.Prelude.{◌≡◌, ◌-◌, ◌<◌, ◌≤◌, ◌+◌, Some, None, length, take, drop, OnOk, IfOk, IfErr};
 ghost use Rattle.tre_state.specs.Name.{IsName};
 ghost use Rattle.tre_decimal.specs.declared.TheConstants.{SCALE_MAX};
-ghost use Rattle.tre_parse.specs.Tokens.{name, number, sign, units_within};
+ghost use Rattle.tre_parse.specs.Tokens.{name, number, sign};
+ghost use Rattle.tre_parse.specs.Words.{units_within};
 ghost use Rattle.tre_parse.specs.ScannedOutcome.{offset_of};
 ghost use Rattle.tre_parse.specs.Answers.{text_tokens_in};
 ghost use Rattle.tre_parse.specs.Scan.{Puts, ScanIsNumbered, TakesToken, ScanGoesOn, IsBadByte, IsScan};

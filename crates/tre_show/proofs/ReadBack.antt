@@ -29,7 +29,6 @@ use Rattle.tre_parse.specs.Lexeme.{lexeme_named, word_lexeme, number_len, number
 use Rattle.tre_parse.specs.Words.{is_white_space}
 use Rattle.tre_parse.specs.declared.before.Before.{Before}
 use Rattle.tre_parse.specs.declared.before.Before.TheVariants.{Other}
-use Rattle.tre_parse.specs.TokenWords.{words_for}
 use Rattle.tre_parse.specs.Numbering.{numbers_in}
 use Rattle.tre_parse.specs.Tokens.{RawToken, name, number, sign}
 use Rattle.tre_parse.specs.Scanned.{RawTokens, raw_tokens_from, scanned, with_raw_token}
@@ -206,12 +205,12 @@ takes scale writes names before mark rest at stands is = (at, at + 1, refl)
 -- ---- numbers by first use
 
 -- The first number is one that was seen, or the next one.
-first_number : (seen i : ℕ) (rest : List ℕ) (m : ℕ) → seen_after seen (i ∷ rest) ≡ Some m
+pub first_number : (seen i : ℕ) (rest : List ℕ) (m : ℕ) → seen_after seen (i ∷ rest) ≡ Some m
     → ((i < seen) × (seen_after seen rest ≡ Some m))
     ⊎ ((i ≡ seen) × (seen_after (seen + 1) rest ≡ Some m))
 first_number seen i rest m e = search rules
 
-seen_grows : (xs : List ℕ) (seen m : ℕ) → seen_after seen xs ≡ Some m → seen ≤ m
+pub seen_grows : (xs : List ℕ) (seen m : ℕ) → seen_after seen xs ≡ Some m → seen ≤ m
 seen_grows [] seen m e = let same : seen ≡ m = cc in omega arith
 seen_grows (i ∷ rest) seen m e = ⊎_elim (λ old. seen_grows rest seen m old.1)
     (λ new. let more = seen_grows rest (seen + 1) m new.1 in omega (arith, more))
@@ -223,7 +222,7 @@ module _ (names : List (List ℕ)) (list : IsNameList names) where
   bytes_of : (i : ℕ) → name_text names i ≡ get_or names i []
   bytes_of i = unwrap_or-slice_get names i []
 
-  name_at : (i : ℕ) → i < length names → IsName (name_text names i)
+  pub name_at : (i : ℕ) → i < length names → IsName (name_text names i)
   name_at i below = subst IsName (sym (bytes_of i)) (list.each i [] below)
 
   -- a name is no earlier one
@@ -248,7 +247,7 @@ module _ (names : List (List ℕ)) (list : IsNameList names) where
       ap (λ n. cond (nat_lt n (length (take k names))) (Some n) None) place
       ∙ ap (λ n. cond (nat_lt i n) (Some i) None) size
 
-  held : (i k : ℕ) → i < k → k ≤ length names → place_of (take k names) (name_text names i) ≡ Some i
+  pub held : (i k : ℕ) → i < k → k ≤ length names → place_of (take k names) (name_text names i) ≡ Some i
   held i k before fits =
       let inside : nat_lt i k ≡ true = grind (arith, nat_tests) in
       placed i k (omega (arith, before)) (omega (arith, before, fits)) fits
@@ -361,8 +360,8 @@ module _ (scale : ℕ) (writes : WritesNumbers scale) (names : Vocabulary)
 
     pub all_read : (tokens : List Token) (k m : ℕ) (before : Before) (at : ℕ)
         → StandFrom scale names before tokens → k ≤ length names.names → m ≤ length names.events
-        → seen_after k (numbers_in Proposition (words_for tokens)) ≡ Some (length names.names)
-        → seen_after m (numbers_in EventKind (words_for tokens)) ≡ Some (length names.events)
+        → seen_after k (numbers_in Proposition tokens) ≡ Some (length names.names)
+        → seen_after m (numbers_in EventKind tokens) ≡ Some (length names.events)
         → AreRead scale names (first_known k m before) tokens
         (raw_tokens_from 0 at (text_of scale names tokens))
     all_read [] k m before at stand within fits e f =
@@ -378,7 +377,7 @@ module _ (scale : ℕ) (writes : WritesNumbers scale) (names : Vocabulary)
           good = refl;
         }
     all_read (Name i ∷ rest) k m before at stand within fits e f =
-        let more = next_of names.names list k i (numbers_in Proposition (words_for rest)) within e in
+        let more = next_of names.names list k i (numbers_in Proposition rest) within e in
         let bytes = name_text names.names i in
         let is = name_at names.names list i (omega (arith, more.before, more.fits)) in
         let read = takes scale writes names before (Name i) rest at stand.0 is in
@@ -394,7 +393,7 @@ module _ (scale : ℕ) (writes : WritesNumbers scale) (names : Vocabulary)
         (word_read known (first_known more.next m Other) (Name i) (name bytes) rest read.0 _ word
         (all_read rest more.next m Other read.1 stand.1 more.fits fits more.left f))
     all_read (EventName i ∷ rest) k m before at stand within fits e f =
-        let more = next_of names.events events m i (numbers_in EventKind (words_for rest)) fits f in
+        let more = next_of names.events events m i (numbers_in EventKind rest) fits f in
         let bytes = name_text names.events i in
         let is = name_at names.events events i (omega (arith, more.before, more.fits)) in
         let read = takes scale writes names before (EventName i) rest at stand.0 is in

@@ -1,6 +1,6 @@
 -- A number that is written is taken whole as one number, before what can stand behind it.
 use Rattle.std.proofs.Common.{◌≡◌, ℕ, zero, suc, ◌+◌, ◌/◌, ◌<◌, ◌≤◌, ◌^◌, Bool, true, false, cond, Some, List, [], ◌∷◌, ◌++◌, length, refl, sym, ap, ◌∙◌, append_assoc, arith, rules}
-use Rattle.std.specs.Prelude.{decimal}
+use Rattle.std.specs.Prelude.{decimal, ◌||◌}
 use Rattle.std.specs.Char.{is_ascii_digit}
 use Rattle.std.specs.List.{prefix_len, AllPass, list_all}
 use Rattle.std.specs.Str.Parse.{AllDigits}
@@ -14,7 +14,7 @@ use Rattle.std.proofs.lemmas.Str.Parse.{digit_from_value}
 use Rattle.tre_decimal.specs.Decimal.{units_of, last_digits, number_text}
 use Rattle.tre_state.specs.Name.{continues_name}
 use Rattle.tre_parse.specs.Lexeme.{decimals_len, number_len}
-use Rattle.tre_parse.specs.Tokens.{units_within}
+use Rattle.tre_parse.specs.Words.{is_number, units_within}
 use Rattle.tre_show.proofs.TreeTokens.{IsCut}
 
 -- What the laws of decimals say at a scale: a number that is written is read back, its last digits
@@ -101,3 +101,12 @@ written_len (suc scale) units rest writes small cut =
 pub units_read : (scale n : ℕ) → WritesNumbers scale → n ≤ 2 ^ 40
     → units_within scale (number_text scale n) ≡ n
 units_read scale n writes small = search rules
+
+-- It begins with a digit.
+pub number_begins : (scale n : ℕ) → WritesNumbers scale → n ≤ 2 ^ 40
+    → is_number (number_text scale n) ≡ true
+number_begins scale n writes low = by (number_text scale n) (writes.read_back n (omega (arith, low)))
+  where
+    by : (text : List ℕ) → units_of scale text ≡ Some n → is_number text ≡ true
+    by [] e = absurd (cc)
+    by (byte ∷ bytes) e = ap (λ is. is || false) (writes.begins byte n bytes e)

@@ -2,7 +2,7 @@
 use Rattle.std.proofs.Common.{◌≡◌, ◌≢◌, ℕ, ◌+◌, nat_le, nat_lt, Bool, true, false, MatchBool, is_some, List, [], ◌∷◌, length, if◌then◌else◌, subst, inl, inr}
 use Rattle.std.specs.Char.{is_newline}
 use Rattle.std.specs.List.{slice_split}
-use Rattle.tre_parse.specs.Outcome.{read_as, HasCause, refused, IsOutcome as ParsesTo}
+use Rattle.tre_parse.specs.Outcome.{HasCause, refused, IsOutcome as ParsesTo}
 use Rattle.tre_parse.specs.declared.fault.ParseFault.{ParseFault}
 use Rattle.tre_parse.specs.declared.fault.ParseFault.TheVariants.{Memory as ParseMemory}
 use Rattle.tre_state.specs.Names.{place_of}
@@ -21,8 +21,7 @@ use Rattle.tre_watch.proofs.Lines.{let_fault_told}
 pub text_told : (scale : ℕ) (text : List ℕ) (fault : ParseFault)
     → ParsesTo scale text (refused fault) → fault ≢ ParseMemory
 text_told scale text fault told =
-    λ memory. subst (λ one. HasCause (read_as scale text told.placed told.bad) one) memory
-    told.first.0
+    λ memory. subst (λ one. HasCause told.0 one) memory told.1.0
 
 texts_told : (scale : ℕ) (texts : List (List ℕ)) (fault : ParseFault)
     → HasFirstFault scale texts fault → fault ≢ ParseMemory

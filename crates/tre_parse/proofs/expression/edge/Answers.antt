@@ -7,7 +7,6 @@ use Rattle.tre_parse.specs.Joins.{edge_of, edge_sign}
 use Rattle.tre_parse.specs.Reader.{got, give, call, expect, state_by, of_state, unsigned, run, read, read_state, read_pattern}
 use Rattle.tre_parse.proofs.Equations.{passed, unpassed, edge_some, edge_read, opened_edge}
 use Rattle.tre_parse.proofs.Steps.{goes_past, goes_first, goes_turned, stops_here, stops_first, stops_at}
-use Rattle.tre_parse.specs.Grammar.{state}
 use Rattle.tre_parse.proofs.Unkept.{up_to_past, up_to_end, up_to_state, edge_no_percent}
 use Rattle.tre_parse.proofs.expression.edge.Goals as goal
 
@@ -72,6 +71,6 @@ returns-clause-unkept c =
     c.edge.result.unkept c.in_ok-expect.ensures (λ q. cc)
     (up_to_end RightParen c.expect.new.self c.state.new.tokens c.expect-2.new.self None
     c.edge.result.unkept
-    (up_to_state state (state_by Or) c.in_ok-inside.inside c.expect.new.self c.state.new.tokens
-    (λ xs s h. h) c.in_ok-inside.ensures.reads) c.in_ok-expect-2.ensures (λ q. cc)
+    (up_to_state (state_by Or) c.in_ok-inside.inside c.expect.new.self c.state.new.tokens
+    c.in_ok-inside.ensures.reads) c.in_ok-expect-2.ensures (λ q. cc)
     c.edge.ensures.unkept))

@@ -5,7 +5,6 @@ use Rattle.tre_parse.specs.Joins.{edged_literal}
 use Rattle.tre_parse.specs.Reader.{got, give, accept, state_operand, unsigned, run, read, read_state, read_pattern}
 use Rattle.tre_parse.proofs.Equations.{literal_read, literal_ends}
 use Rattle.tre_parse.proofs.Steps.{goes_first, goes_turned, stops_first}
-use Rattle.tre_parse.specs.Grammar.{unary}
 use Rattle.tre_parse.proofs.Unkept.{up_to_accept, up_to_accepted, up_to_state}
 use Rattle.tre_parse.proofs.expression.literal.Goals as goal
 
@@ -39,6 +38,6 @@ returns-clause-unkept c =
     c.accept-ends.new.self c.in_ok-whole.whole.unkept c.accept-begins.ensures (λ q. cc)
     (up_to_accepted Ends c.accept-ends.result c.accept-begins.new.self c.operand.new.tokens
     c.accept-ends.new.self None c.in_ok-whole.whole.unkept
-    (up_to_state (unary false) (state_operand true) c.in_ok-formula.formula c.accept-begins.new.self
-    c.operand.new.tokens (λ xs s h. h) c.in_ok-formula.ensures.reads) c.accept-ends.ensures
+    (up_to_state (state_operand true) c.in_ok-formula.formula c.accept-begins.new.self
+    c.operand.new.tokens c.in_ok-formula.ensures.reads) c.accept-ends.ensures
     (λ q. cc) c.in_ok-whole.ensures.unkept)

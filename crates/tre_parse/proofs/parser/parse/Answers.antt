@@ -1,7 +1,7 @@
 use Rattle.std.proofs.Common.{Err, inr, refl, arith}
 use Rattle.std.proofs.lemmas.Result.{err_from_is_err_and}
-use Rattle.tre_parse.proofs.Agreement.{scanned_outcome, answer_meant}
-use Rattle.tre_parse.proofs.Judging.{scan_numbered, scan_good, answers_text, answered, long_outcome, bad_outcome}
+use Rattle.tre_parse.proofs.Agreement.{scanned, scanned_outcome}
+use Rattle.tre_parse.proofs.Judging.{scan_numbered, scan_tokens, answered, answer_meant, long_outcome, bad_outcome}
 use Rattle.tre_parse.proofs.Spelling.{answer_spells}
 use Rattle.tre_parse.specs.declared.fault.ParseFault.TheVariants.{TooLong}
 use Rattle.tre_parse.proofs.parser.parse.Goals as goal
@@ -9,20 +9,26 @@ use Rattle.tre_parse.proofs.parser.parse.Goals as goal
 pub parse_words-requires-clause-numbered : goal.parse_words-requires-clause-numbered
 parse_words-requires-clause-numbered c = scan_numbered _ _ c.in_ok-scan.scan c.in_ok-scan.ensures.ok
 
-pub parse_words-requires-clause-bytes : goal.parse_words-requires-clause-bytes
-parse_words-requires-clause-bytes c =
-    scan_good _ _ c.in_ok-scan.scan (omega arith) c.in_ok-scan.ensures.ok
+pub parse_words-requires-clause-text : goal.parse_words-requires-clause-text
+parse_words-requires-clause-text c = record {
+  scale = c.args.scale;
+  text = c.args.text.now;
+  read = scanned c.args.scale c.args.text.now;
+  tokens = scan_tokens c.args.scale c.args.text.now c.in_ok-scan.scan (omega arith)
+      c.in_ok-scan.ensures.ok;
+}
 
 pub returns : goal.returns
 returns c =
     let scale = c.args.scale in
     let text = c.args.text.now in
     let answer = c.parse_words.result in
-    let answers = answers_text scale text c.in_ok-scan.scan answer c.in_ok-scan.ensures.ok
-    c.parse_words.ensures in
+    let answers = c.parse_words.ensures scale text (scanned scale text)
+    (scan_tokens scale text c.in_ok-scan.scan (omega arith) c.in_ok-scan.ensures.ok) in
+    let meant = answer_meant scale text answer answers in
     record {
-      spelling = answer_spells scale text answer answers;
-      outcome = answer_meant scale text answer answers;
+      spelling = answer_spells scale text answer meant;
+      outcome = meant;
       only = λ outcome h. answered scale text outcome answer answers
           (scanned_outcome scale text outcome h);
       too_long = λ long. absurd (omega (arith, long));

@@ -32,9 +32,9 @@ returns-in-Ok-judge-clause-unkept c =
     search (rules, text_tokens_in, tokens_in, c.expression.new.tokens, c.in-Ok.whole.unkept)
 
 pub returns-in-Err-clause-fault : goal.returns-in-Err-clause-fault
-returns-in-Err-clause-fault c =
+returns-in-Err-clause-fault c = λ scale text read r.
     let P = λ (ts : List Token). Stops (read_whole ts) c.in-Err.stop c.expression.new.tokens in
-    stop_outcome (text_tokens_in c.args.scan.now) c.in-Err.stop c.fault_of.result
-    c.expression.new.tokens c.in_ok-within_limits.ensures.ok
+    stop_outcome scale text read (text_tokens_in c.args.scan.now) r c.in-Err.stop c.fault_of.result
+    c.expression.new.tokens (c.in_ok-within_limits.ensures.ok scale text read r)
     (subst P (c.new-rest.ensures ∙ ap tokens_in c.deref.ensures.value) c.in-Err.ensures.reads)
     c.fault_of.ensures
