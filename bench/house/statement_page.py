@@ -289,8 +289,7 @@ def borrowed(file, blocks, counts):
 def with_remarks(file, blocks):
     """The definitions of a file of specs/, with the remarks and headings that stand before them."""
     kept, remarks = [], {}
-    for block in file.text.split("\n\n"):
-        block = block.rstrip("\n")
+    for block in file.blocks():
         if all(line.startswith("--") for line in block.split("\n")):
             remarks = {} if block.startswith("-- ----") else remarks
             remarks["heading" if block.startswith("-- ----") else "remark"] = block
@@ -339,12 +338,13 @@ def link_to(title):
                           re.sub(r"[^\w -]", "", title.lower()).replace(" ", "-"))
 
 
-def first_read(texts, sections):
+def first_read(walk, texts, sections):
     """The words that matter first, each in its section."""
     said = []
     for title, words in FIRST_READ:
         number = [title for title, _, _, _ in SECTIONS].index(title)
-        there = {word for file in sections[number] for word in texts[file].values()}
+        there = {word for file in sections[number]
+                 for word in [*texts[file].values(), *names_in(walk.file(file), texts[file])]}
         if set(words) - there:
             sys.exit("statement.py: no definition of %s in %s" % (words, title))
         said.append("%s (%s)" % (", ".join("`%s`" % word.replace("fn ", "") for word in words),
@@ -359,7 +359,7 @@ def page(walk, texts):
                      for name in set(names_in(walk.file(file), blocks)))
     with open(os.path.join(CRATES, "montre/src/main.rt"), encoding="utf-8") as opened:
         main = opened.read().rstrip("\n")
-    parts = [HEAD.replace("@MAIN@", main).replace("@FIRST@", first_read(texts, sections))]
+    parts = [HEAD.replace("@MAIN@", main).replace("@FIRST@", first_read(walk, texts, sections))]
     for (title, what, _, laws), files in zip(SECTIONS, sections):
         parts.append("## %s\n\n%s\n" % (title, what))
         parts.append(laws_line(laws))
